@@ -1,0 +1,5 @@
+pub mod Diagnostics
+pub mod Kind
+pub mod Span
+pub mod Suggestion
+pub mod formers

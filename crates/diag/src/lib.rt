@@ -1,0 +1,18 @@
+//! Texts, lists, byte spans and diagnostics: what every other crate reports with.
+#![tactic(auto)]
+
+mod diagnostics;
+mod error;
+mod kind;
+mod list;
+mod span;
+mod suggestion;
+mod text;
+
+pub use diagnostics::{DiangosticsInner, Diagnostics};
+pub use error::DeriveError;
+pub use kind::Kind;
+pub use list::List;
+pub use span::Span;
+pub use suggestion::Suggestion;
+pub use text::Text;

@@ -1,0 +1,21 @@
+ghost use Rattle.std.specs.Prelude.{◌≤◌};
+
+/// Byte offsets into a source's UTF-8: from `start` up to, and without, `end`.
+#[derive(Clone, Copy, Debug, PartialEq, Eq)]
+pub struct Span {
+    pub start: usize,
+    pub end: usize,
+    ghost ordered: { start ≤ end },
+}
+
+impl Span {
+    ghost use Rattle.std.specs.Prelude.{◌≡◌};
+    ghost use Rattle.diag.specs.Span.{no_span};
+
+    /// The span `0..0`, of what stands nowhere in a source.
+    pub fn nowhere() -> Span
+        ensures { result ≡ no_span }
+    {
+        Span { start: 0, end: 0 }
+    }
+}
