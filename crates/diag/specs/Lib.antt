@@ -1,5 +1,6 @@
 pub mod Diagnostics
 pub mod Kind
+pub mod Refusal
 pub mod Span
 pub mod Suggestion
 pub mod formers
