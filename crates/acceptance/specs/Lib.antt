@@ -1,0 +1,5 @@
+pub mod Acceptance
+pub mod Data
+pub mod Json
+pub mod Keyword
+pub mod References
