@@ -204,4 +204,5 @@ longest_found k front rest l =
     let even : length front ≡ length other.0 = omega (arith, ap length other.1, length-append front rest, length-append other.0 r.1) in
     let parts = same_parts front other.0 rest r.1 other.1 even in
     let kinds : k ≡ r.0 = sym (kind_is k front l.piece) ∙ ap kind_at parts.0 ∙ kind_is r.0 other.0 other.2 in
-    r.2 ∙ ap (λ v. Some (v, r.1)) (sym kinds) ∙ ap (λ v. Some (k, v)) (sym parts.1)
+    let of_kind : ◌≡◌ {A = Option (PieceKind × List ℕ)} (Some (r.0, r.1)) (Some (k, rest)) = cc (kinds, parts.1) in
+    r.2 ∙ of_kind

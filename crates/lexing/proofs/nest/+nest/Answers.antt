@@ -29,10 +29,8 @@ group_at-invariant_of-span t c =
 pub group_at-returns-in-None-clause-value : goal.group_at-returns-in-None-clause-value
 group_at-returns-in-None-clause-value t c = λ k.
     let read = c.in_ok-trees.ensures.value in
-    let size : ℕ = length c.args.source.now in
-    let h : size ≤ size = omega arith in
-    let span : Span = record { start = size; end = size; ordered = h } in
-    unnested_open c.args.source.now c.args.left c.args.bracket c.args.opening c.args.pieces.now c.in_ok-trees.rest.now (trees_view c.in_ok-trees.trees) span h k read.0 read.1
+    let end_lies : c.end_of.result.end ≤ length c.args.source.now = omega (arith, c.end_of.ensures.end) in
+    unnested_open c.args.source.now c.args.left c.args.bracket c.args.opening c.args.pieces.now c.in_ok-trees.rest.now (trees_view c.in_ok-trees.trees) c.end_of.result end_lies k read.0 read.1
     (λ q mid e l. let nothing = c.in-None.ensures in cc)
 
 pub group_at-returns-else-ne-clause-value : goal.group_at-returns-else-ne-clause-value
