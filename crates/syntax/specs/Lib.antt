@@ -1,0 +1,4 @@
+pub mod Declarations
+pub mod Words
+pub mod Reading
+pub mod Grammar
