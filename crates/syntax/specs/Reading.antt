@@ -1,5 +1,5 @@
 -- Reading words from left to right, as functions.
-use Rattle.std.specs.Prelude.{◌≡◌, ℕ, zero, suc, List, [], ◌∷◌, ◌++◌, length, Option, Some, None, Result, Ok, Err, Bool, true, false, cond, unwrap_or}
+use Rattle.std.specs.Prelude.{◌≡◌, ◌≢◌, ℕ, zero, suc, List, [], ◌∷◌, ◌++◌, length, Option, Some, None, Result, Ok, Err, Bool, true, false, cond, unwrap_or}
 use Rattle.diag.specs.declared.span.Span.{Span}
 use Rattle.lexing.specs.declared.token.Token.{Token}
 use Rattle.lexing.specs.declared.token.Group.{Group}
@@ -32,6 +32,12 @@ Fails stop.Memory read = Unit {0}
 abbrev pub Gives : {X Y : Type 0} → (X → Y) → Result X Stop → Option Y → Type 0
 Gives view (Ok x) read = read ≡ Some (view x)
 Gives view (Err e) read = Fails e read
+
+-- two reasons of which both or neither is want of memory
+abbrev pub stops_alike : Stop → Stop → Type 0
+stops_alike stop.Memory s = s ≡ stop.Memory
+stops_alike (stop.Unexpected at) s = s ≢ stop.Memory
+stops_alike stop.Ended s = s ≢ stop.Memory
 
 -- a name's token, as an identifier
 abbrev pub token_ident : Token → Ident
