@@ -1,2 +1,4 @@
 pub mod Lengths
 pub mod Turns
+pub mod Many
+pub mod Read
