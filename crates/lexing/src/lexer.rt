@@ -1,0 +1,48 @@
+//! From a source to its token trees.
+
+ghost use Rattle.std.specs.Prelude.{◌≡◌, ◌⊎◌, IfOk, IfErr};
+ghost use Rattle.lexing.specs.Trees.{trees_view};
+ghost use Rattle.lexing.specs.Cut.{IsCut, IsSyntaxError, IsUnread};
+
+use crate::nest::{self, MAX_DEPTH};
+use crate::piece::LexError;
+use crate::scan;
+use crate::token::TokenTree;
+use diag::{DeriveError, Diagnostics, Kind, List};
+use std::alloc::Global;
+
+/// The token trees of the source, whose pieces are cut and nested with white space and comments dropped.
+///
+/// A refusal is of kind `Syntax`, with the span where reading stopped: a character that begins no piece, a closing
+/// bracket that matches nothing or the wrong bracket, the first bracket past `MAX_DEPTH` levels, or the end of the
+/// source where a bracket is never closed.
+pub fn lex(alloc: Global, source: &str) -> Result<List<TokenTree>, DeriveError>
+    ensures found { IfOk result (λ trees. IsCut source.now (trees_view trees)) }
+    ensures refused { IfErr result (λ e. (e ≡ DeriveError.Memory) ⊎ IsSyntaxError source.now e) }
+{
+    match token_trees(alloc, source) {
+        Ok(trees) => Ok(trees),
+        Err(LexError::Memory) => Err(DeriveError::Memory),
+        Err(LexError::Stopped(span)) => {
+            let diagnostics = Diagnostics::with_span(
+                alloc,
+                Kind::Syntax,
+                span,
+                "unexpected text in a declaration",
+            )?;
+            Err(DeriveError::Refused(diagnostics))
+        }
+    }
+}
+
+fn token_trees(alloc: Global, source: &str) -> Result<List<TokenTree>, LexError>
+    ensures found { IfOk result (λ trees. IsCut source.now (trees_view trees)) }
+    ensures refused { IfErr result (λ e. IsUnread source.now e) }
+{
+    let pieces = scan::cut(alloc, source)?;
+    let (trees, rest) = nest::trees_at(alloc, source, pieces.as_slice(), MAX_DEPTH)?;
+    match nest::split_first_piece(rest) {
+        None => Ok(trees),
+        Some((closing, _)) => Err(LexError::Stopped(closing.span)),
+    }
+}

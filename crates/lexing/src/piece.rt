@@ -1,0 +1,41 @@
+use crate::token::{Bracket, TokenKind};
+use diag::Span;
+use std::alloc::AllocError;
+
+/// What a piece of a source is.
+#[derive(Clone, Copy, Debug, PartialEq, Eq)]
+pub enum PieceKind {
+    /// A run of white space.
+    Space,
+    /// A comment that is no doc comment.
+    Comment,
+    Token(TokenKind),
+    Open(Bracket),
+    Close(Bracket),
+}
+
+/// A part of a source that is white space, a comment, a token or a bracket.
+#[derive(Clone, Copy, Debug, PartialEq, Eq)]
+pub struct Piece {
+    pub kind: PieceKind,
+    pub span: Span,
+}
+
+/// Why a source has no token trees.
+#[derive(Drop)]
+pub enum LexError {
+    Memory,
+    /// Reading stopped at the span.
+    Stopped(Span),
+}
+
+impl From<AllocError> for LexError {
+    ghost use Rattle.std.specs.Prelude.{◌≡◌};
+    ghost use Rattle.lexing.specs.declared.piece.LexError.TheVariants.{Memory};
+
+    ghost from_gives = { λ _ error. error ≡ Memory };
+
+    fn from(_error: AllocError) -> LexError {
+        LexError::Memory
+    }
+}
