@@ -44,7 +44,3 @@ IsShallowField f = nesting f.ty ≤ 64
 
 abbrev pub IsShallow : DeclaredStruct → Type 0
 IsShallow d = AllByRecursion IsShallowField d.fields
-
--- the trees are a source whose types nest at most 64 levels
-abbrev pub ReadsTrees : Trees → List DeclaredStruct → Type 0
-ReadsTrees ts ds = IsSource (words_of ts) ds × AllByRecursion IsShallow ds

@@ -2,3 +2,4 @@ pub mod Declarations
 pub mod Words
 pub mod Reading
 pub mod Grammar
+pub mod Source

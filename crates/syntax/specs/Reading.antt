@@ -1,5 +1,9 @@
 -- Reading words from left to right, as functions.
-use Rattle.std.specs.Prelude.{◌≡◌, ◌≢◌, ℕ, zero, suc, List, [], ◌∷◌, ◌++◌, length, Option, Some, None, Result, Ok, Err, Bool, true, false, cond, unwrap_or}
+use Rattle.std.specs.Prelude.{◌≡◌, ◌≢◌, ◌≤◌, ◌⊎◌, codes, ℕ, zero, suc, List, [], ◌∷◌, ◌++◌, length, Option, Some, None, Result, Ok, Err, Bool, true, false, cond, unwrap_or}
+use Rattle.diag.specs.Refusal.{IsRefusal}
+use Rattle.diag.specs.declared.error.DeriveError.{DeriveError}
+use Rattle.diag.specs.declared.error.DeriveError.TheVariants as errors
+use Rattle.diag.specs.declared.kind.Kind.TheVariants.{Syntax}
 use Rattle.diag.specs.declared.span.Span.{Span}
 use Rattle.lexing.specs.declared.token.Token.{Token}
 use Rattle.lexing.specs.declared.token.Group.{Group}
@@ -38,6 +42,14 @@ abbrev pub stops_alike : Stop → Stop → Type 0
 stops_alike stop.Memory s = s ≡ stop.Memory
 stops_alike (stop.Unexpected at) s = s ≢ stop.Memory
 stops_alike stop.Ended s = s ≢ stop.Memory
+
+-- an error at a span of a text with so many bytes
+abbrev pub IsPlaced : ℕ → DeriveError → Type 0
+IsPlaced bytes e = (span : Span) × IsRefusal Syntax span (codes "unexpected text in a declaration") e × (span.end ≤ bytes)
+
+-- the error that tells why reading stopped, in a text of so many bytes
+abbrev pub IsRefusalOf : Stop → ℕ → DeriveError → Type 0
+IsRefusalOf s bytes e = (e ≡ errors.Memory) ⊎ ((s ≢ stop.Memory) × IsPlaced bytes e)
 
 -- a name's token, as an identifier
 abbrev pub token_ident : Token → Ident

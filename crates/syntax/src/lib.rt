@@ -1,11 +1,15 @@
-//! Syntax: from a source's token trees to its struct declarations.
+//! Syntax: from a source's text to the structs that it declares.
 #![tactic(auto)]
 
 mod items;
+mod laws;
+mod parse;
 mod reserved;
 mod types;
 mod words;
 mod written;
 
-pub use lexing::{Bracket, Group, Token, TokenKind, TokenTree};
+pub use laws::one_reading;
+pub use lexing::{Bracket, Group, MAX_DEPTH, Token, TokenKind, TokenTree, lex, one_cut};
+pub use parse::parse_declarations;
 pub use written::{Declaration, Declarations, Field, Ident, WrittenType};
