@@ -22,8 +22,9 @@ pub found : (source : List ℕ) (ts : Trees) (ds : List DeclaredStruct) → IsCu
 found source ts ds cut e = let h = source_sound (words_of ts) ds e in (ts, cut, h.0, h.1)
 
 -- where the source has no trees, it has no reading
-pub uncut : (source : List ℕ) (e : DeriveError) → IsSyntaxError source e → IsUnreadable source e
-uncut source e h = (h.0, h.1, h.2.0, λ ds r. h.2.1 r.0 r.1)
+pub passed_on : (source : List ℕ) (e : DeriveError) → (e ≡ errors.Memory) ⊎ IsSyntaxError source e → (e ≡ errors.Memory) ⊎ IsUnreadable source e
+passed_on source e (inl h) = inl h
+passed_on source e (inr h) = inr (h.0, h.1, h.2.0, λ ds r. h.2.1 r.0 r.1)
 
 no_reading : OneCut → (source : List ℕ) (ts : Trees) → IsCut source ts → many_of declaration_at (words_of ts) ≡ None → (ds : List DeclaredStruct) → Reads source ds → ⊥
 no_reading one source ts cut e ds r =

@@ -1,6 +1,6 @@
 //! From a source to its structs.
 
-ghost use Rattle.std.specs.Prelude.{◌≡◌, ◌≤◌, ◌⊎◌, IfOk, IfErr};
+ghost use Rattle.std.specs.Prelude.{◌≡◌, ◌≢◌, ◌≤◌, ◌⊎◌, IfOk, IfErr, MatchOption};
 ghost use Rattle.syntax.specs.Declarations.{declarations_view};
 ghost use Rattle.syntax.specs.Reading.{IsRefusalOf};
 ghost use Rattle.syntax.specs.Source.{Reads, IsUnreadable};
@@ -22,16 +22,33 @@ fn within(span: Span, bytes: usize) -> Span
     }
 }
 
+/// Where reading stopped, in a text of that many bytes; nothing for want of memory.
+fn place(stop: Stop, bytes: usize) -> Option<Span>
+    ensures { MatchOption result (stop ≡ Stop.Memory) (λ span. (stop ≢ Stop.Memory) × (span.end ≤ bytes)) }
+{
+    match stop {
+        Stop::Memory => None,
+        Stop::Unexpected(span) => Some(within(span, bytes)),
+        Stop::Ended => Some(Span {
+            start: bytes,
+            end: bytes,
+        }),
+    }
+}
+
 /// The error for reading that stopped in a text of that many bytes.
 fn refusal(alloc: Global, stop: Stop, bytes: usize) -> DeriveError
     ensures { IsRefusalOf stop bytes result }
 {
-    let span = match stop {
-        Stop::Memory => return DeriveError::Memory,
-        Stop::Unexpected(span) => within(span, bytes),
-        Stop::Ended => within(Span { start: bytes, end: bytes }, bytes),
+    let Some(span) = place(stop, bytes) else {
+        return DeriveError::Memory;
     };
-    match Diagnostics::with_span(alloc, Kind::Syntax, span, "unexpected text in a declaration") {
+    match Diagnostics::with_span(
+        alloc,
+        Kind::Syntax,
+        span,
+        "unexpected text in a declaration",
+    ) {
         Ok(diagnostics) => DeriveError::Refused(diagnostics),
         Err(_) => DeriveError::Memory,
     }
