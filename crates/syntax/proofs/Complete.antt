@@ -37,7 +37,7 @@ field_begins (public_field r) = omega arith
 
 -- one more item, where the others are read
 more_read : {A : Type 0} (item : List Word → Read A) (ws rest : List Word) (x : A) (xs : List A) → many_of item ws ≡ (item ws >>= λ p. many_of item p.1 >>= λ ys. Some (p.0 ∷ ys)) → item ws ≡ Some (x, rest)
-  → many_of item rest ≡ Some xs → many_of item ws ≡ Some (x ∷ xs)
+    → many_of item rest ≡ Some xs → many_of item ws ≡ Some (x ∷ xs)
 more_read item ws rest x xs step e f = step ∙ ap (λ q. q >>= λ p. many_of item p.1 >>= λ ys. Some (p.0 ∷ ys)) e ∙ ap (λ q. q >>= λ ys. Some (x ∷ ys)) f
 
 fields_complete : {ws rest : List Word} {fs : List FieldItem} → IsFieldList ws fs rest → rest ≡ [] → AllByRecursion IsShallowField fs → many_of field_turn ws ≡ Some fs

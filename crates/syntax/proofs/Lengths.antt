@@ -40,13 +40,13 @@ not_longer n m e = grind (arith, nat_tests)
 
 -- words that are all shorter, and words that are all longer, can be left out
 at_length : (n : ℕ) (text : List ℕ) (front middle back : List (List ℕ)) → length text ≡ n → lengths_pass (shorter n) front ≡ true → lengths_pass (longer n) back ≡ true
-  → is_among text middle ≡ is_among text (front ++ (middle ++ back))
+    → is_among text middle ≡ is_among text (front ++ (middle ++ back))
 at_length n text front middle back e f b =
     let same = λ (w : List ℕ). bytes_eq text w in
     let before : is_among text (front ++ (middle ++ back)) ≡ is_among text (middle ++ back) =
-      list_any-append same front (middle ++ back) ∙ ap (λ v. v || is_among text (middle ++ back)) (none_passes (shorter n) text front f (not_shorter n (length text) e)) in
+    list_any-append same front (middle ++ back) ∙ ap (λ v. v || is_among text (middle ++ back)) (none_passes (shorter n) text front f (not_shorter n (length text) e)) in
     let after : is_among text (middle ++ back) ≡ is_among text middle =
-      list_any-append same middle back ∙ ap (λ v. is_among text middle || v) (none_passes (longer n) text back b (not_longer n (length text) e)) ∙ or-false (is_among text middle) in
+    list_any-append same middle back ∙ ap (λ v. is_among text middle || v) (none_passes (longer n) text back b (not_longer n (length text) e)) ∙ or-false (is_among text middle) in
     sym (before ∙ after)
 
 within : (n : ℕ) → (0 < n → n < 9 → ⊥) → (ltb 0 n && ltb n 9) ≡ false

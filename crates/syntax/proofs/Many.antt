@@ -25,7 +25,7 @@ Shortens {A} item = (ws : List Word) (x : A) (rest : List Word) → item ws ≡ 
 
 module _ {A : Type 0} (item : List Word → Read A) (shortens : Shortens item) where
   same_turn : (again other : List Word → Option (List A)) (ws : List Word) (r : Read A) → item ws ≡ r → ((mid : List Word) → length mid < length ws → again mid ≡ other mid)
-    → (r >>= λ p. again p.1 >>= λ xs. Some (p.0 ∷ xs)) ≡ (r >>= λ p. other p.1 >>= λ xs. Some (p.0 ∷ xs))
+      → (r >>= λ p. again p.1 >>= λ xs. Some (p.0 ∷ xs)) ≡ (r >>= λ p. other p.1 >>= λ xs. Some (p.0 ∷ xs))
   same_turn again other ws None e h = refl
   same_turn again other ws (Some p) e h = ap (λ v. v >>= λ xs. Some (p.0 ∷ xs)) (h p.1 (shortens ws p.0 p.1 e))
 

@@ -79,7 +79,7 @@ abbrev pub TypeRead : ℕ → List Word → Written → List Word → Type 0
 TypeRead n ws t rest = IsType ws t rest × (nesting t ≤ n) × (length rest < length ws)
 
 name_read : (inner : List Word → Read Written) (n : ℕ) → ((ws : List Word) (t : Written) (rest : List Word) → inner ws ≡ Some (t, rest) → TypeRead n ws t rest)
-  → (x : Ident) (us : List Word) (o : Read Span) (t : Written) (rest : List Word) → sign_at Less us ≡ o → after_name inner x us o ≡ Some (t, rest) → TypeRead (suc n) (name x ∷ us) t rest
+    → (x : Ident) (us : List Word) (o : Read Span) (t : Written) (rest : List Word) → sign_at Less us ≡ o → after_name inner x us o ≡ Some (t, rest) → TypeRead (suc n) (name x ∷ us) t rest
 name_read inner n sound x us None t rest f e = along (λ v w. TypeRead (suc n) (name x ∷ us) v w) (named x) t us rest e (alone, omega arith, omega arith)
 name_read inner n sound x us (Some p) t rest f e =
     let allowed = granted (is_container x.text) e in
@@ -90,11 +90,10 @@ name_read inner n sound x us (Some p) t rest f e =
     let closes = sign-is Greater argument.0.1 close.0.0 close.0.1 close.1 in
     let fewer = ap length opens in
     let less = ap length closes in
-    along (λ v w. TypeRead (suc n) (name x ∷ us) v w) (applied x argument.0.0 (cover x.span close.0.0)) t close.0.1 rest close.2
-    (
+    along (λ v w. TypeRead (suc n) (name x ∷ us) v w) (applied x argument.0.0 (cover x.span close.0.0)) t close.0.1 rest close.2 (
       subst (λ v. IsType (name x ∷ v) (applied x argument.0.0 (cover x.span close.0.0)) close.0.1) (sym opens) (with_argument allowed.0 (subst (λ v. IsType p.1 argument.0.0 v) closes inside.0)),
       omega arith,
-      omega arith
+      omega arith,
     )
 
 pub type_sound : (n : ℕ) (ws : List Word) (t : Written) (rest : List Word) → type_at n ws ≡ Some (t, rest) → TypeRead n ws t rest
@@ -123,21 +122,20 @@ abbrev field_from : Option Span → Ident → Written → FieldItem
 field_from start x t = record { ident = x; ty = t; span = cover (unwrap_or start x.span) (span_of t) }
 
 field_parts : (start : Option Span) (us : List Word) (f : FieldItem) (rest : List Word) → field_tail (start, us) ≡ Some (f, rest)
-  → (x : Ident) × (colon_at : Span) × (vs : List Word) × (t : Written) × (us ≡ name x ∷ sign Colon colon_at ∷ vs) × TypeRead most_levels vs t rest × (field_from start x t ≡ f)
+    → (x : Ident) × (colon_at : Span) × (vs : List Word) × (t : Written) × (us ≡ name x ∷ sign Colon colon_at ∷ vs) × TypeRead most_levels vs t rest × (field_from start x t ≡ f)
 field_parts start us f rest e =
     let x = bind_some (name_at us) e in
     let colon = bind_some (sign_at Colon x.0.1) x.2 in
     let typed = bind_some (type_at most_levels colon.0.1) colon.2 in
     let P : FieldItem → List Word → Type 0 = λ g r. (x : Ident) × (colon_at : Span) × (vs : List Word) × (t : Written) × (us ≡ name x ∷ sign Colon colon_at ∷ vs) × TypeRead most_levels vs t r × (field_from start x t ≡ g) in
-    along P (field_from start x.0.0 typed.0.0) f typed.0.1 rest typed.2
-    (
+    along P (field_from start x.0.0 typed.0.0) f typed.0.1 rest typed.2 (
       x.0.0,
       colon.0.0,
       colon.0.1,
       typed.0.0,
       name-is us x.0.0 x.0.1 x.1 ∙ ap (λ v. name x.0.0 ∷ v) (sign-is Colon x.0.1 colon.0.0 colon.0.1 colon.1),
       type_sound most_levels colon.0.1 typed.0.0 typed.0.1 typed.1,
-      refl
+      refl,
     )
 
 abbrev pub FieldRead : List Word → FieldItem → List Word → Type 0
@@ -147,13 +145,13 @@ pub field_sound : (ws : List Word) (f : FieldItem) (rest : List Word) → field_
 unfolding field_at
 field_sound ws f rest e =
     elim (visible ws) [
-      inl none ↦ let h = field_parts None ws f rest (ap field_tail (sym none) ∙ e) in
-                 let fewer = ap length h.4 in
-                 subst (λ v. FieldRead ws v rest) h.6 (subst (λ v. IsField v (field_from None h.0 h.3) rest) (sym h.4) (private_field h.5.0), h.5.1, omega (arith, h.5.2))
-    | inr public ↦ let h = field_parts (Some public.0) public.1 f rest (ap (λ v. field_tail (visibility v)) (sym public.2) ∙ e) in
-                   let begins : ws ≡ pub_word public.0 ∷ name h.0 ∷ sign Colon h.1 ∷ h.2 = public.2 ∙ ap (λ v. pub_word public.0 ∷ v) h.4 in
-                   let fewer = ap length begins in
-                   subst (λ v. FieldRead ws v rest) h.6 (subst (λ v. IsField v (field_from (Some public.0) h.0 h.3) rest) (sym begins) (public_field h.5.0), h.5.1, omega (arith, h.5.2))
+      | inl none ↦ let h = field_parts None ws f rest (ap field_tail (sym none) ∙ e) in
+          let fewer = ap length h.4 in
+          subst (λ v. FieldRead ws v rest) h.6 (subst (λ v. IsField v (field_from None h.0 h.3) rest) (sym h.4) (private_field h.5.0), h.5.1, omega (arith, h.5.2))
+      | inr public ↦ let h = field_parts (Some public.0) public.1 f rest (ap (λ v. field_tail (visibility v)) (sym public.2) ∙ e) in
+          let begins : ws ≡ pub_word public.0 ∷ name h.0 ∷ sign Colon h.1 ∷ h.2 = public.2 ∙ ap (λ v. pub_word public.0 ∷ v) h.4 in
+          let fewer = ap length begins in
+          subst (λ v. FieldRead ws v rest) h.6 (subst (λ v. IsField v (field_from (Some public.0) h.0 h.3) rest) (sym begins) (public_field h.5.0), h.5.1, omega (arith, h.5.2))
     ]
 
 comma_read : (ws rest : List Word) → after_comma ws ≡ Some rest → ((ws ≡ []) × (rest ≡ [])) ⊎ ((at : Span) × (ws ≡ sign Comma at ∷ rest))
@@ -174,8 +172,8 @@ pub turn_shortens : Shortens field_turn
 turn_shortens ws f rest e =
     let h = turn_sound ws f rest e in
     elim (comma_read h.0 rest h.2) [
-      inl k ↦ let fewer = ap length k.1 in omega (arith, h.1.2)
-    | inr k ↦ let fewer = ap length k.1 in omega (arith, h.1.2)
+      | inl k ↦ let fewer = ap length k.1 in omega (arith, h.1.2)
+      | inr k ↦ let fewer = ap length k.1 in omega (arith, h.1.2)
     ]
 
 -- ---- a list of fields
@@ -198,9 +196,9 @@ many_fields (suc n) (w ∷ ws) fs e =
     let h = turn_sound (w ∷ ws) first.0.0 first.0.1 first.1 in
     subst (λ v. FieldsRead (w ∷ ws) v) same
     (elim (comma_read h.0 first.0.1 h.2) [
-      inl k ↦ let nothing_left = none_left field_turn n others.0 (ap (many_at field_turn n) (sym k.1) ∙ others.1) in
-              subst (λ v. FieldsRead (w ∷ ws) (first.0.0 ∷ v)) (sym nothing_left) (last_field (subst (λ v. IsField (w ∷ ws) first.0.0 v) k.0 h.1.0), (h.1.1, tt))
-    | inr k ↦ let rest = many_fields n first.0.1 others.0 others.1 in (more_fields (subst (λ v. IsField (w ∷ ws) first.0.0 v) k.1 h.1.0) rest.0, (h.1.1, rest.1))
+      | inl k ↦ let nothing_left = none_left field_turn n others.0 (ap (many_at field_turn n) (sym k.1) ∙ others.1) in
+          subst (λ v. FieldsRead (w ∷ ws) (first.0.0 ∷ v)) (sym nothing_left) (last_field (subst (λ v. IsField (w ∷ ws) first.0.0 v) k.0 h.1.0), (h.1.1, tt))
+      | inr k ↦ let rest = many_fields n first.0.1 others.0 others.1 in (more_fields (subst (λ v. IsField (w ∷ ws) first.0.0 v) k.1 h.1.0) rest.0, (h.1.1, rest.1))
     ])
 
 pub fields_sound : (ws : List Word) (fs : List FieldItem) → many_of field_turn ws ≡ Some fs → FieldsRead ws fs
@@ -224,16 +222,15 @@ struct_parts start us d rest e =
     let x = bind_some (name_at word.0.1) word.2 in
     let g = bind_some (braces_at x.0.1) x.2 in
     let fs = bind_some (many_of field_turn (words_of g.0.0.0)) g.2 in
-    along (λ v w. StructParts start us v w) (struct_from start word.0.0 x.0.0 g.0.0.1 fs.0) d g.0.1 rest fs.2
-    (
+    along (λ v w. StructParts start us v w) (struct_from start word.0.0 x.0.0 g.0.0.1 fs.0) d g.0.1 rest fs.2 (
       word.0.0,
       x.0.0,
       g.0.0,
       fs.0,
       struct-is us word.0.0 word.0.1 word.1
-      ∙ ap (λ v. struct_word word.0.0 ∷ v) (name-is word.0.1 x.0.0 x.0.1 x.1 ∙ ap (λ v. name x.0.0 ∷ v) (braces-is x.0.1 g.0.0 g.0.1 g.1)),
+          ∙ ap (λ v. struct_word word.0.0 ∷ v) (name-is word.0.1 x.0.0 x.0.1 x.1 ∙ ap (λ v. name x.0.0 ∷ v) (braces-is x.0.1 g.0.0 g.0.1 g.1)),
       fields_sound (words_of g.0.0.0) fs.0 fs.1,
-      refl
+      refl,
     )
 
 abbrev pub StructRead : List Word → DeclaredStruct → List Word → Type 0
@@ -243,13 +240,13 @@ pub struct_sound : (ws : List Word) (d : DeclaredStruct) (rest : List Word) → 
 unfolding declaration_at
 struct_sound ws d rest e =
     elim (visible ws) [
-      inl none ↦ let h = struct_parts None ws d rest (ap struct_tail (sym none) ∙ e) in
-                 let fewer = ap length h.4 in
-                 subst (λ v. StructRead ws v rest) h.6 (subst (λ v. IsStruct v (struct_from None h.0 h.1 h.2.1 h.3) rest) (sym h.4) (private_struct h.5.0), h.5.1, omega arith)
-    | inr public ↦ let h = struct_parts (Some public.0) public.1 d rest (ap (λ v. struct_tail (visibility v)) (sym public.2) ∙ e) in
-                   let begins : ws ≡ pub_word public.0 ∷ struct_word h.0 ∷ name h.1 ∷ braces h.2.0 h.2.1 ∷ rest = public.2 ∙ ap (λ v. pub_word public.0 ∷ v) h.4 in
-                   let fewer = ap length begins in
-                   subst (λ v. StructRead ws v rest) h.6 (subst (λ v. IsStruct v (struct_from (Some public.0) h.0 h.1 h.2.1 h.3) rest) (sym begins) (public_struct h.5.0), h.5.1, omega arith)
+      | inl none ↦ let h = struct_parts None ws d rest (ap struct_tail (sym none) ∙ e) in
+          let fewer = ap length h.4 in
+          subst (λ v. StructRead ws v rest) h.6 (subst (λ v. IsStruct v (struct_from None h.0 h.1 h.2.1 h.3) rest) (sym h.4) (private_struct h.5.0), h.5.1, omega arith)
+      | inr public ↦ let h = struct_parts (Some public.0) public.1 d rest (ap (λ v. struct_tail (visibility v)) (sym public.2) ∙ e) in
+          let begins : ws ≡ pub_word public.0 ∷ struct_word h.0 ∷ name h.1 ∷ braces h.2.0 h.2.1 ∷ rest = public.2 ∙ ap (λ v. pub_word public.0 ∷ v) h.4 in
+          let fewer = ap length begins in
+          subst (λ v. StructRead ws v rest) h.6 (subst (λ v. IsStruct v (struct_from (Some public.0) h.0 h.1 h.2.1 h.3) rest) (sym begins) (public_struct h.5.0), h.5.1, omega arith)
     ]
 
 pub struct_shortens : Shortens declaration_at

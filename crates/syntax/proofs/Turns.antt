@@ -26,7 +26,7 @@ pub alone_read : (n : ℕ) (ws us : List Word) (x : Ident) → 0 < n → name_at
 alone_read n ws us x h e f = type_at_suc n ws h ∙ ap (λ r. r >>= λ x. after_name (type_at (n - 1)) x.0 x.1 (sign_at Less x.1)) e ∙ ap (after_name (type_at (n - 1)) x us) f
 
 pub applied_read : (n : ℕ) (ws us vs after rest : List Word) (x : Ident) (open_at close_at : Span) (t : Written) → 0 < n → name_at ws ≡ Some (x, us) → sign_at Less us ≡ Some (open_at, vs) → is_container x.text ≡ true
-  → type_at (n - 1) vs ≡ Some (t, after) → sign_at Greater after ≡ Some (close_at, rest) → type_at n ws ≡ Some (applied x t (cover x.span close_at), rest)
+    → type_at (n - 1) vs ≡ Some (t, after) → sign_at Greater after ≡ Some (close_at, rest) → type_at n ws ≡ Some (applied x t (cover x.span close_at), rest)
 applied_read n ws us vs after rest x open_at close_at t h e f c g k =
     type_at_suc n ws h ∙ ap (λ r. r >>= λ x. after_name (type_at (n - 1)) x.0 x.1 (sign_at Less x.1)) e ∙ ap (after_name (type_at (n - 1)) x us) f
     ∙ ap (λ b. cond b (type_at (n - 1) vs >>= λ t. sign_at Greater t.1 >>= λ e. Some (applied x t.0 (cover x.span e.0), e.1)) None) c

@@ -38,10 +38,10 @@ Gives view (Ok x) read = read ≡ Some (view x)
 Gives view (Err e) read = Fails e read
 
 -- two reasons of which both or neither is want of memory
-abbrev pub stops_alike : Stop → Stop → Type 0
-stops_alike stop.Memory s = s ≡ stop.Memory
-stops_alike (stop.Unexpected at) s = s ≢ stop.Memory
-stops_alike stop.Ended s = s ≢ stop.Memory
+abbrev pub FailsAlike : Stop → Stop → Type 0
+FailsAlike stop.Memory s = s ≡ stop.Memory
+FailsAlike (stop.Unexpected at) s = s ≢ stop.Memory
+FailsAlike stop.Ended s = s ≢ stop.Memory
 
 -- an error at a span of a text with so many bytes
 abbrev pub IsPlaced : ℕ → DeriveError → Type 0

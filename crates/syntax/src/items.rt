@@ -7,7 +7,9 @@ ghost use Rattle.syntax.specs.Words.{words_of, words_view};
 ghost use Rattle.syntax.specs.Reading.{Gives, field_at, field_turn, declaration_at, many_of};
 
 use crate::types::{ident_of, type_at};
-use crate::words::{Sign, Stop, after_comma, braces_at, covering, name_at, sign_at, struct_at, visibility};
+use crate::words::{
+    Sign, Stop, after_comma, braces_at, covering, name_at, sign_at, struct_at, visibility,
+};
 use crate::written::{Declaration, Field};
 use diag::List;
 use lexing::TokenTree;
@@ -70,7 +72,14 @@ fn declaration_at(alloc: Global, trees: &[TokenTree]) -> Result<(Declaration, &[
     };
     let span = covering(public.unwrap_or(word), group.span);
     let ident = ident_of(alloc, name)?;
-    Ok((Declaration { ident, fields, span }, rest))
+    Ok((
+        Declaration {
+            ident,
+            fields,
+            span,
+        },
+        rest,
+    ))
 }
 
 /// All of the trees, as structs.

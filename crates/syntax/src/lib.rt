@@ -5,6 +5,8 @@ mod items;
 mod laws;
 mod parse;
 mod reserved;
+#[cfg(test)]
+mod tests;
 mod types;
 mod words;
 mod written;

@@ -12,7 +12,10 @@ fn is_reserved_of_2(text: &str) -> bool
 fn is_reserved_of_3(text: &str) -> bool
     ensures { result ≡ is_among text.now reserved_of_3 }
 {
-    matches!(text, "box" | "dyn" | "for" | "let" | "mod" | "mut" | "pub" | "ref" | "try" | "use")
+    matches!(
+        text,
+        "box" | "dyn" | "for" | "let" | "mod" | "mut" | "pub" | "ref" | "try" | "use"
+    )
 }
 
 fn is_reserved_of_4(text: &str) -> bool
@@ -29,7 +32,20 @@ fn is_reserved_of_5(text: &str) -> bool
 {
     matches!(
         text,
-        "async" | "await" | "break" | "const" | "crate" | "false" | "final" | "macro" | "match" | "super" | "trait" | "where" | "while" | "yield"
+        "async"
+            | "await"
+            | "break"
+            | "const"
+            | "crate"
+            | "false"
+            | "final"
+            | "macro"
+            | "match"
+            | "super"
+            | "trait"
+            | "where"
+            | "while"
+            | "yield"
     )
 }
 

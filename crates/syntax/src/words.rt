@@ -4,7 +4,7 @@ ghost use Rattle.std.specs.Prelude.{◌≡◌, ◌<◌, ◌≤◌, length, IfOk,
 ghost use Rattle.lexing.specs.Trees.{tree_view, trees_view};
 ghost use Rattle.syntax.specs.Words.{word_of, token_word, words_view};
 ghost use Rattle.syntax.specs.Declarations.{cover};
-ghost use Rattle.syntax.specs.Reading.{word_view, Gives, stops_alike, name_at, sign_at, struct_at, braces_at, visibility, after_comma, token_ident};
+ghost use Rattle.syntax.specs.Reading.{word_view, Gives, FailsAlike, name_at, sign_at, struct_at, braces_at, visibility, after_comma, token_ident};
 
 use crate::reserved::is_reserved;
 use diag::Span;
@@ -106,7 +106,7 @@ pub(crate) fn stop_at(trees: &[TokenTree]) -> Stop {
 impl Stop {
     /// What stopped reading inside of the group. Where its trees ended, that is its closing bracket.
     pub(crate) fn inside(self, group: &Group) -> Stop
-        ensures { stops_alike self result }
+        ensures { FailsAlike self result }
     {
         match self {
             Stop::Unexpected(span) => Stop::Unexpected(span),

@@ -20,11 +20,7 @@ pub enum WrittenType {
     /// A name alone.
     Named(Ident),
     /// `Option` or `Vec`, its argument, and the span from the name's first byte to the end of `>`.
-    Applied(
-        Ident,
-        Box<WrittenType>,
-        #[derive_where(skip(EqHashOrd))] Span,
-    ),
+    Applied(Ident, Box<WrittenType>, #[derive_where(skip(EqHashOrd))] Span),
 }
 
 /// A field of a struct. The span goes from `pub`, or else from the name, to the end of the type.
