@@ -1,0 +1,5 @@
+pub mod Declarations
+pub mod Words
+pub mod Reading
+pub mod Grammar
+pub mod Source
