@@ -3,4 +3,5 @@ pub mod Data
 pub mod Json
 pub mod Keyword
 pub mod Law
+pub mod Layer
 pub mod References

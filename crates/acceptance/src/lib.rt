@@ -3,6 +3,9 @@
 
 ghost use Rattle.acceptance.specs.Law.{AcceptsDeeper, ComponentsAlone};
 
+mod equality;
+mod layer;
+
 /// What a schema accepts at a depth, it accepts at each greater depth.
 pub fn accepts_deeper()
     ensures { AcceptsDeeper }

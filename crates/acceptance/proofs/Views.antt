@@ -1,0 +1,56 @@
+-- Looking into a map of serde_json is looking into the map of JSON values.
+use Rattle.std.proofs.Common.{◌≡◌, ℕ, zero, suc, length, ◌≢◌, ◌&&◌, List, [], ◌∷◌, Bool, true, false, cond, ◌||◌, Option, Some, None, option_map, is_some, String, Global, string_bytes, bytes_eq, nat_cmp, is_eq, refl, sym, ap, ◌∙◌}
+use Rattle.std.proofs.Math.Bool.{and-false}
+use Rattle.std.proofs.lemmas.Map.Text.{is_eq-slice_cmp}
+use Rattle.std.specs.BTreeMap.{is_at}
+use Rattle.std.specs.Cmp.Lexicographic.{slice_cmp}
+use Rattle.std.specs.Map.{lookup}
+use Rattle.serde_json.specs.View.{view, items_view, members_view}
+use Rattle.serde_json.specs.declared.value.Value.{Value}
+use Rattle.acceptance.specs.Json.{Json, Items, Members, entries, look, is_in, names, same, same_items}
+use Rattle.acceptance.specs.Data.{json_of, json_items, json_members}
+
+abbrev pub Entry : Type 0
+Entry = String Global × Value
+
+abbrev pub pairs : List Entry → List (List ℕ × Json)
+pairs es = entries (json_members (members_view es))
+
+found-cond : (b : Bool) (v : Value) (rest : Option Value) (d : Option Json) → option_map (λ x. json_of (view x)) rest ≡ d → option_map (λ x. json_of (view x)) (cond b (Some v) rest) ≡ cond b (Some (json_of (view v))) d
+found-cond true v rest d e = refl
+found-cond false v rest d e = e
+
+pub look-pairs : (name : List ℕ) (es : List Entry) → option_map (λ v. json_of (view v)) (lookup (is_at (λ k. slice_cmp nat_cmp name (string_bytes k))) es) ≡ look name (pairs es)
+look-pairs name [] = refl
+look-pairs name (e ∷ es) = found-cond (is_eq (slice_cmp nat_cmp name (string_bytes e.0))) e.1 _ _ (look-pairs name es)
+    ∙ ap (λ b. cond b (Some (json_of (view e.1))) (look name (pairs es))) (is_eq-slice_cmp name (string_bytes e.0))
+
+is_some-cond : {A : Type 0} (b : Bool) (x : A) (o : Option A) → is_some (cond b (Some x) o) ≡ (b || is_some o)
+is_some-cond true x o = refl
+is_some-cond false x o = refl
+
+pub is_some-look : (name : List ℕ) (es : List (List ℕ × Json)) → is_some (look name es) ≡ is_in name (names es)
+is_some-look name [] = refl
+is_some-look name (e ∷ es) = is_some-cond (bytes_eq name e.0) e.1 (look name es) ∙ ap (λ b. bytes_eq name e.0 || b) (is_some-look name es)
+
+pub is_some-map : {A B : Type 0} (f : A → B) (o : Option A) → is_some (option_map f o) ≡ is_some o
+is_some-map f None = refl
+is_some-map f (Some x) = refl
+
+pub has-pairs : (name : List ℕ) (es : List Entry) → is_some (lookup (is_at (λ k. slice_cmp nat_cmp name (string_bytes k))) es) ≡ is_in name (names (pairs es))
+has-pairs name es = sym (is_some-map (λ v. json_of (view v)) _) ∙ ap is_some (look-pairs name es) ∙ is_some-look name (pairs es)
+
+abbrev pub items_of : List Value → Items
+items_of xs = json_items (items_view xs)
+
+abbrev pub members_of : List Entry → Members
+members_of es = json_members (members_view es)
+
+-- lists of different lengths are not equal
+pub same_items-lengths : (xs ys : List Value) → length xs ≢ length ys → false ≡ same_items (items_of xs) (items_of ys)
+same_items-lengths [] [] h = absurd (h refl)
+same_items-lengths [] (y ∷ ys) h = refl
+same_items-lengths (x ∷ xs) [] h = refl
+same_items-lengths (x ∷ xs) (y ∷ ys) h =
+    let b = same (json_of (view x)) (json_of (view y)) in
+    sym (and-false b) ∙ ap (λ r. b && r) (same_items-lengths xs ys (λ e. h (ap suc e)))
