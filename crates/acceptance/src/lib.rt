@@ -4,6 +4,7 @@
 ghost use Rattle.acceptance.specs.Law.{AcceptsDeeper, ComponentsAlone};
 
 mod equality;
+mod keyword;
 mod layer;
 
 /// What a schema accepts at a depth, it accepts at each greater depth.
