@@ -7,7 +7,7 @@ use Rattle.std.specs.Cmp.Lexicographic.{slice_cmp}
 use Rattle.std.specs.Map.{lookup}
 use Rattle.serde_json.specs.View.{view, items_view, members_view}
 use Rattle.serde_json.specs.declared.value.Value.{Value}
-use Rattle.acceptance.specs.Json.{Json, Items, Members, entries, look, is_in, names, same, same_items}
+use Rattle.acceptance.specs.Json.{Json, Items, Members, elements, entries, look, is_in, names, same, same_items}
 use Rattle.acceptance.specs.Data.{json_of, json_items, json_members}
 
 abbrev pub Entry : Type 0
@@ -54,3 +54,11 @@ same_items-lengths (x ∷ xs) [] h = refl
 same_items-lengths (x ∷ xs) (y ∷ ys) h =
     let b = same (json_of (view x)) (json_of (view y)) in
     sym (and-false b) ∙ ap (λ r. b && r) (same_items-lengths xs ys (λ e. h (ap suc e)))
+
+pub length-items : (xs : List Value) → length xs ≡ length (elements (items_of xs))
+length-items [] = refl
+length-items (x ∷ xs) = ap suc (length-items xs)
+
+pub length-pairs : (es : List Entry) → length es ≡ length (pairs es)
+length-pairs [] = refl
+length-pairs (e ∷ es) = ap suc (length-pairs es)

@@ -15,19 +15,29 @@ pub enum Keyword {
 pub enum Assertion {
     Types,
     Enumeration,
+    Number(Comparison),
+    Length(Limit),
+    Required,
+    Properties(Limit),
+    UniqueItems,
+    Items(Limit),
+}
+
+/// What a member asks of a number.
+#[derive(Clone, Copy)]
+pub enum Comparison {
     Minimum,
     Maximum,
     ExclusiveMinimum,
     ExclusiveMaximum,
     MultipleOf,
-    MinLength,
-    MaxLength,
-    Required,
-    MinProperties,
-    MaxProperties,
-    UniqueItems,
-    MinItems,
-    MaxItems,
+}
+
+/// What a member asks of a count.
+#[derive(Clone, Copy)]
+pub enum Limit {
+    AtLeast,
+    AtMost,
 }
 
 /// A member that holds schemas, or leads to one.
@@ -49,24 +59,24 @@ pub fn keyword_named(name: &str) -> Keyword
     match name {
         "type" => Keyword::Assertion(Assertion::Types),
         "enum" => Keyword::Assertion(Assertion::Enumeration),
-        "minimum" => Keyword::Assertion(Assertion::Minimum),
-        "maximum" => Keyword::Assertion(Assertion::Maximum),
-        "exclusiveMinimum" => Keyword::Assertion(Assertion::ExclusiveMinimum),
-        "exclusiveMaximum" => Keyword::Assertion(Assertion::ExclusiveMaximum),
-        "multipleOf" => Keyword::Assertion(Assertion::MultipleOf),
-        "minLength" => Keyword::Assertion(Assertion::MinLength),
-        "maxLength" => Keyword::Assertion(Assertion::MaxLength),
+        "minimum" => Keyword::Assertion(Assertion::Number(Comparison::Minimum)),
+        "maximum" => Keyword::Assertion(Assertion::Number(Comparison::Maximum)),
+        "exclusiveMinimum" => Keyword::Assertion(Assertion::Number(Comparison::ExclusiveMinimum)),
+        "exclusiveMaximum" => Keyword::Assertion(Assertion::Number(Comparison::ExclusiveMaximum)),
+        "multipleOf" => Keyword::Assertion(Assertion::Number(Comparison::MultipleOf)),
+        "minLength" => Keyword::Assertion(Assertion::Length(Limit::AtLeast)),
+        "maxLength" => Keyword::Assertion(Assertion::Length(Limit::AtMost)),
         "properties" => Keyword::Applicator(Applicator::Properties),
         "required" => Keyword::Assertion(Assertion::Required),
         "additionalProperties" => Keyword::Applicator(Applicator::AdditionalProperties),
         "propertyNames" => Keyword::Applicator(Applicator::PropertyNames),
-        "minProperties" => Keyword::Assertion(Assertion::MinProperties),
-        "maxProperties" => Keyword::Assertion(Assertion::MaxProperties),
+        "minProperties" => Keyword::Assertion(Assertion::Properties(Limit::AtLeast)),
+        "maxProperties" => Keyword::Assertion(Assertion::Properties(Limit::AtMost)),
         "prefixItems" => Keyword::Applicator(Applicator::PrefixItems),
         "items" => Keyword::Applicator(Applicator::Items),
         "uniqueItems" => Keyword::Assertion(Assertion::UniqueItems),
-        "minItems" => Keyword::Assertion(Assertion::MinItems),
-        "maxItems" => Keyword::Assertion(Assertion::MaxItems),
+        "minItems" => Keyword::Assertion(Assertion::Items(Limit::AtLeast)),
+        "maxItems" => Keyword::Assertion(Assertion::Items(Limit::AtMost)),
         "allOf" => Keyword::Applicator(Applicator::AllOf),
         "oneOf" => Keyword::Applicator(Applicator::OneOf),
         "$ref" => Keyword::Applicator(Applicator::Reference),

@@ -3,6 +3,7 @@
 
 ghost use Rattle.acceptance.specs.Law.{AcceptsDeeper, ComponentsAlone};
 
+mod assertions;
 mod equality;
 mod keyword;
 mod layer;
