@@ -5,16 +5,17 @@ use Rattle.std.proofs.lemmas.Map.Text.{is_eq-slice_cmp}
 use Rattle.std.specs.BTreeMap.{is_at}
 use Rattle.std.specs.Cmp.Lexicographic.{slice_cmp}
 use Rattle.std.specs.Map.{lookup}
-use Rattle.serde_json.specs.View.{view, items_view, members_view}
+use Rattle.serde_json.specs.View.{view}
 use Rattle.serde_json.specs.declared.value.Value.{Value}
 use Rattle.acceptance.specs.Json.{Json, Items, Members, elements, entries, look, is_in, names, same, same_items}
-use Rattle.acceptance.specs.Data.{json_of, json_items, json_members}
+use Rattle.acceptance.specs.Data.{json_of}
+use Rattle.acceptance.specs.Layer.{json_of_values, json_of_entries}
 
 abbrev pub Entry : Type 0
 Entry = String Global × Value
 
 abbrev pub pairs : List Entry → List (List ℕ × Json)
-pairs es = entries (json_members (members_view es))
+pairs es = entries (json_of_entries es)
 
 found-cond : (b : Bool) (v : Value) (rest : Option Value) (d : Option Json) → option_map (λ x. json_of (view x)) rest ≡ d → option_map (λ x. json_of (view x)) (cond b (Some v) rest) ≡ cond b (Some (json_of (view v))) d
 found-cond true v rest d e = refl
@@ -40,14 +41,8 @@ is_some-map f (Some x) = refl
 pub has-pairs : (name : List ℕ) (es : List Entry) → is_some (lookup (is_at (λ k. slice_cmp nat_cmp name (string_bytes k))) es) ≡ is_in name (names (pairs es))
 has-pairs name es = sym (is_some-map (λ v. json_of (view v)) _) ∙ ap is_some (look-pairs name es) ∙ is_some-look name (pairs es)
 
-abbrev pub items_of : List Value → Items
-items_of xs = json_items (items_view xs)
-
-abbrev pub members_of : List Entry → Members
-members_of es = json_members (members_view es)
-
 -- lists of different lengths are not equal
-pub same_items-lengths : (xs ys : List Value) → length xs ≢ length ys → false ≡ same_items (items_of xs) (items_of ys)
+pub same_items-lengths : (xs ys : List Value) → length xs ≢ length ys → false ≡ same_items (json_of_values xs) (json_of_values ys)
 same_items-lengths [] [] h = absurd (h refl)
 same_items-lengths [] (y ∷ ys) h = refl
 same_items-lengths (x ∷ xs) [] h = refl
@@ -55,7 +50,7 @@ same_items-lengths (x ∷ xs) (y ∷ ys) h =
     let b = same (json_of (view x)) (json_of (view y)) in
     sym (and-false b) ∙ ap (λ r. b && r) (same_items-lengths xs ys (λ e. h (ap suc e)))
 
-pub length-items : (xs : List Value) → length xs ≡ length (elements (items_of xs))
+pub length-items : (xs : List Value) → length xs ≡ length (elements (json_of_values xs))
 length-items [] = refl
 length-items (x ∷ xs) = ap suc (length-items xs)
 

@@ -1,12 +1,10 @@
 ghost use Rattle.std.specs.Prelude.{◌≡◌, List, ℕ, length, chars, int_le, pos, option_map};
 ghost use Rattle.std.specs.List.{list_any, list_all};
-ghost use Rattle.serde_json.specs.View.{items_view, members_view};
 ghost use Rattle.acceptance.specs.Acceptance.{Readings, keyword_holds, kinds_of, texts_of, type_holds, enum_holds, required_holds, unique_holds, is_multiple};
-ghost use Rattle.acceptance.specs.Data.{json_items, json_members};
 ghost use Rattle.acceptance.specs.Json.{Members, elements, entries, names as names_in, is_in};
 ghost use Rattle.acceptance.specs.Kinds.{assertion_meant, comparison_meant, limit_meant, limit_holds, comparison_holds};
 ghost use Rattle.acceptance.specs.Keyword.{min_length, max_length, min_properties, max_properties, min_items, max_items};
-ghost use Rattle.acceptance.specs.Layer.{json_of_layer};
+ghost use Rattle.acceptance.specs.Layer.{json_of_layer, json_of_values, json_of_entries};
 
 use crate::equality::{are_distinct, is_among};
 use crate::keyword::{Assertion, Comparison, Limit};
@@ -41,7 +39,7 @@ fn type_holds(x: Layer<'_>, v: Layer<'_>) -> bool
 
 // None where one of the words is no text
 fn has_listed_kind(words: &[Value], v: Layer<'_>) -> Option<bool>
-    ensures { result ≡ option_map (list_any (λ w. is_in w (kinds_of (json_of_layer v.entry)))) (texts_of (json_items (items_view words.now))) }
+    ensures { result ≡ option_map (list_any (λ w. is_in w (kinds_of (json_of_layer v.entry)))) (texts_of (json_of_values words.now)) }
 {
     let mut found = false;
     for word in words {
@@ -129,13 +127,13 @@ fn char_count(text: &str) -> usize
 }
 
 fn member_count(members: &Map<String, Value>) -> usize
-    ensures { result ≡ length (entries (json_members (members_view members.now.entries))) }
+    ensures { result ≡ length (entries (json_of_entries members.now.entries)) }
 {
     members.len()
 }
 
 fn item_count(items: &[Value]) -> usize
-    ensures { result ≡ length (elements (json_items (items_view items.now))) }
+    ensures { result ≡ length (elements (json_of_values items.now)) }
 {
     items.len()
 }
@@ -187,7 +185,7 @@ fn required_holds(x: Layer<'_>, v: Layer<'_>) -> bool
 
 // None where one of the names is no text
 fn has_listed_names(names: &[Value], members: &Map<String, Value>) -> Option<bool>
-    ensures { result ≡ option_map (list_all (λ k. is_in k (names_in (entries (json_members (members_view members.now.entries)))))) (texts_of (json_items (items_view names.now))) }
+    ensures { result ≡ option_map (list_all (λ k. is_in k (names_in (entries (json_of_entries members.now.entries))))) (texts_of (json_of_values names.now)) }
 {
     let mut all = true;
     for name in names {

@@ -1,9 +1,7 @@
 ghost use Rattle.std.specs.Prelude.{◌≡◌};
 ghost use Rattle.std.specs.List.{list_any, list_all};
-ghost use Rattle.serde_json.specs.View.{items_view, members_view};
-ghost use Rattle.acceptance.specs.Data.{json_items, json_members};
 ghost use Rattle.acceptance.specs.Json.{same, same_items, same_members, elements, entries, names, is_in, distinct};
-ghost use Rattle.acceptance.specs.Layer.{json_of_layer};
+ghost use Rattle.acceptance.specs.Layer.{json_of_layer, json_of_values, json_of_entries};
 
 use crate::layer::{Layer, has_member, layer_of, member_at};
 use serde_json::{Map, Value};
@@ -40,7 +38,7 @@ pub fn same(a: Layer<'_>, b: Layer<'_>) -> bool
 
 #[cycle(same)]
 fn same_items(xs: &[Value], ys: &[Value]) -> bool
-    ensures { result ≡ same_items (json_items (items_view xs.now)) (json_items (items_view ys.now)) }
+    ensures { result ≡ same_items (json_of_values xs.now) (json_of_values ys.now) }
 {
     if xs.len() != ys.len() {
         return false;
@@ -56,7 +54,7 @@ fn same_items(xs: &[Value], ys: &[Value]) -> bool
 // each member of the first has an equal one of its name in the second
 #[cycle(same)]
 fn same_members(ms: &Map<String, Value>, ns: &Map<String, Value>) -> bool
-    ensures { result ≡ same_members (json_members (members_view ms.now.entries)) (entries (json_members (members_view ns.now.entries))) }
+    ensures { result ≡ same_members (json_of_entries ms.now.entries) (entries (json_of_entries ns.now.entries)) }
 {
     for (name, x) in ms.iter() {
         match member_at(ns, name.as_str()) {
@@ -73,7 +71,7 @@ fn same_members(ms: &Map<String, Value>, ns: &Map<String, Value>) -> bool
 
 // the first has each name of the second
 fn has_each_name(ms: &Map<String, Value>, ns: &Map<String, Value>) -> bool
-    ensures { result ≡ list_all (λ k. is_in k (names (entries (json_members (members_view ms.now.entries))))) (names (entries (json_members (members_view ns.now.entries)))) }
+    ensures { result ≡ list_all (λ k. is_in k (names (entries (json_of_entries ms.now.entries)))) (names (entries (json_of_entries ns.now.entries))) }
 {
     for (name, _value) in ns.iter() {
         if !has_member(ms, name.as_str()) {
@@ -85,7 +83,7 @@ fn has_each_name(ms: &Map<String, Value>, ns: &Map<String, Value>) -> bool
 
 /// Whether the value is equal to one of the items.
 pub fn is_among(value: Layer<'_>, items: &[Value]) -> bool
-    ensures { result ≡ list_any (same (json_of_layer value.entry)) (elements (json_items (items_view items.now))) }
+    ensures { result ≡ list_any (same (json_of_layer value.entry)) (elements (json_of_values items.now)) }
 {
     for item in items {
         if same(value, layer_of(item)) {
@@ -97,7 +95,7 @@ pub fn is_among(value: Layer<'_>, items: &[Value]) -> bool
 
 /// Whether no two of the items are equal.
 pub fn are_distinct(items: &[Value]) -> bool
-    ensures { result ≡ distinct (elements (json_items (items_view items.now))) }
+    ensures { result ≡ distinct (elements (json_of_values items.now)) }
 {
     for (i, item) in items.iter().enumerate() {
         if is_among(layer_of(item), &items[i + 1..]) {

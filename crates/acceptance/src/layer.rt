@@ -1,8 +1,8 @@
 ghost use Rattle.std.specs.Prelude.{◌≡◌, option_map};
-ghost use Rattle.serde_json.specs.View.{view, items_view, members_view, number_view};
-ghost use Rattle.acceptance.specs.Data.{json_of, json_members, number_of};
+ghost use Rattle.serde_json.specs.View.{number_view};
+ghost use Rattle.acceptance.specs.Data.{number_of};
 ghost use Rattle.acceptance.specs.Json.{look, is_in, names, entries};
-ghost use Rattle.acceptance.specs.Layer.{json_of_layer};
+ghost use Rattle.acceptance.specs.Layer.{json_of_layer, json_of_value, json_of_entries};
 
 use serde_json::{Map, Number, Value};
 
@@ -19,7 +19,7 @@ pub enum Layer<'a> {
 
 /// The outermost layer of the value. A float reads as null.
 pub fn layer_of(value: &Value) -> Layer<'_>
-    ensures { json_of_layer result ≡ json_of (view value.now) }
+    ensures { json_of_layer result ≡ json_of_value value.now }
 {
     match value {
         Value::Null => Layer::Null,
@@ -42,7 +42,7 @@ fn layer_of_number<'a>(number: &Number) -> Layer<'a>
 
 /// The member of the name.
 pub fn member_at<'a>(members: &'a Map<String, Value>, name: &str) -> Option<Layer<'a>>
-    ensures { option_map json_of_layer result ≡ look name.now (entries (json_members (members_view members.now.entries))) }
+    ensures { option_map json_of_layer result ≡ look name.now (entries (json_of_entries members.now.entries)) }
 {
     match members.get(name) {
         Some(value) => Some(layer_of(value)),
@@ -51,7 +51,7 @@ pub fn member_at<'a>(members: &'a Map<String, Value>, name: &str) -> Option<Laye
 }
 
 pub fn has_member(members: &Map<String, Value>, name: &str) -> bool
-    ensures { result ≡ is_in name.now (names (entries (json_members (members_view members.now.entries)))) }
+    ensures { result ≡ is_in name.now (names (entries (json_of_entries members.now.entries))) }
 {
     members.contains_key(name)
 }
