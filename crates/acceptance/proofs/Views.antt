@@ -1,5 +1,5 @@
 -- Looking into a map of serde_json is looking into the map of JSON values.
-use Rattle.std.proofs.Common.{◌≡◌, ℕ, zero, suc, length, ◌≢◌, ◌&&◌, List, [], ◌∷◌, Bool, true, false, cond, ◌||◌, Option, Some, None, option_map, is_some, String, Global, string_bytes, bytes_eq, nat_cmp, is_eq, refl, sym, ap, ◌∙◌}
+use Rattle.std.proofs.Common.{◌≡◌, ℕ, zero, suc, ◌≤◌, length, drop, arith, ◌≢◌, ◌&&◌, List, [], ◌∷◌, Bool, true, false, cond, ◌||◌, Option, Some, None, option_map, is_some, String, Global, string_bytes, bytes_eq, nat_cmp, is_eq, refl, sym, ap, ◌∙◌}
 use Rattle.std.proofs.Math.Bool.{and-false}
 use Rattle.std.proofs.lemmas.Map.Text.{is_eq-slice_cmp}
 use Rattle.std.specs.BTreeMap.{is_at}
@@ -57,3 +57,14 @@ length-items (x ∷ xs) = ap suc (length-items xs)
 pub length-pairs : (es : List Entry) → length es ≡ length (pairs es)
 length-pairs [] = refl
 length-pairs (e ∷ es) = ap suc (length-pairs es)
+
+pub drop-elements : (n : ℕ) (xs : List Value) → elements (json_of_values (drop n xs)) ≡ drop n (elements (json_of_values xs))
+drop-elements zero xs = refl
+drop-elements (suc n) [] = refl
+drop-elements (suc n) (x ∷ xs) = drop-elements n xs
+
+pub drop-elements_past : (n : ℕ) (xs : List Value) → length xs ≤ n → [] ≡ drop n (elements (json_of_values xs))
+drop-elements_past zero [] h = refl
+drop-elements_past (suc n) [] h = refl
+drop-elements_past zero (x ∷ xs) h = absurd (omega arith)
+drop-elements_past (suc n) (x ∷ xs) h = drop-elements_past n xs (omega arith)

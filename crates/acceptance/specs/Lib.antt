@@ -1,6 +1,7 @@
 pub mod Acceptance
 pub mod Data
 pub mod Json
+pub mod Judge
 pub mod Keyword
 pub mod Kinds
 pub mod Law

@@ -1,14 +1,14 @@
 ghost use Rattle.std.specs.Prelude.{◌≡◌, List, ℕ, length, chars, int_le, pos, option_map};
 ghost use Rattle.std.specs.List.{list_any, list_all};
 ghost use Rattle.acceptance.specs.Acceptance.{Readings, keyword_holds, kinds_of, texts_of, type_holds, enum_holds, required_holds, unique_holds, is_multiple};
-ghost use Rattle.acceptance.specs.Json.{Members, elements, entries, names as names_in, is_in};
+ghost use Rattle.acceptance.specs.Json.{Members, entries, names as names_in, is_in};
 ghost use Rattle.acceptance.specs.Kinds.{assertion_meant, comparison_meant, limit_meant, limit_holds, comparison_holds};
 ghost use Rattle.acceptance.specs.Keyword.{min_length, max_length, min_properties, max_properties, min_items, max_items};
 ghost use Rattle.acceptance.specs.Layer.{json_of_layer, json_of_values, json_of_entries};
 
 use crate::equality::{are_distinct, is_among};
 use crate::keyword::{Assertion, Comparison, Limit};
-use crate::layer::{Layer, has_member, layer_of};
+use crate::layer::{Layer, has_member, item_count, layer_of, member_count};
 use serde_json::{Map, Value};
 
 /// Whether the member, whose value is `x`, holds of the value `v`.
@@ -124,18 +124,6 @@ fn char_count(text: &str) -> usize
     ensures { result ≡ length (chars text.now) }
 {
     text.chars().count()
-}
-
-fn member_count(members: &Map<String, Value>) -> usize
-    ensures { result ≡ length (entries (json_of_entries members.now.entries)) }
-{
-    members.len()
-}
-
-fn item_count(items: &[Value]) -> usize
-    ensures { result ≡ length (elements (json_of_values items.now)) }
-{
-    items.len()
 }
 
 fn is_within(limit: Limit, n: i128, count: usize) -> bool

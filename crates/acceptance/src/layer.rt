@@ -1,8 +1,8 @@
-ghost use Rattle.std.specs.Prelude.{◌≡◌, option_map};
+ghost use Rattle.std.specs.Prelude.{◌≡◌, option_map, length};
 ghost use Rattle.serde_json.specs.View.{number_view};
 ghost use Rattle.acceptance.specs.Data.{number_of};
-ghost use Rattle.acceptance.specs.Json.{look, is_in, names, entries};
-ghost use Rattle.acceptance.specs.Layer.{json_of_layer, json_of_value, json_of_entries};
+ghost use Rattle.acceptance.specs.Json.{look, is_in, names, entries, elements};
+ghost use Rattle.acceptance.specs.Layer.{json_of_layer, json_of_value, json_of_values, json_of_entries};
 
 use serde_json::{Map, Number, Value};
 
@@ -54,4 +54,16 @@ pub fn has_member(members: &Map<String, Value>, name: &str) -> bool
     ensures { result ≡ is_in name.now (names (entries (json_of_entries members.now.entries))) }
 {
     members.contains_key(name)
+}
+
+pub fn member_count(members: &Map<String, Value>) -> usize
+    ensures { result ≡ length (entries (json_of_entries members.now.entries)) }
+{
+    members.len()
+}
+
+pub fn item_count(items: &[Value]) -> usize
+    ensures { result ≡ length (elements (json_of_values items.now)) }
+{
+    items.len()
 }

@@ -5,8 +5,11 @@ ghost use Rattle.acceptance.specs.Law.{AcceptsDeeper, ComponentsAlone};
 
 mod assertions;
 mod equality;
+mod judge;
 mod keyword;
 mod layer;
+mod references;
+mod siblings;
 
 /// What a schema accepts at a depth, it accepts at each greater depth.
 pub fn accepts_deeper()

@@ -1,6 +1,6 @@
 use Rattle.std.proofs.Common.{◌∙◌}
 use Rattle.acceptance.proofs.Views.{length-pairs}
-use Rattle.acceptance.proofs.assertions.member_count.Goals as goal
+use Rattle.acceptance.proofs.layer.member_count.Goals as goal
 
 pub returns : goal.returns
 returns c = c.len.ensures.len ∙ length-pairs c.args.members.now.entries
