@@ -10,6 +10,10 @@ mod keyword;
 mod layer;
 mod references;
 mod siblings;
+#[cfg(test)]
+mod tests;
+
+pub use judge::{accepts, component_accepts};
 
 /// What a schema accepts at a depth, it accepts at each greater depth.
 pub fn accepts_deeper()
