@@ -9,6 +9,10 @@ use Rattle.streams.specs.declared.memory.HonestSink.{HonestSink}
 abbrev pub source_left : MemorySource → List ℕ
 source_left source = drop source.at source.bytes.items
 
+-- how many faults there were, up to 2^64 - 1
+abbrev pub source_faults : MemorySource → ℕ
+source_faults source = source.faults
+
 -- the numbers, from 0, of the calls that are to fail
 abbrev pub source_fails : MemorySource → List ℕ
 source_fails source = source.fails.items
@@ -34,6 +38,10 @@ honest_left source = drop source.at source.bytes.items
 -- the bytes that were written
 abbrev pub sink_written : MemorySink → List ℕ
 sink_written sink = sink.bytes.items
+
+-- how many faults there were, up to 2^64 - 1
+abbrev pub sink_faults : MemorySink → ℕ
+sink_faults sink = sink.faults
 
 -- how many bytes the sink holds at most
 abbrev pub sink_room : MemorySink → ℕ
@@ -61,6 +69,10 @@ pub record SinkCounts (old new : MemorySink) : Type 0 where
 -- the bytes that were written
 abbrev pub honest_written : HonestSink → List ℕ
 honest_written sink = sink.bytes.items
+
+-- how many faults there were, up to 2^64 - 1
+abbrev pub honest_faults : HonestSink → ℕ
+honest_faults sink = sink.faults
 
 -- how many bytes the sink holds at most
 abbrev pub honest_room : HonestSink → ℕ

@@ -1,7 +1,7 @@
 ghost use Rattle.std.specs.Prelude.{◌≡◌, ◌≤◌, ◌<◌, ◌+◌, ◌-◌, ◌^◌, ◌++◌, ◌↔◌, ℕ, List, [], min, take, drop, length, Contains, IfOk, IsErr, IsTrue, vec_len, vec_capacity, Some};
 
 use crate::sink::Sink;
-use crate::source::{Failed, Source};
+use crate::source::{Failed, Source, count_fault};
 use std::alloc::{AllocError, Global};
 
 /// Moves the bytes from a place on into the front of the buffer, at most so many.
@@ -80,16 +80,16 @@ impl Source for MemorySource {
     ghost use Rattle.std.specs.Io.{ReadsAtMost};
     ghost use Rattle.std.specs.Io.KnownBytes.{ReadConsumes};
     ghost use Rattle.streams.specs.Faults.{HasCause};
-    ghost use Rattle.streams.specs.Memory.{source_left, source_fails, source_calls, source_piece, SourceCounts};
+    ghost use Rattle.streams.specs.Memory.{source_left, source_faults, source_fails, source_calls, source_piece, SourceCounts};
 
     ghost left = { λ source. Some (source_left source) };
 
-    ghost faults = { λ source. source.faults };
+    ghost faults = { λ source. source_faults source };
 
     fn read(&mut self, buffer: &mut [u8]) -> Result<usize, Failed>
         ensures bound { ReadsAtMost result buffer.new }
         ensures bytes { ReadConsumes (Some (source_left self.old)) (Some (source_left self.new)) result buffer.new }
-        ensures cause { HasCause self.old.faults self.new.faults result }
+        ensures cause { HasCause (source_faults self.old) (source_faults self.new) result }
 
         // a call fails where its number is among those, and nowhere else
         ensures failing { IsErr result ↔ Contains (source_fails self.old) (source_calls self.old) }
@@ -100,8 +100,7 @@ impl Source for MemorySource {
         let call = self.calls;
         self.calls = call.saturating_add(1);
         if is_among(&self.fails, call) {
-            self.faults = self.faults.saturating_add(1);
-            return Err(Failed);
+            return Err(count_fault(&mut self.faults));
         }
         let count = fill(buffer, &self.bytes, self.at, self.piece);
         self.at += count;
@@ -210,17 +209,17 @@ impl Sink for MemorySink {
     ghost use Rattle.std.specs.Io.{WritesAtMost};
     ghost use Rattle.std.specs.Io.KnownBytes.{WriteAppends};
     ghost use Rattle.streams.specs.Faults.{HasCause};
-    ghost use Rattle.streams.specs.Memory.{sink_written, sink_room, sink_fails, sink_calls, sink_piece, SinkCounts};
+    ghost use Rattle.streams.specs.Memory.{sink_written, sink_faults, sink_room, sink_fails, sink_calls, sink_piece, SinkCounts};
 
     ghost written = { λ sink. Some (sink_written sink) };
 
-    ghost faults = { λ sink. sink.faults };
+    ghost faults = { λ sink. sink_faults sink };
 
     fn write(&mut self, piece: &[u8]) -> Result<usize, Failed>
         ensures bound { WritesAtMost result piece.now }
         ensures some { IfOk result (λ count. 0 < length piece.now → 0 < count) }
         ensures bytes { WriteAppends (Some (sink_written self.old)) (Some (sink_written self.new)) result piece.now }
-        ensures cause { HasCause self.old.faults self.new.faults result }
+        ensures cause { HasCause (sink_faults self.old) (sink_faults self.new) result }
 
         // a call fails where its number is among those or the room is full, and nowhere else
         ensures to_fail { Contains (sink_fails self.old) (sink_calls self.old) → IsErr result }
@@ -231,26 +230,23 @@ impl Sink for MemorySink {
         ensures call { SinkCounts self.old self.new }
     {
         if self.is_to_fail() {
-            self.faults = self.faults.saturating_add(1);
-            return Err(Failed);
+            return Err(count_fault(&mut self.faults));
         }
         let count = put(&mut self.bytes, self.room, piece, self.piece);
         if count == 0 && !piece.is_empty() {
-            self.faults = self.faults.saturating_add(1);
-            return Err(Failed);
+            return Err(count_fault(&mut self.faults));
         }
         Ok(count)
     }
 
     fn flush(&mut self) -> Result<(), Failed>
         ensures bytes { sink_written self.new ≡ sink_written self.old }
-        ensures cause { HasCause self.old.faults self.new.faults result }
+        ensures cause { HasCause (sink_faults self.old) (sink_faults self.new) result }
         ensures failing { IsErr result ↔ Contains (sink_fails self.old) (sink_calls self.old) }
         ensures call { SinkCounts self.old self.new }
     {
         if self.is_to_fail() {
-            self.faults = self.faults.saturating_add(1);
-            return Err(Failed);
+            return Err(count_fault(&mut self.faults));
         }
         Ok(())
     }
@@ -296,17 +292,17 @@ impl Sink for HonestSink {
     ghost use Rattle.std.specs.Io.{WritesAtMost};
     ghost use Rattle.std.specs.Io.KnownBytes.{WriteAppends};
     ghost use Rattle.streams.specs.Faults.{HasCause};
-    ghost use Rattle.streams.specs.Memory.{honest_written, honest_room};
+    ghost use Rattle.streams.specs.Memory.{honest_written, honest_faults, honest_room};
 
     ghost written = { λ sink. Some (honest_written sink) };
 
-    ghost faults = { λ sink. sink.faults };
+    ghost faults = { λ sink. honest_faults sink };
 
     fn write(&mut self, piece: &[u8]) -> Result<usize, Failed>
         ensures bound { WritesAtMost result piece.now }
         ensures some { IfOk result (λ count. 0 < length piece.now → 0 < count) }
         ensures bytes { WriteAppends (Some (honest_written self.old)) (Some (honest_written self.new)) result piece.now }
-        ensures cause { HasCause self.old.faults self.new.faults result }
+        ensures cause { HasCause (honest_faults self.old) (honest_faults self.new) result }
         ensures full { OnErr result (length (honest_written self.old) ≡ honest_room self.old) }
         ensures count { IfOk result (λ count.
             count ≡ min (length piece.now) (honest_room self.old - length (honest_written self.old))) }
@@ -314,8 +310,7 @@ impl Sink for HonestSink {
     {
         let count = put(&mut self.bytes, self.room, piece, usize::MAX);
         if count == 0 && !piece.is_empty() {
-            self.faults = self.faults.saturating_add(1);
-            return Err(Failed);
+            return Err(count_fault(&mut self.faults));
         }
         Ok(count)
     }

@@ -1,8 +1,8 @@
-ghost use Rattle.std.specs.Prelude.{ℕ, List};
+ghost use Rattle.std.specs.Prelude.{◌≤◌, ℕ, List};
 ghost use Rattle.std.specs.declared.option.Option.{Option};
 ghost use Rattle.std.specs.Io.{ReadsAtMost};
 ghost use Rattle.std.specs.Io.KnownBytes.{ReadConsumes};
-ghost use Rattle.streams.specs.Faults.{HasCause};
+ghost use Rattle.streams.specs.Faults.{CountsFault, HasCause};
 
 /// What gives the bytes, or takes them, failed.
 #[derive(Clone, Copy, Debug, PartialEq, Eq)]
@@ -23,4 +23,13 @@ pub trait Source {
         ensures bound { ReadsAtMost result buffer.new }
         ensures bytes { ReadConsumes (left self.old) (left self.new) result buffer.new }
         ensures cause { HasCause (faults self.old) (faults self.new) result };
+}
+
+/// Counts a fault, up to 2^64 - 1, and answers it.
+pub(crate) fn count_fault(faults: &mut u64) -> Failed
+    ensures later { faults.old ≤ faults.new }
+    ensures counted { CountsFault faults.old faults.new }
+{
+    *faults = faults.saturating_add(1);
+    Failed
 }

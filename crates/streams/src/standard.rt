@@ -1,5 +1,5 @@
 use crate::sink::Sink;
-use crate::source::{Failed, Source};
+use crate::source::{Failed, Source, count_fault};
 use std::io::{Read, Write};
 
 /// A reader of std as a source. It tells of its bytes what the reader tells: of a file or a pipe, nothing.
@@ -23,10 +23,7 @@ impl<R: Read> Source for StdSource<R> {
     fn read(&mut self, buffer: &mut [u8]) -> Result<usize, Failed> {
         match self.reader.read(buffer) {
             Ok(count) => Ok(count),
-            Err(_) => {
-                self.faults = self.faults.saturating_add(1);
-                Err(Failed)
-            }
+            Err(_) => Err(count_fault(&mut self.faults)),
         }
     }
 }
@@ -52,20 +49,14 @@ impl<W: Write> Sink for StdSink<W> {
     fn write(&mut self, piece: &[u8]) -> Result<usize, Failed> {
         match self.writer.write(piece) {
             Ok(count) if count > 0 || piece.is_empty() => Ok(count),
-            _ => {
-                self.faults = self.faults.saturating_add(1);
-                Err(Failed)
-            }
+            _ => Err(count_fault(&mut self.faults)),
         }
     }
 
     fn flush(&mut self) -> Result<(), Failed> {
         match self.writer.flush() {
             Ok(()) => Ok(()),
-            Err(_) => {
-                self.faults = self.faults.saturating_add(1);
-                Err(Failed)
-            }
+            Err(_) => Err(count_fault(&mut self.faults)),
         }
     }
 }
