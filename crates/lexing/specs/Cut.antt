@@ -1,5 +1,5 @@
 -- A source and its token trees.
-use Rattle.std.specs.Prelude.{◌≡◌, ℕ, ◌≤◌, List, [], length, chars, codes}
+use Rattle.std.specs.Prelude.{ℕ, ◌≤◌, List, [], length, chars, codes}
 use Rattle.diag.specs.Refusal.{IsRefusal}
 use Rattle.diag.specs.declared.error.DeriveError.{DeriveError}
 use Rattle.diag.specs.declared.kind.Kind.TheVariants.{Syntax}

@@ -11,7 +11,6 @@ use Rattle.lexing.specs.declared.token.TokenTree.{TokenTree}
 use Rattle.lexing.specs.declared.piece.LexError.{LexError}
 use Rattle.lexing.specs.declared.piece.LexError.TheVariants.{Memory, Stopped}
 use Rattle.lexing.specs.declared.piece.Piece.{Piece}
-use Rattle.lexing.specs.declared.piece.PieceKind.{PieceKind}
 use Rattle.lexing.specs.declared.piece.PieceKind.TheVariants.{Space, Comment, Token, Open, Close}
 use Rattle.lexing.specs.Trees.{Tree, Trees, token, group, end, ◌▸◌, tree_view, trees_view, depth, depth_of}
 
