@@ -9,7 +9,7 @@ use Rattle.lexing.specs.declared.piece.Piece.{Piece}
 use Rattle.lexing.specs.declared.piece.PieceKind.{PieceKind}
 use Rattle.lexing.specs.Pieces.{Cuts}
 use Rattle.lexing.specs.Scanning.{piece_at}
-use Rattle.lexing.specs.Nesting.{EndFrom, LieIn}
+use Rattle.lexing.specs.Reading.{EndFrom, LieIn}
 use Rattle.lexing.proofs.PieceLaws.{finds_longest, longest_found, same_parts, and_true}
 
 pub encode_utf8_nonempty : (c : ℕ) → 0 < length (encode_utf8 c)
