@@ -1,5 +1,5 @@
 -- A text cut piece by piece.
-use Rattle.std.proofs.Common.{◌≡◌, ℕ, suc, ◌+◌, ◌-◌, ◌<◌, ◌≤◌, List, [], ◌∷◌, ◌++◌, length, refl, ap, sym, subst, ◌∙◌, arith, Option, Some, None, Bool, true, false, ◌&&◌, length-append, append_assoc}
+use Rattle.std.proofs.Common.{◌≡◌, ℕ, ◌+◌, ◌<◌, ◌≤◌, List, [], ◌∷◌, ◌++◌, length, refl, ap, sym, subst, ◌∙◌, arith, Option, Some, None, true, length-append, append_assoc}
 use Rattle.std.proofs.lemmas.Str.{len_utf8_bounds, length-encode, encodes-chars, encodes-append, scalars-chars, IsCharBoundary-at_seam}
 use Rattle.std.specs.Str.{chars, IsUtf8, IsCharBoundary, encode_utf8_all, all_scalars}
 use Rattle.std.specs.Prelude.{encode_utf8}
@@ -7,9 +7,9 @@ use Rattle.std.specs.Coded.{le_prop}
 use Rattle.diag.specs.declared.span.Span.{Span}
 use Rattle.lexing.specs.declared.piece.Piece.{Piece}
 use Rattle.lexing.specs.declared.piece.PieceKind.{PieceKind}
-use Rattle.lexing.specs.Pieces.{IsLongest, Cuts}
+use Rattle.lexing.specs.Pieces.{Cuts}
 use Rattle.lexing.specs.Scanning.{piece_at}
-use Rattle.lexing.specs.Nesting.{EndFrom, LieIn}
+use Rattle.lexing.specs.Reading.{EndFrom, LieIn}
 use Rattle.lexing.proofs.PieceLaws.{finds_longest, longest_found, same_parts, and_true}
 
 pub encode_utf8_nonempty : (c : ℕ) → 0 < length (encode_utf8 c)

@@ -7,7 +7,8 @@ use Rattle.lexing.specs.declared.piece.LexError.TheVariants.{Memory, Stopped}
 use Rattle.lexing.specs.declared.piece.Piece.{Piece}
 use Rattle.lexing.specs.Trees.{Trees}
 use Rattle.lexing.specs.Pieces.{Cuts}
-use Rattle.lexing.specs.Nesting.{IsTrees, IsUnnested}
+use Rattle.lexing.specs.Nesting.{IsTrees}
+use Rattle.lexing.specs.Reading.{IsUnnested}
 use Rattle.lexing.specs.Cut.{IsCut, IsUnread}
 use Rattle.lexing.proofs.CutLaws.{same_pieces}
 

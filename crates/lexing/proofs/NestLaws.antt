@@ -1,5 +1,5 @@
 -- Trees, read from the left, are one reading.
-use Rattle.std.proofs.Common.{◌≡◌, ℕ, zero, suc, ◌-◌, ◌<◌, ◌≤◌, arith, ◌⊎◌, inl, inr, List, [], ◌∷◌, ◌++◌, length, refl, ap, ap₂, sym, subst, ◌∙◌, rules}
+use Rattle.std.proofs.Common.{◌≡◌, ℕ, suc, ◌-◌, ◌≤◌, arith, ◌⊎◌, inl, inr, List, [], ◌∷◌, ◌++◌, length, refl, ap, sym, subst, ◌∙◌, rules}
 use Rattle.diag.specs.declared.span.Span.{Span}
 use Rattle.lexing.specs.declared.token.Bracket.{Bracket}
 use Rattle.lexing.specs.declared.token.TokenKind.{TokenKind}
@@ -12,7 +12,8 @@ use Rattle.lexing.specs.declared.piece.Piece.{Piece}
 use Rattle.lexing.specs.declared.piece.PieceKind.{PieceKind}
 use Rattle.lexing.specs.declared.piece.PieceKind.TheVariants.{Space, Comment, Token, Open, Close}
 use Rattle.lexing.specs.Trees.{Tree, Trees, token, group, end, ◌▸◌, tree_view, trees_view, depth, depth_of}
-use Rattle.lexing.specs.Nesting.{token_of, IsTrees, none, blank, lone, grouped, EndFrom, LieIn, Stops, IsUnnested, IsGroup}
+use Rattle.lexing.specs.Nesting.{token_of, IsTrees, none, blank, lone, grouped}
+use Rattle.lexing.specs.Reading.{EndFrom, LieIn, Stops, IsUnnested, IsGroup}
 use Rattle.lexing.proofs.CutLaws.{span_same}
 
 -- trees after trees
@@ -42,6 +43,9 @@ depth_push (u ▸ us) t n a b = let h : depth (joined us (t ▸ end)) ≤ n = de
 
 pub group_depth : (g : Group) (left : ℕ) → (left ≡ 0 → ⊥) → depth (trees_view g.trees) ≤ left - 1 → depth_of (tree_view (tree.Group g)) ≤ left
 group_depth g left n h = let whole = ap depth_of (view_group g) in omega (arith, whole)
+
+group_same : (b : Bracket) (g inner ws vs us : Trees) (s span : Span) → us ≡ group b g s ▸ ws → g ≡ inner → s ≡ span → ws ≡ vs → us ≡ group b inner span ▸ vs
+group_same b g inner ws vs us s span e f h k = cc
 
 module _ (source : List ℕ) where
   -- trees after trees
@@ -82,7 +86,7 @@ module _ (source : List ℕ) where
       let h = ruled s stops (Token j) k in
       let left = cancel r h.2 stops in
       (left.0, h.1 ∙ ap (λ v. token (token_of source j p.span) ▸ v) left.1, left.2)
-  cancel {rest = rest} (grouped {p = p} {q = q} {b = b} {span = span} {mid = mid} {inner = inner} k r l a z t) s stops =
+  cancel {rest = rest} {us = us} (grouped {p = p} {q = q} {b = b} {span = span} {mid = mid} {inner = inner} {ts = after_group} k r l a z t) s stops =
       let h = ruled s stops (Open b) k in
       let within = cancel r h.5 (b, h.6) in
       let closed = ruled within.2 (b, h.6) (Close b) l in
@@ -91,7 +95,7 @@ module _ (source : List ℕ) where
       let inners : h.0 ≡ inner = within.1 ∙ ap (joined inner) closed.0 ∙ joined-end inner in
       let spans : h.4 ≡ span = span_same h.4 span (h.7 ∙ sym a) (h.8 ∙ ap (λ v. v.span.end) (sym same) ∙ sym z) in
       let left = cancel t (subst (λ v. IsTrees source v h.3 rest) (sym tails) h.10) stops in
-      (left.0, h.9 ∙ ap₂ (λ v w. group b v w ▸ h.3) inners spans ∙ ap (λ v. group b inner span ▸ v) left.1, left.2)
+      (left.0, group_same b h.0 inner h.3 (joined after_group left.0) us h.4 span h.9 inners spans left.1, left.2)
 
   at_end : {vs : Trees} {rest : List Piece} → IsTrees source [] vs rest → vs ≡ end
   at_end none = refl

@@ -1,15 +1,14 @@
 -- The scanner finds the longest piece.
-use Rattle.std.proofs.Common.{◌≡◌, ℕ, suc, ◌+◌, ◌<◌, ◌≤◌, ◌⊎◌, inl, inr, List, [], ◌∷◌, ◌++◌, length, refl, ap, sym, subst, ◌∙◌, arith, cond, Bool, true, false, not, ◌||◌, ◌&&◌, ◌==◌, Option, Some, None, length-append}
+use Rattle.std.proofs.Common.{◌≡◌, ℕ, ◌≤◌, ◌⊎◌, inl, inr, List, [], ◌∷◌, ◌++◌, length, refl, ap, sym, subst, ◌∙◌, arith, cond, Bool, true, false, not, ◌||◌, ◌&&◌, ◌==◌, Option, Some, length-append}
 use Rattle.std.proofs.lemmas.Bool.{eqb-true}
 use Rattle.std.specs.List.{list_all}
 use Rattle.unicode_ident.specs.Ident.{is_xid_continue}
-use Rattle.lexing.specs.declared.token.TokenKind.{TokenKind}
 use Rattle.lexing.specs.declared.token.TokenKind.TheVariants.{Ident, Punct, Doc}
 use Rattle.lexing.specs.declared.piece.PieceKind.{PieceKind}
 use Rattle.lexing.specs.declared.piece.PieceKind.TheVariants.{Space, Comment, Token, Open, Close}
 use Rattle.lexing.specs.declared.scan.Class.{Class}
 use Rattle.lexing.specs.declared.scan.Class.TheVariants.{White, Slash, Sign, NameStart, Opens, Closes, Other}
-use Rattle.lexing.specs.Pieces.{is_white, is_in_line, begins_with, is_doc, opening, closing, IsComment, IsPiece, IsLongest}
+use Rattle.lexing.specs.Pieces.{is_white, is_in_line, begins_with, is_doc, IsComment, IsPiece, IsLongest}
 use Rattle.lexing.specs.Scanning.{class_of, skip, comment_kind, comment_at, class_at, piece_at}
 use Rattle.lexing.proofs.Classes.{Begins, class_begins, white_class, name_class, slash_class, sign_class, opening_class, closing_class}
 

@@ -1,5 +1,5 @@
 -- A source and its token trees.
-use Rattle.std.specs.Prelude.{◌≡◌, ℕ, ◌≤◌, List, [], length, chars, codes}
+use Rattle.std.specs.Prelude.{ℕ, ◌≤◌, List, [], length, chars, codes}
 use Rattle.diag.specs.Refusal.{IsRefusal}
 use Rattle.diag.specs.declared.error.DeriveError.{DeriveError}
 use Rattle.diag.specs.declared.kind.Kind.TheVariants.{Syntax}
@@ -24,6 +24,7 @@ StopsAt source span = (span.end ≤ length source) × ((trees : Trees) → ¬ (I
 abbrev pub IsSyntaxError : List ℕ → DeriveError → Type 0
 IsSyntaxError source e = (span : Span) × IsRefusal Syntax span (codes "unexpected text in a declaration") e × StopsAt source span
 
+-- where reading stopped, in a source that has no token trees
 abbrev pub IsUnread : List ℕ → LexError → Type 0
 IsUnread source Memory = Unit {0}
 IsUnread source (Stopped span) = StopsAt source span

@@ -6,7 +6,6 @@ use Rattle.std.specs.List.{list_all}
 use Rattle.unicode_ident.specs.Ident.{is_xid_start, is_xid_continue}
 use Rattle.lexing.specs.declared.token.Bracket.{Bracket}
 use Rattle.lexing.specs.declared.token.Bracket.TheVariants.{Round, Square, Curly}
-use Rattle.lexing.specs.declared.token.TokenKind.{TokenKind}
 use Rattle.lexing.specs.declared.token.TokenKind.TheVariants.{Ident, Punct, Doc}
 use Rattle.lexing.specs.declared.piece.Piece.{Piece}
 use Rattle.lexing.specs.declared.piece.PieceKind.{PieceKind}

@@ -1,5 +1,5 @@
 -- What a scanner, which goes by a piece's first character, finds at the front of a text.
-use Rattle.std.specs.Prelude.{◌≡◌, ℕ, ◌≤◌, List, [], ◌∷◌, length, chars, Bool, true, false, cond, ◌==◌, Option, Some, None}
+use Rattle.std.specs.Prelude.{ℕ, ◌≤◌, List, [], ◌∷◌, length, chars, Bool, true, false, cond, ◌==◌, Option, Some, None}
 use Rattle.unicode_ident.specs.Ident.{is_xid_continue}
 use Rattle.lexing.specs.declared.token.Bracket.TheVariants.{Round, Square, Curly}
 use Rattle.lexing.specs.declared.token.TokenKind.TheVariants.{Ident, Punct, Doc}

@@ -3,7 +3,8 @@
 ghost use Rattle.std.specs.Prelude.{◌≡◌, ◌≤◌, ◌∷◌, [], length, IfOk, MatchOption};
 ghost use Rattle.std.specs.Str.{IsCharBoundary};
 ghost use Rattle.lexing.specs.Trees.{token, tree_view};
-ghost use Rattle.lexing.specs.Nesting.{token_of, LieIn, EndFrom, Nests, NestsGroup};
+ghost use Rattle.lexing.specs.Nesting.{token_of};
+ghost use Rattle.lexing.specs.Reading.{LieIn, EndFrom, Nests, NestsGroup};
 
 use crate::piece::{LexError, Piece, PieceKind};
 use crate::token::{Bracket, Group, Token, TokenKind, TokenTree};

@@ -11,7 +11,7 @@ use diag::{List, Span};
 use std::alloc::Global;
 
 /// What a character may begin.
-#[derive(Clone, Copy, Debug, PartialEq, Eq)]
+#[derive(Clone, Copy)]
 pub enum Class {
     White,
     Slash,
@@ -23,7 +23,7 @@ pub enum Class {
 }
 
 /// What a run of characters is part of.
-#[derive(Clone, Copy, Debug, PartialEq, Eq)]
+#[derive(Clone, Copy)]
 pub enum Run {
     White,
     Name,

@@ -1,4 +1,4 @@
-use Rattle.std.proofs.Common.{[], subst, sym}
+use Rattle.std.proofs.Common.{[], subst}
 use Rattle.lexing.specs.Nesting.{IsTrees}
 use Rattle.lexing.proofs.CutLaws.{same_pieces}
 use Rattle.lexing.proofs.NestLaws.{one_nesting}

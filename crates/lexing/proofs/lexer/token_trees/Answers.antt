@@ -1,8 +1,8 @@
-use Rattle.std.proofs.Common.{◌≡◌, ◌≤◌, [], ◌∷◌, List, length, sym, subst, ◌∙◌}
+use Rattle.std.proofs.Common.{◌∷◌, subst}
 use Rattle.std.proofs.lemmas.Result.{err_from_is_err_and}
 use Rattle.lexing.specs.Trees.{trees_view}
 use Rattle.lexing.specs.Pieces.{Cuts}
-use Rattle.lexing.specs.Nesting.{IsTrees, LieIn}
+use Rattle.lexing.specs.Reading.{LieIn}
 use Rattle.lexing.proofs.CutLaws.{pieces_lie}
 use Rattle.lexing.proofs.NestLaws.{too_many, lie_after}
 use Rattle.lexing.proofs.LexLaws.{trees_of_pieces, unread_from_unnested}

@@ -1,6 +1,7 @@
 use Rattle.std.proofs.Common.{◌≤◌, ◌+◌, ◌*◌, length}
 use Rattle.lexing.specs.Trees.{trees_view, depth}
-use Rattle.lexing.specs.Nesting.{IsTrees, LieIn}
+use Rattle.lexing.specs.Nesting.{IsTrees}
+use Rattle.lexing.specs.Reading.{LieIn}
 use Rattle.lexing.proofs.nest.+nest.Given as goal
 
 abbrev pub invariant-trees_at-pieces : goal.invariant-trees_at-pieces
