@@ -47,6 +47,16 @@ impl Text {
     }
 }
 
+impl From<String> for Text {
+    ghost use Rattle.std.specs.Prelude.{◌≡◌, string_bytes};
+
+    ghost from_gives = { λ string text. text ≡ string_bytes string };
+
+    fn from(string: String) -> Text {
+        Text { inner: string }
+    }
+}
+
 impl PartialEq for Text {
     ghost eq = { pointwise ◌==◌ };
 

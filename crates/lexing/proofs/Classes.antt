@@ -66,13 +66,31 @@ control_no_name c h =
 white_no_name : (c : ℕ) → is_white c ≡ true → starts_name c ≡ false
 unfolding unicode_ident
 white_no_name c h =
-    elim (either_true (is_in_range 9 13 c || (c == 0x20) || (c == 0x85) || (c == 0x200E) || (c == 0x200F) || (c == 0x2028)) (c == 0x2029) h) [ inr e ↦ no_name_at c 0x2029 e refl | inl h5 ↦
-    elim (either_true (is_in_range 9 13 c || (c == 0x20) || (c == 0x85) || (c == 0x200E) || (c == 0x200F)) (c == 0x2028) h5) [ inr e ↦ no_name_at c 0x2028 e refl | inl h4 ↦
-    elim (either_true (is_in_range 9 13 c || (c == 0x20) || (c == 0x85) || (c == 0x200E)) (c == 0x200F) h4) [ inr e ↦ no_name_at c 0x200F e refl | inl h3 ↦
-    elim (either_true (is_in_range 9 13 c || (c == 0x20) || (c == 0x85)) (c == 0x200E) h3) [ inr e ↦ no_name_at c 0x200E e refl | inl h2 ↦
-    elim (either_true (is_in_range 9 13 c || (c == 0x20)) (c == 0x85) h2) [ inr e ↦ no_name_at c 0x85 e refl | inl h1 ↦
-    elim (either_true (is_in_range 9 13 c) (c == 0x20) h1) [ inr e ↦ no_name_at c 0x20 e refl | inl h0 ↦
-    control_no_name c h0 ] ] ] ] ] ]
+    elim (either_true (is_in_range 9 13 c || (c == 0x20) || (c == 0x85) || (c == 0x200E) || (c == 0x200F) || (c == 0x2028)) (c == 0x2029) h) [
+      | inr e ↦ no_name_at c 0x2029 e refl
+      | inl h5 ↦
+          elim (either_true (is_in_range 9 13 c || (c == 0x20) || (c == 0x85) || (c == 0x200E) || (c == 0x200F)) (c == 0x2028) h5) [
+            | inr e ↦ no_name_at c 0x2028 e refl
+            | inl h4 ↦
+                elim (either_true (is_in_range 9 13 c || (c == 0x20) || (c == 0x85) || (c == 0x200E)) (c == 0x200F) h4) [
+                  | inr e ↦ no_name_at c 0x200F e refl
+                  | inl h3 ↦
+                      elim (either_true (is_in_range 9 13 c || (c == 0x20) || (c == 0x85)) (c == 0x200E) h3) [
+                        | inr e ↦ no_name_at c 0x200E e refl
+                        | inl h2 ↦
+                            elim (either_true (is_in_range 9 13 c || (c == 0x20)) (c == 0x85) h2) [
+                              | inr e ↦ no_name_at c 0x85 e refl
+                              | inl h1 ↦
+                                  elim (either_true (is_in_range 9 13 c) (c == 0x20) h1) [
+                                    | inr e ↦ no_name_at c 0x20 e refl
+                                    | inl h0 ↦
+                                        control_no_name c h0
+                                  ]
+                            ]
+                      ]
+                ]
+          ]
+    ]
 
 pub white_class : (c : ℕ) → is_white c ≡ true → class_of c ≡ White
 unfolding class_of
@@ -98,10 +116,19 @@ class_at_sign c d e h = ap class_of (eqb-true c d e) ∙ h
 pub sign_class : (c : ℕ) → is_sign c ≡ true → class_of c ≡ Sign
 unfolding unicode_ident class_of
 sign_class c h =
-    elim (either_true ((c == 60) || (c == 62) || (c == 44)) (c == 58) h) [ inr e ↦ class_at_sign c 58 e refl | inl h3 ↦
-    elim (either_true ((c == 60) || (c == 62)) (c == 44) h3) [ inr e ↦ class_at_sign c 44 e refl | inl h2 ↦
-    elim (either_true ((c == 60)) (c == 62) h2) [ inr e ↦ class_at_sign c 62 e refl | inl h1 ↦
-    class_at_sign c 60 h1 refl ] ] ]
+    elim (either_true ((c == 60) || (c == 62) || (c == 44)) (c == 58) h) [
+      | inr e ↦ class_at_sign c 58 e refl
+      | inl h3 ↦
+          elim (either_true ((c == 60) || (c == 62)) (c == 44) h3) [
+            | inr e ↦ class_at_sign c 44 e refl
+            | inl h2 ↦
+                elim (either_true ((c == 60)) (c == 62) h2) [
+                  | inr e ↦ class_at_sign c 62 e refl
+                  | inl h1 ↦
+                      class_at_sign c 60 h1 refl
+                ]
+          ]
+    ]
 
 pub opening_class : (b : Bracket) → class_of (opening b) ≡ Opens b
 unfolding unicode_ident class_of

@@ -107,12 +107,11 @@ lie_after source (p ∷ ps) at before text u e l c =
     let further : source ≡ (before ++ encode_utf8_all front) ++ encode_utf8_all rest =
     e ∙ ap (λ v. before ++ encode_utf8_all v) c.2 ∙ ap (λ v. before ++ v) (encodes-append front rest) ∙ sym (append_assoc before (encode_utf8_all front) (encode_utf8_all rest)) in
     let stops : p.span.end ≡ length (before ++ encode_utf8_all front) = omega (arith, c.5, l, length-append before (encode_utf8_all front)) in
-    let left : all_scalars rest ≡ true = scalars_rest front rest (sym (ap all_scalars c.2) ∙ u) in
-    (
+    let left : all_scalars rest ≡ true = scalars_rest front rest (sym (ap all_scalars c.2) ∙ u) in (
       subst (IsCharBoundary source) (sym starts) (IsCharBoundary-at_seam source before (encode_utf8_all text) e (text, (u, refl))),
       subst (IsCharBoundary source) (sym stops) (IsCharBoundary-at_seam source (before ++ encode_utf8_all front) (encode_utf8_all rest) further (rest, (left, refl))),
       ends_later ps p.span.start p.span.end rest p.span.ordered c.6,
-      lie_after source ps p.span.end (before ++ encode_utf8_all front) rest left further stops c.6
+      lie_after source ps p.span.end (before ++ encode_utf8_all front) rest left further stops c.6,
     )
 
 pub pieces_lie : (source : List ℕ) (ps : List Piece) → IsUtf8 source → Cuts ps 0 (chars source) → LieIn source ps

@@ -112,38 +112,46 @@ module _ (source : List ℕ) where
   -- the error of what comes after is that of the whole
   pub unnested_later : (left : ℕ) (ps mid : List Piece) (ts : Trees) (e : LexError) → IsTrees source ps ts mid → IsUnnested source left mid e → IsUnnested source left ps e
   unnested_later left ps mid ts Memory r h = tt
-  unnested_later left ps mid ts (Stopped span) r h =
-      (h.0, λ us rest s stops d.
+  unnested_later left ps mid ts (Stopped span) r h = (
+    h.0,
+    λ us rest s stops d.
         let more = cancel r s stops in
         let deep = depth_later ts more.0 in
         let whole : depth us ≡ depth (joined ts more.0) = ap depth more.1 in
-        h.1 more.0 rest more.2 stops (omega arith))
+        h.1 more.0 rest more.2 stops (omega arith),
+  )
 
   -- the error of what stands in a group
   pub unnested_inside : (left m : ℕ) (b : Bracket) (p : Piece) (ps : List Piece) (e : LexError) → left ≡ suc m → p.kind ≡ Open b → IsUnnested source m ps e → IsUnnested source left (p ∷ ps) e
   unnested_inside left m b p ps Memory l k h = tt
-  unnested_inside left m b p ps (Stopped span) l k h =
-      (h.0, λ ts rest s stops d.
+  unnested_inside left m b p ps (Stopped span) l k h = (
+    h.0,
+    λ ts rest s stops d.
         let r = ruled s stops (Open b) k in
         let whole : depth ts ≡ depth (group b r.0 r.4 ▸ r.3) = ap depth r.9 in
-        h.1 r.0 (r.1 ∷ r.2) r.5 (b, r.6) (omega arith))
+        h.1 r.0 (r.1 ∷ r.2) r.5 (b, r.6) (omega arith),
+  )
 
   -- no group fits into no levels
   pub unnested_deep : (left : ℕ) (b : Bracket) (p : Piece) (ps : List Piece) (span : Span) → left ≡ 0 → span.end ≤ length source → p.kind ≡ Open b → IsUnnested source left (p ∷ ps) (Stopped span)
-  unnested_deep left b p ps span l w k =
-      (w, λ ts rest s stops d.
+  unnested_deep left b p ps span l w k = (
+    w,
+    λ ts rest s stops d.
         let r = ruled s stops (Open b) k in
         let whole : depth ts ≡ depth (group b r.0 r.4 ▸ r.3) = ap depth r.9 in
-        absurd (omega arith))
+        absurd (omega arith),
+  )
 
   -- what follows the trees in a group is not its closing bracket
   pub unnested_open : (left : ℕ) (b : Bracket) (p : Piece) (ps closing : List Piece) (ts : Trees) (span : Span) → span.end ≤ length source → p.kind ≡ Open b → IsTrees source ps ts closing → Stops closing
       → ((q : Piece) (mid : List Piece) → closing ≡ q ∷ mid → q.kind ≡ Close b → ⊥) → IsUnnested source left (p ∷ ps) (Stopped span)
-  unnested_open left b p ps closing ts span w k r c never =
-      (w, λ us rest s stops d.
+  unnested_open left b p ps closing ts span w k r c never = (
+    w,
+    λ us rest s stops d.
         let h = ruled s stops (Open b) k in
         let within = cancel r h.5 (b, h.6) in
-        never h.1 h.2 (stopped within.2 c (b, h.6)) h.6)
+        never h.1 h.2 (stopped within.2 c (b, h.6)) h.6,
+  )
 
   -- ---- the turns of a reader
   past_end : {ps mid : List Piece} {ts : Trees} → IsTrees source ps (joined ts end) mid → IsTrees source ps ts mid
@@ -170,7 +178,7 @@ module _ (source : List ℕ) where
     closes = k;
     start = a;
     stop = z;
-    tree = view_group g
+    tree = view_group g;
   }
 
   -- ---- what follows trees lies in the source too

@@ -92,7 +92,7 @@ comment_sound (d ∷ body) k rest e =
     let found : d ≡ 47 → Front (47 ∷ d ∷ body) (comment_kind (is_doc body)) (skip is_in_line body) =
     λ slash. (47 ∷ 47 ∷ line.0, ap (λ v. 47 ∷ v ∷ body) slash ∙ ap (λ v. 47 ∷ 47 ∷ v) line.1, comment_piece (is_doc body) line.0 line.2 same) in
     elim (either (d == 47) e) [
-      inl h ↦ along (Front (47 ∷ d ∷ body)) (comment_kind (is_doc body)) k (skip is_in_line body) rest h.1 (found (eqb-true d 47 h.0))
+      | inl h ↦ along (Front (47 ∷ d ∷ body)) (comment_kind (is_doc body)) k (skip is_in_line body) rest h.1 (found (eqb-true d 47 h.0))
       | inr h ↦ cc
     ]
 
@@ -176,11 +176,14 @@ longer text k rest front e f long less same r =
 
 pub finds_longest : (text : List ℕ) (k : PieceKind) (rest : List ℕ) → piece_at text ≡ Some (k, rest) → (front : List ℕ) × (text ≡ front ++ rest) × IsLongest k front rest
 finds_longest text k rest e =
-    let found = piece_sound text k rest e in
-    (found.0, found.1, record {
-      piece = found.2;
-      longest = λ j long less p same. longer text k rest found.0 e found.1 long less same (piece_reads j long less p)
-    })
+    let found = piece_sound text k rest e in (
+      found.0,
+      found.1,
+      record {
+        piece = found.2;
+        longest = λ j long less p same. longer text k rest found.0 e found.1 long less same (piece_reads j long less p);
+      },
+    )
 
 pub same_parts : (xs ys us vs : List ℕ) → xs ++ us ≡ ys ++ vs → length xs ≡ length ys → (xs ≡ ys) × (us ≡ vs)
 same_parts [] [] us vs e l = (refl, e)
@@ -201,4 +204,5 @@ longest_found k front rest l =
     let even : length front ≡ length other.0 = omega (arith, ap length other.1, length-append front rest, length-append other.0 r.1) in
     let parts = same_parts front other.0 rest r.1 other.1 even in
     let kinds : k ≡ r.0 = sym (kind_is k front l.piece) ∙ ap kind_at parts.0 ∙ kind_is r.0 other.0 other.2 in
-    r.2 ∙ ap (λ v. Some (v, r.1)) (sym kinds) ∙ ap (λ v. Some (k, v)) (sym parts.1)
+    let of_kind : ◌≡◌ {A = Option (PieceKind × List ℕ)} (Some (r.0, r.1)) (Some (k, rest)) = cc (kinds, parts.1) in
+    r.2 ∙ of_kind

@@ -24,10 +24,10 @@ pub data IsTrees (source : List ℕ) : List Piece → Trees → List Piece → T
   none : {rest : List Piece} → IsTrees source rest end rest
   blank : {p : Piece} {ps rest : List Piece} {ts : Trees} → (p.kind ≡ Space) ⊎ (p.kind ≡ Comment) → IsTrees source ps ts rest → IsTrees source (p ∷ ps) ts rest
   lone : {p : Piece} {k : TokenKind} {ps rest : List Piece} {ts : Trees} → p.kind ≡ Token k → IsTrees source ps ts rest
-    → IsTrees source (p ∷ ps) (token (token_of source k p.span) ▸ ts) rest
+      → IsTrees source (p ∷ ps) (token (token_of source k p.span) ▸ ts) rest
   grouped : {p q : Piece} {b : Bracket} {span : Span} {ps mid rest : List Piece} {inner ts : Trees}
-    → p.kind ≡ Open b → IsTrees source ps inner (q ∷ mid) → q.kind ≡ Close b → span.start ≡ p.span.start → span.end ≡ q.span.end → IsTrees source mid ts rest
-    → IsTrees source (p ∷ ps) (group b inner span ▸ ts) rest
+      → p.kind ≡ Open b → IsTrees source ps inner (q ∷ mid) → q.kind ≡ Close b → span.start ≡ p.span.start → span.end ≡ q.span.end → IsTrees source mid ts rest
+      → IsTrees source (p ∷ ps) (group b inner span ▸ ts) rest
 
 -- ---- readers of pieces
 

@@ -7,5 +7,4 @@ ghost use Rattle.lexing.specs.Cut.{IsCut};
 /// A source has at most one list of token trees.
 pub fn one_cut()
     ensures { (source : List ℕ) (ts us : Trees) → IsCut source ts → IsCut source us → ts ≡ us }
-{
-}
+{}

@@ -35,7 +35,7 @@ pub fn lex(alloc: Global, source: &str) -> Result<List<TokenTree>, DeriveError>
     }
 }
 
-fn token_trees(alloc: Global, source: &str) -> Result<List<TokenTree>, LexError>
+pub fn token_trees(alloc: Global, source: &str) -> Result<List<TokenTree>, LexError>
     ensures found { IfOk result (λ trees. IsCut source.now (trees_view trees)) }
     ensures refused { IfErr result (λ e. IsUnread source.now e) }
 {

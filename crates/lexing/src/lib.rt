@@ -6,6 +6,8 @@ mod lexer;
 mod nest;
 mod piece;
 mod scan;
+#[cfg(test)]
+mod tests;
 mod token;
 
 pub use laws::one_cut;

@@ -23,6 +23,17 @@ pub fn split_first_piece(pieces: &[Piece]) -> Option<(Piece, &[Piece])>
     }
 }
 
+/// The empty span at the end of the source.
+fn end_of(source: &str) -> Span
+    ensures start { result.start ≡ length source.now }
+    ensures end { result.end ≡ length source.now }
+{
+    Span {
+        start: source.len(),
+        end: source.len(),
+    }
+}
+
 /// The token of the span.
 fn token_at(
     alloc: Global,
@@ -92,10 +103,7 @@ fn group_at<'p>(
     }
     let (trees, rest) = trees_at(alloc, source, pieces, left - 1)?;
     match split_first_piece(rest) {
-        None => Err(LexError::Stopped(Span {
-            start: source.len(),
-            end: source.len(),
-        })),
+        None => Err(LexError::Stopped(end_of(source))),
         Some((closing, mid)) => {
             if closing.kind != PieceKind::Close(bracket) {
                 return Err(LexError::Stopped(closing.span));

@@ -43,7 +43,10 @@ fn split_first_char(text: &str) -> Option<(char, &str)>
 fn is_white(c: char) -> bool
     ensures { result ≡ is_white c }
 {
-    matches!(c, '\u{9}'..='\u{d}' | ' ' | '\u{85}' | '\u{200e}' | '\u{200f}' | '\u{2028}' | '\u{2029}')
+    matches!(
+        c,
+        '\u{9}'..='\u{d}' | ' ' | '\u{85}' | '\u{200e}' | '\u{200f}' | '\u{2028}' | '\u{2029}'
+    )
 }
 
 fn is_sign(c: char) -> bool
@@ -178,7 +181,10 @@ fn first_char_span(source: &str, rest: &str) -> Span
 {
     let start = source.len() - rest.len();
     match split_first_char(rest) {
-        Some((_, after)) => Span { start, end: source.len() - after.len() },
+        Some((_, after)) => Span {
+            start,
+            end: source.len() - after.len(),
+        },
         None => Span { start, end: start },
     }
 }

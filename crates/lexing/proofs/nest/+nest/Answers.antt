@@ -29,20 +29,17 @@ group_at-invariant_of-span t c =
 pub group_at-returns-in-None-clause-value : goal.group_at-returns-in-None-clause-value
 group_at-returns-in-None-clause-value t c = λ k.
     let read = c.in_ok-trees.ensures.value in
-    let size : ℕ = length c.args.source.now in
-    let h : size ≤ size = omega arith in
-    let span : Span = record { start = size; end = size; ordered = h } in
-    unnested_open c.args.source.now c.args.left c.args.bracket c.args.opening c.args.pieces.now c.in_ok-trees.rest.now (trees_view c.in_ok-trees.trees) span h k read.0 read.1
+    let end_lies : c.end_of.result.end ≤ length c.args.source.now = omega (arith, c.end_of.ensures.end) in
+    unnested_open c.args.source.now c.args.left c.args.bracket c.args.opening c.args.pieces.now c.in_ok-trees.rest.now (trees_view c.in_ok-trees.trees) c.end_of.result end_lies k read.0 read.1
     (λ q mid e l. let nothing = c.in-None.ensures in cc)
 
 pub group_at-returns-else-ne-clause-value : goal.group_at-returns-else-ne-clause-value
 group_at-returns-else-ne-clause-value t c =
     let read = c.in_ok-trees.ensures.value in
     let closes : c.in-Some.closing.kind ≡ Close c.args.bracket = search rules in
-    let some : c.args.left ≡ 0 → ⊥ = c.if-left-eq0.false in
-    (
+    let some : c.args.left ≡ 0 → ⊥ = c.if-left-eq0.false in (
       group_read c.args.source.now _ c.args.opening c.in-Some.closing c.args.pieces.now c.in_ok-trees.rest.now c.in-Some.mid.now read.0 c.in-Some.ensures closes refl refl,
-      group_depth _ c.args.left some read.2
+      group_depth _ c.args.left some read.2,
     )
 
 pub trees_at-pieces-init : goal.trees_at-pieces-init
@@ -50,7 +47,7 @@ trees_at-pieces-init t c = record {
   shorter = omega arith;
   lie = c.requires.1.1;
   read = rw c.new-found.ensures none;
-  shallow = rw c.new-found.ensures (omega arith)
+  shallow = rw c.new-found.ensures (omega arith);
 }
 
 pub trees_at-pieces-preserved-in-Space : goal.trees_at-pieces-preserved-in-Space
@@ -61,7 +58,7 @@ trees_at-pieces-preserved-in-Space t c =
       shorter = omega (arith, kept.shorter, ap length c.in-Some.ensures);
       lie = here.3;
       read = past_blank c.args.source.now c.args.pieces.now c.pieces.rest.now c.in-Some.after.now (trees_view c.pieces.found) c.in-Some.piece kept.read c.in-Some.ensures (inl c.in-Space.is);
-      shallow = kept.shallow
+      shallow = kept.shallow;
     }
 
 pub trees_at-pieces-preserved-in-Comment : goal.trees_at-pieces-preserved-in-Comment
@@ -72,7 +69,7 @@ trees_at-pieces-preserved-in-Comment t c =
       shorter = omega (arith, kept.shorter, ap length c.in-Some.ensures);
       lie = here.3;
       read = past_blank c.args.source.now c.args.pieces.now c.pieces.rest.now c.in-Some.after.now (trees_view c.pieces.found) c.in-Some.piece kept.read c.in-Some.ensures (inr c.in-Comment.is);
-      shallow = kept.shallow
+      shallow = kept.shallow;
     }
 
 pub trees_at-pieces-preserved-in-Token : goal.trees_at-pieces-preserved-in-Token
@@ -88,8 +85,8 @@ trees_at-pieces-preserved-in-Token t c =
       shorter = omega (arith, kept.shorter, ap length c.in-Some.ensures);
       lie = here.3;
       read = subst (λ v. IsTrees source c.args.pieces.now v c.in-Some.after.now) (sym pushed)
-        (past_token source c.args.pieces.now c.pieces.rest.now c.in-Some.after.now found c.in-Some.piece c.in-Token.kind kept.read c.in-Some.ensures c.in-Token.is);
-      shallow = subst (λ v. depth v ≤ c.args.left) (sym pushed) (depth_push found tree c.args.left kept.shallow (omega arith))
+          (past_token source c.args.pieces.now c.pieces.rest.now c.in-Some.after.now found c.in-Some.piece c.in-Token.kind kept.read c.in-Some.ensures c.in-Token.is);
+      shallow = subst (λ v. depth v ≤ c.args.left) (sym pushed) (depth_push found tree c.args.left kept.shallow (omega arith));
     }
 
 pub trees_at-pieces-preserved : goal.trees_at-pieces-preserved
@@ -107,8 +104,8 @@ trees_at-pieces-preserved t c =
       shorter = omega (arith, kept.shorter, ap length c.in-Some.ensures, c.in_ok-group-in-Open.ensures.shorter);
       lie = inside.3;
       read = subst (λ v. IsTrees source c.args.pieces.now v c.in_ok-group-in-Open.mid.now) (sym pushed)
-        (past_group source c.args.pieces.now c.pieces.rest.now c.in-Some.after.now c.in_ok-group-in-Open.mid.now found c.in-Some.piece c.in-Open.bracket tree kept.read c.in-Some.ensures c.in-Open.is read.0);
-      shallow = subst (λ v. depth v ≤ c.args.left) (sym pushed) (depth_push found tree c.args.left kept.shallow read.1)
+          (past_group source c.args.pieces.now c.pieces.rest.now c.in-Some.after.now c.in_ok-group-in-Open.mid.now found c.in-Some.piece c.in-Open.bracket tree kept.read c.in-Some.ensures c.in-Open.is read.0);
+      shallow = subst (λ v. depth v ≤ c.args.left) (sym pushed) (depth_push found tree c.args.left kept.shallow read.1);
     }
 
 pub trees_at-returns-in_err-group-in-Open-clause-value : goal.trees_at-returns-in_err-group-in-Open-clause-value

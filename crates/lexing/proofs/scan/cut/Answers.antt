@@ -10,20 +10,21 @@ use Rattle.lexing.proofs.scan.cut.Goals as goal
 
 pub pieces-init : goal.pieces-init
 pieces-init c =
-    let none : length c.args.source.now - length c.args.source.now ≡ 0 = omega arith in
-    (
+    let none : length c.args.source.now - length c.args.source.now ≡ 0 = omega arith in (
       c.utf8.source,
       omega arith,
       (λ ps h. rw c.new-found.ensures (subst (λ v. Cuts ps v (chars c.args.source.now)) none h)),
-      (λ all h. (all, subst (λ v. Cuts all v (chars c.args.source.now)) (sym none) h))
+      (λ all h. (all, subst (λ v. Cuts all v (chars c.args.source.now)) (sym none) h)),
     )
 
 pub returns-in-None-clause-refused : goal.returns-in-None-clause-refused
-returns-in-None-clause-refused c =
-    (c.first_char_span.ensures, λ all h.
+returns-in-None-clause-refused c = (
+  c.first_char_span.ensures,
+  λ all h.
       let left = c.pieces.invariant.3 all h in
       let more = chars_nonempty c.pieces.rest.now c.pieces.invariant.0 (eqb-false (length c.pieces.rest.now) 0 (sym c.pieces-test.ensures)) in
-      no_cuts left.0 (length c.args.source.now - length c.pieces.rest.now) (chars c.pieces.rest.now) more c.in-None.ensures left.1)
+      no_cuts left.0 (length c.args.source.now - length c.pieces.rest.now) (chars c.pieces.rest.now) more c.in-None.ensures left.1,
+)
 
 pub pieces-preserved : goal.pieces-preserved
 pieces-preserved c =
@@ -33,14 +34,13 @@ pieces-preserved c =
     let kept = c.pieces.invariant in
     let utf8 : IsUtf8 after = c.in-Some.ensures.2 in
     let bytes : (front : List ℕ) → chars rest ≡ front ++ chars after → length source - length after ≡ (length source - length rest) + length (encode_utf8_all front) =
-    λ front e. let taken = front_bytes rest after front kept.0 utf8 e in omega (arith, kept.1) in
-    (
+    λ front e. let taken = front_bytes rest after front kept.0 utf8 e in omega (arith, kept.1) in (
       utf8,
       omega (arith, kept.1, c.in-Some.ensures.1),
       cuts_pushed _ c.pieces.found _ (length source - length rest) (length source - length after) (chars source) (chars rest) (chars after) c.in_ok-push-in-Some.ensures.ok c.in-Some.ensures.0 refl refl bytes kept.2,
       (λ all h.
-        let left = kept.3 all h in
-        cuts_left left.0 (length source - length rest) (length source - length after) (chars rest) (chars after) c.in-Some.kind c.in-Some.ensures.0 bytes left.1)
+          let left = kept.3 all h in
+          cuts_left left.0 (length source - length rest) (length source - length after) (chars rest) (chars after) c.in-Some.kind c.in-Some.ensures.0 bytes left.1),
     )
 
 pub returns-clause-found : goal.returns-clause-found

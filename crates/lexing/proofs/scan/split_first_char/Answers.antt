@@ -11,11 +11,10 @@ returns-in-Some c =
     let first = c.in-Some.c in
     let rest = c.as_str.result.now in
     let parts : c.args.text.now ≡ encode_utf8 first ++ rest =
-    sym c.chars-chars.ensures.rest ∙ c.in-Some.ensures.steps.0 ∙ ap (λ t. encode_utf8 first ++ t) (sym c.as_str.ensures) in
-    (
+    sym c.chars-chars.ensures.rest ∙ c.in-Some.ensures.steps.0 ∙ ap (λ t. encode_utf8 first ++ t) (sym c.as_str.ensures) in (
       chars_past_char _ rest first c.utf8.text parts,
       omega (arith, ap length parts, length-append (encode_utf8 first) rest, encode_utf8_nonempty first),
-      IsUtf8-past_char _ rest first c.utf8.text parts
+      IsUtf8-past_char _ rest first c.utf8.text parts,
     )
 
 pub returns-in-None : goal.returns-in-None

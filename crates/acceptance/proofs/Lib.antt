@@ -1,0 +1,6 @@
+mod Below
+mod Components
+mod Levels
+mod Prefixes
+mod Schemas
+pub mod Views

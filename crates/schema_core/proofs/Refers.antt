@@ -1,0 +1,100 @@
+-- The references of the JSON of a schema are the leaves of the tree.
+use Rattle.std.proofs.Common.{ℕ, ℤ, List, [], ◌∷◌, Bool, true, false, Option, Some, None, option_map, codes, nat_cmp, Ordering, Less, Equal, Greater, ◌≡◌, refl, sym, subst, IsTrue}
+use Rattle.std.specs.Cmp.Lexicographic.{slice_cmp}
+use Rattle.std.specs.Ordering.{match_ordering}
+use Rattle.acceptance.specs.Json.{Json, number, text, list, map, Items, Members, no_members, member, put, put_given, put_all}
+use Rattle.acceptance.specs.Keyword.{keyword_of}
+use Rattle.acceptance.specs.References.{EachReference, InMembers, InProperties, InSchemas, InItems, InEach, ReferenceHas, AtKeyword}
+use Rattle.schema_core.specs.declared.tree.TypeWord.{TypeWord}
+use Rattle.schema_core.specs.declared.tree.TypeWord.TheVariants.{Any, One, Nullable}
+use Rattle.schema_core.specs.declared.tree.RefLeaf.{RefLeaf}
+use Rattle.schema_core.specs.Schema.{SchemaOf, leaf, object, array, one_of, SchemasOf, no_schemas, schema, PropertiesOf, no_properties, property, EachLeaf, EachSchemaLeaf, EachPropertyLeaf}
+use Rattle.schema_core.specs.Form.{type_form, required_form, entries_form, array_word, put_fields, object_fields, form, schema_forms, property_forms}
+use Rattle.schema_core.proofs.Fields.{equal_names}
+
+module _ (Q : List ℕ → Type 0) where
+  -- what is asked of a member, and of a field that may be left out
+  abbrev AtMember : List ℕ → Json → Type 0
+  AtMember k x = AtKeyword (keyword_of k) (EachReference Q x) (InProperties Q x) (InSchemas Q x) (ReferenceHas Q x)
+
+  abbrev AtField : List ℕ → Option Json → Type 0
+  AtField k None = Unit {0}
+  AtField k (Some x) = AtMember k x
+
+  abbrev AtFields : List (List ℕ × Option Json) → Type 0
+  AtFields [] = Unit {0}
+  AtFields (f ∷ fs) = AtField f.0 f.1 × AtFields fs
+
+  in-put : (k : List ℕ) (x : Json) (ms : Members) → AtMember k x → InMembers Q ms → InMembers Q (put k x ms)
+  in-put k x no_members h hs = (h, tt)
+  in-put k x (member l y ms) h hs = by (slice_cmp nat_cmp k l) refl (in-put k x ms h hs.1)
+    where
+      by : (o : Ordering) → slice_cmp nat_cmp k l ≡ o → InMembers Q (put k x ms) → InMembers Q (match_ordering o (member k x (member l y ms)) (member l x ms) (member l y (put k x ms)))
+      by Less e ih = (h, hs)
+      by Equal e ih = (subst (λ n. AtMember n x) (equal_names k l e) h, hs.1)
+      by Greater e ih = (hs.0, ih)
+
+  in-given : (k : List ℕ) (o : Option Json) (ms : Members) → AtField k o → InMembers Q ms → InMembers Q (put_given k o ms)
+  in-given k None ms h hs = hs
+  in-given k (Some x) ms h hs = in-put k x ms h hs
+
+  in-fields : (fs : List (List ℕ × Option Json)) (ms : Members) → AtFields fs → InMembers Q ms → InMembers Q (put_fields fs ms)
+  in-fields [] ms h hs = hs
+  in-fields (f ∷ fs) ms h hs = in-fields fs (put_given f.0 f.1 ms) h.1 (in-given f.0 f.1 ms h.0 hs)
+
+  -- maps of schemas
+  abbrev InEntries : List (List ℕ × Json) → Type 0
+  InEntries [] = Unit {0}
+  InEntries (p ∷ ps) = EachReference Q p.1 × InEntries ps
+
+  each-put : (k : List ℕ) (x : Json) (ms : Members) → EachReference Q x → InEach Q ms → InEach Q (put k x ms)
+  each-put k x no_members h hs = (h, tt)
+  each-put k x (member l y ms) h hs = by (slice_cmp nat_cmp k l) (each-put k x ms h hs.1)
+    where
+      by : (o : Ordering) → InEach Q (put k x ms) → InEach Q (match_ordering o (member k x (member l y ms)) (member l x ms) (member l y (put k x ms)))
+      by Less ih = (h, hs)
+      by Equal ih = (h, hs.1)
+      by Greater ih = (hs.0, ih)
+
+  each-put_all : (ps : List (List ℕ × Json)) (ms : Members) → InEntries ps → InEach Q ms → InEach Q (put_all ps ms)
+  each-put_all [] ms h hs = hs
+  each-put_all (p ∷ ps) ms h hs = each-put_all ps (put p.0 p.1 ms) h.1 (each-put p.0 p.1 ms h.0 hs)
+
+  -- fields without a schema
+  at-type : (t : TypeWord) → AtField (codes "type") (type_form t)
+  at-type Any = tt
+  at-type (One w) = tt
+  at-type (Nullable w) = tt
+
+  at-format : (o : Option (List ℕ)) → AtField (codes "format") (option_map text o)
+  at-format None = tt
+  at-format (Some x) = tt
+
+  at-required : (ks : List (List ℕ)) → AtField (codes "required") (required_form ks)
+  at-required [] = tt
+  at-required (k ∷ ks) = tt
+
+  at-minimum : (o : Option ℤ) → AtField (codes "minimum") (option_map number o)
+  at-minimum None = tt
+  at-minimum (Some x) = tt
+
+  at-properties : (ps : List (List ℕ × Json)) → InEntries ps → AtField (codes "properties") (entries_form ps)
+  at-properties [] h = tt
+  at-properties (p ∷ ps) h = each-put_all (p ∷ ps) no_members h tt
+
+  mutual
+    pub form-refers : (s : SchemaOf RefLeaf) → EachLeaf (λ r. Q r.name) s → EachReference Q (form s)
+    form-refers (leaf r) h = (h, tt)
+    form-refers (object facts ps) h =
+        in-fields (object_fields facts (property_forms ps)) no_members
+        (at-type facts.type_word, (at-format facts.format, (at-properties (property_forms ps) (properties-refer ps h), (at-required facts.required, (at-minimum facts.minimum, tt))))) tt
+    form-refers (array n s) h = in-fields ((codes "type", type_form (array_word n)) ∷ (codes "items", Some (form s)) ∷ []) no_members (at-type (array_word n), (form-refers s h, tt)) tt
+    form-refers (one_of ss) h = (schemas-refer ss h, tt)
+
+    pub schemas-refer : (ss : SchemasOf RefLeaf) → EachSchemaLeaf (λ r. Q r.name) ss → InItems Q (schema_forms ss)
+    schemas-refer no_schemas h = tt
+    schemas-refer (schema s ss) h = (form-refers s h.0, schemas-refer ss h.1)
+
+    pub properties-refer : (ps : PropertiesOf RefLeaf) → EachPropertyLeaf (λ r. Q r.name) ps → InEntries (property_forms ps)
+    properties-refer no_properties h = tt
+    properties-refer (property k s ps) h = (form-refers s h.0, properties-refer ps h.1)

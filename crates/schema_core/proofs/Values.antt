@@ -1,0 +1,65 @@
+-- Lists of values, built one by one.
+use Rattle.std.proofs.Common.{ℕ, suc, ◌+◌, ◌<◌, Some, Option, rules, arith, List, [], ◌∷◌, ◌++◌, ◌≡◌, refl, ap, sym, ◌∙◌, length, take, get_or, map as map_list}
+use Rattle.std.proofs.lemmas.List.{take_more, map-append}
+use Rattle.serde_json.specs.Data.{Data, string, item as data_item, put as put_data, Members as DataMembers}
+use Rattle.serde_json.specs.View.{items_of}
+use Rattle.acceptance.specs.Json.{Json, Members, put, put_all, no_members, map_of}
+use Rattle.acceptance.specs.Data.{data_of, items_data, members_data}
+use Rattle.schema_core.specs.declared.tree.Tree.{Tree, the_lemmas}
+use Rattle.schema_core.specs.declared.tree.Object.{Object}
+use Rattle.schema_core.specs.declared.tree.RefLeaf.{RefLeaf}
+use Rattle.schema_core.specs.Schema.{Facts, object, object_view, schema_view, tree_views, named_views}
+use Rattle.schema_core.specs.Form.{form, schema_forms, property_forms, texts_form, entries_form}
+use Rattle.schema_core.proofs.Puts.{data_put}
+
+pub texts_items : (ts : List (List ℕ)) → items_of (map_list string ts) ≡ items_data (texts_form ts)
+texts_items [] = refl
+texts_items (t ∷ ts) = ap (data_item (string t)) (texts_items ts)
+
+abbrev pub schema_data : Tree RefLeaf → Data
+schema_data s = data_of (form (schema_view s))
+
+pub schemas_items : (ss : List (Tree RefLeaf)) → items_of (map_list schema_data ss) ≡ items_data (schema_forms (tree_views (λ l. l) ss))
+schemas_items [] = refl
+schemas_items (s ∷ ss) = ap (data_item (schema_data s)) (schemas_items ss)
+
+-- a property's name and the form of its schema
+abbrev pub property_form : List ℕ × Tree RefLeaf → List ℕ × Json
+property_form p = (p.0, form (schema_view p.1))
+
+pub properties_are : (ps : List (List ℕ × Tree RefLeaf)) → map_list property_form ps ≡ property_forms (named_views (λ l. l) ps)
+properties_are [] = refl
+properties_are (p ∷ ps) = ap (λ es. property_form p ∷ es) (properties_are ps)
+
+put_all_last : (es : List (List ℕ × Json)) (e : List ℕ × Json) (ms : Members) → put_all (es ++ e ∷ []) ms ≡ put e.0 e.1 (put_all es ms)
+put_all_last [] e ms = refl
+put_all_last (x ∷ es) e ms = put_all_last es e (put x.0 x.1 ms)
+
+-- one more of a list of entries is put last
+pub put_step : {X : Type 0} (f : X → List ℕ × Json) (xs : List X) (i : ℕ) (x : X) → i < length xs → x ≡ get_or xs i x →
+    (name : List ℕ) (d : Data) (old new : DataMembers) → name ≡ (f x).0 → d ≡ data_of (f x).1 →
+    old ≡ members_data (put_all (map_list f (take i xs)) no_members) → new ≡ put_data name d old →
+    new ≡ members_data (put_all (map_list f (take (i + 1) xs)) no_members)
+put_step f xs i x h here name d old new n e o p =
+    let before = put_all (map_list f (take i xs)) no_members in
+    let more : put_all (map_list f (take (i + 1) xs)) no_members ≡ put (f x).0 (f x).1 before =
+    ap (λ ys. put_all (map_list f ys) no_members) (take_more xs i x h) ∙ ap (λ ys. put_all ys no_members) (map-append f (take i xs) (get_or xs i x ∷ []))
+    ∙ put_all_last (map_list f (take i xs)) (f (get_or xs i x)) no_members ∙ ap (λ y. put (f y).0 (f y).1 before) (sym here) in
+    p ∙ ap (λ k. put_data k d old) n ∙ ap (λ y. put_data (f x).0 y old) e ∙ ap (put_data (f x).0 (data_of (f x).1)) o
+    ∙ data_put (f x).0 (f x).1 before ∙ ap members_data (sym more)
+
+abbrev pub facts_of : Object RefLeaf → Facts
+facts_of o = record { type_word = o.ty; format = o.format; required = o.required; minimum = o.minimum }
+
+-- an object by its fields
+pub object_view-is : (o : Object RefLeaf) → object_view (λ l. l) o ≡ object (facts_of o) (named_views (λ l. l) o.properties)
+object_view-is o = search (rules, the_lemmas)
+
+-- a map of entries, of which there is one
+pub some_entries : (es : List (List ℕ × Json)) (n : ℕ) → n ≡ length es → 0 < n → entries_form es ≡ Some (map_of es)
+some_entries [] n e h = absurd (omega arith)
+some_entries (x ∷ es) n e h = refl
+
+pub length-properties : (ps : List (List ℕ × Tree RefLeaf)) → length ps ≡ length (property_forms (named_views (λ l. l) ps))
+length-properties [] = refl
+length-properties (p ∷ ps) = ap suc (length-properties ps)

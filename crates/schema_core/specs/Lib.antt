@@ -1,0 +1,8 @@
+pub mod Bound
+pub mod Code
+pub mod Document
+pub mod Entries
+pub mod Form
+pub mod Meaning
+pub mod Members
+pub mod Schema
