@@ -6,7 +6,6 @@ use Rattle.diag.specs.declared.error.DeriveError.TheVariants as errors
 use Rattle.diag.specs.declared.kind.Kind.TheVariants.{Syntax}
 use Rattle.diag.specs.declared.span.Span.{Span}
 use Rattle.lexing.specs.declared.token.Token.{Token}
-use Rattle.lexing.specs.declared.token.Group.{Group}
 use Rattle.lexing.specs.Trees.{Trees, trees_view}
 use Rattle.syntax.specs.declared.written.Ident.{Ident}
 use Rattle.syntax.specs.declared.words.Sign.{Sign}

@@ -1,15 +1,14 @@
 -- What a token tree is to the grammar of structs (The Rust Reference, "Keywords", "Identifiers", "Punctuation").
-use Rattle.std.specs.Prelude.{ℕ, List, [], ◌∷◌, ◌++◌, Bool, cond, Option, Some, None, codes}
+use Rattle.std.specs.Prelude.{ℕ, List, [], ◌∷◌, ◌++◌, Bool, cond, codes}
 use Rattle.std.specs.List.{list_any}
 use Rattle.std.specs.Str.{bytes_eq}
 use Rattle.diag.specs.declared.span.Span.{Span}
 use Rattle.lexing.specs.declared.token.TokenKind.{TokenKind}
 use Rattle.lexing.specs.declared.token.TokenKind.TheVariants as kind
-use Rattle.lexing.specs.declared.token.Token.{Token}
 use Rattle.lexing.specs.declared.token.Bracket.{Bracket}
 use Rattle.lexing.specs.declared.token.Bracket.TheVariants.{Round, Square, Curly}
 use Rattle.lexing.specs.declared.token.TokenTree.{TokenTree}
-use Rattle.lexing.specs.Trees.{Tree, token, group, Trees, end, ◌▸◌, tree_view, trees_view}
+use Rattle.lexing.specs.Trees.{Tree, token, group, Trees, end, ◌▸◌, trees_view}
 use Rattle.syntax.specs.declared.written.Ident.{Ident}
 use Rattle.syntax.specs.declared.words.Sign.{Sign}
 use Rattle.syntax.specs.declared.words.Sign.TheVariants.{Colon, Comma, Less, Greater}
