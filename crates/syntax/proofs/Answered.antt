@@ -1,5 +1,5 @@
 -- What the public reader ensures, from what it read.
-use Rattle.std.proofs.Common.{◌≡◌, ◌≢◌, ℕ, ◌≤◌, ◌⊎◌, inl, inr, List, length, refl, sym, ◌∙◌, subst, Option, Some, None}
+use Rattle.std.proofs.Common.{◌≡◌, ◌≢◌, ℕ, ◌⊎◌, inl, inr, List, length, refl, subst, Option, Some, None}
 use Rattle.diag.specs.declared.error.DeriveError.{DeriveError}
 use Rattle.diag.specs.declared.error.DeriveError.TheVariants as errors
 use Rattle.lexing.specs.Trees.{Trees}
@@ -8,7 +8,7 @@ use Rattle.syntax.specs.declared.words.Stop.{Stop}
 use Rattle.syntax.specs.declared.words.Stop.TheVariants as stop
 use Rattle.syntax.specs.Declarations.{DeclaredStruct}
 use Rattle.syntax.specs.Words.{words_of}
-use Rattle.syntax.specs.Reading.{Fails, many_of, declaration_at, IsPlaced, IsRefusalOf}
+use Rattle.syntax.specs.Reading.{Fails, many_of, declaration_at, IsRefusalOf}
 use Rattle.syntax.specs.Grammar.{IsSource}
 use Rattle.syntax.specs.Source.{Reads, IsUnreadable}
 use Rattle.syntax.proofs.Read.{source_sound}

@@ -1,9 +1,9 @@
 -- What is in the grammar, and nests at most 64 levels, is read; so a source has one reading.
-use Rattle.std.proofs.Common.{◌≡◌, ℕ, zero, suc, ◌<◌, ◌≤◌, List, [], ◌∷◌, length, refl, ap, sym, ◌∙◌, arith, cond, true, Option, Some, None}
+use Rattle.std.proofs.Common.{◌≡◌, ℕ, zero, suc, ◌<◌, ◌≤◌, List, [], ◌∷◌, length, refl, ap, sym, ◌∙◌, arith, cond, Some, None}
 use Rattle.std.specs.List.{AllByRecursion}
-use Rattle.syntax.specs.declared.words.Sign.TheVariants.{Comma, Less, Greater}
-use Rattle.syntax.specs.Declarations.{Written, named, applied, span_of, cover, nesting, FieldItem, DeclaredStruct}
-use Rattle.syntax.specs.Words.{Word, name, sign, is_container, words_of}
+use Rattle.syntax.specs.declared.words.Sign.TheVariants.{Less, Greater}
+use Rattle.syntax.specs.Declarations.{Written, applied, span_of, cover, nesting, FieldItem, DeclaredStruct}
+use Rattle.syntax.specs.Words.{Word}
 use Rattle.syntax.specs.Reading.{Read, ◌>>=◌, sign_at, after_name, type_step, type_at, most_levels, field_at, field_turn, after_comma, many_of, declaration_at}
 use Rattle.syntax.specs.Grammar.{IsType, alone, with_argument, IsField, private_field, public_field, IsFieldList, no_fields, last_field, more_fields, IsStruct, private_struct, public_struct, IsSource, nothing, another, IsShallowField, IsShallow}
 use Rattle.syntax.proofs.Many.{many_none, many_more}

@@ -1,5 +1,5 @@
 -- The readers by the branches of their code.
-use Rattle.std.proofs.Common.{[], ◌∷◌, cond, ◌≡◌, ℕ, zero, suc, ◌-◌, ◌<◌, List, length, refl, ap, sym, ◌∙◌, true, subst, arith, Some, None, sub-one}
+use Rattle.std.proofs.Common.{[], ◌∷◌, cond, ◌≡◌, ℕ, zero, suc, ◌-◌, ◌<◌, List, length, refl, ap, ◌∙◌, true, arith, Some, None, sub-one}
 use Rattle.lexing.specs.declared.token.TokenTree.{TokenTree}
 use Rattle.diag.specs.declared.span.Span.{Span}
 use Rattle.syntax.specs.declared.written.Ident.{Ident}

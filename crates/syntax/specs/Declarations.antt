@@ -14,11 +14,13 @@ pub data Written : Type 0 where
   named : Ident → Written
   applied : Ident → Written → Span → Written
 
+-- the span goes from `pub`, or else from the name, to the end of the type
 pub record FieldItem : Type 0 where
   pub ident : Ident
   pub ty : Written
   pub span : Span
 
+-- the span goes from `pub`, or else from `struct`, to the closing bracket
 pub record DeclaredStruct : Type 0 where
   pub ident : Ident
   pub fields : List FieldItem

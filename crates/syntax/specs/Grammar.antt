@@ -1,5 +1,5 @@
 -- The grammar of struct declarations (The Rust Reference, "Structs"). In `IsX before x rest` the words before begin with an x, and rest is what follows it.
-use Rattle.std.specs.Prelude.{◌≡◌, ℕ, ◌≤◌, Bool, true, List, [], ◌∷◌}
+use Rattle.std.specs.Prelude.{◌≡◌, ◌≤◌, true, List, [], ◌∷◌}
 use Rattle.std.specs.List.{AllByRecursion}
 use Rattle.diag.specs.declared.span.Span.{Span}
 use Rattle.lexing.specs.Trees.{Trees}

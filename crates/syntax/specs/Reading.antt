@@ -6,7 +6,6 @@ use Rattle.diag.specs.declared.error.DeriveError.TheVariants as errors
 use Rattle.diag.specs.declared.kind.Kind.TheVariants.{Syntax}
 use Rattle.diag.specs.declared.span.Span.{Span}
 use Rattle.lexing.specs.declared.token.Token.{Token}
-use Rattle.lexing.specs.declared.token.Group.{Group}
 use Rattle.lexing.specs.Trees.{Trees, trees_view}
 use Rattle.syntax.specs.declared.written.Ident.{Ident}
 use Rattle.syntax.specs.declared.words.Sign.{Sign}
@@ -27,12 +26,13 @@ abbrev pub ◌>>=◌ : {A B : Type 0} → Option A → (A → Option B) → Opti
 None >>= f = None
 (Some x) >>= f = f x
 
--- What a function returned, seen by view, is what reading gives, unless memory ran out.
+-- a function stopped where nothing can be read, unless memory ran out
 abbrev pub Fails : {Y : Type 0} → Stop → Option Y → Type 0
 Fails (stop.Unexpected s) read = read ≡ None
 Fails stop.Ended read = read ≡ None
 Fails stop.Memory read = Unit {0}
 
+-- what a function returned, seen by view, is what can be read
 abbrev pub Gives : {X Y : Type 0} → (X → Y) → Result X Stop → Option Y → Type 0
 Gives view (Ok x) read = read ≡ Some (view x)
 Gives view (Err e) read = Fails e read
@@ -55,6 +55,7 @@ IsRefusalOf s bytes e = (e ≡ errors.Memory) ⊎ ((s ≢ stop.Memory) × IsPlac
 abbrev pub token_ident : Token → Ident
 token_ident t = record { text = t.text; span = t.span }
 
+-- what the program's words are
 abbrev pub word_view : program.Word → Word
 word_view (words.Name t) = name (token_ident t.now)
 word_view (words.Pub s) = pub_word s
@@ -63,6 +64,7 @@ word_view (words.Sign k s) = sign k s
 word_view (words.Braces g) = braces (trees_view g.now.trees) g.now.span
 word_view words.Other = other
 
+-- a name, the word `struct`, a sign and a group in curly brackets
 abbrev pub name_at : List Word → Read Ident
 name_at [] = None
 name_at (name x ∷ ws) = Some (x, ws)
@@ -138,6 +140,7 @@ type_at (suc n) ws = type_step (type_at n) ws
 abbrev pub most_levels : ℕ
 most_levels = 64
 
+-- "pub"? name ":" type
 unfoldable pub field_at : List Word → Read FieldItem
 field_at ws =
     let v = visibility ws in
@@ -156,6 +159,7 @@ many_at item (suc n) (w ∷ ws) = item (w ∷ ws) >>= λ p. many_at item n p.1 >
 unfoldable pub many_of : {A : Type 0} → (List Word → Read A) → List Word → Option (List A)
 many_of item ws = many_at item (suc (length ws)) ws
 
+-- "pub"? "struct" name "{" list of field "}"
 unfoldable pub declaration_at : List Word → Read DeclaredStruct
 declaration_at ws =
     let v = visibility ws in

@@ -1,19 +1,19 @@
 -- What a token tree is to the grammar of structs (The Rust Reference, "Keywords", "Identifiers", "Punctuation").
-use Rattle.std.specs.Prelude.{ℕ, List, [], ◌∷◌, ◌++◌, Bool, cond, Option, Some, None, codes}
+use Rattle.std.specs.Prelude.{ℕ, List, [], ◌∷◌, ◌++◌, Bool, cond, codes}
 use Rattle.std.specs.List.{list_any}
 use Rattle.std.specs.Str.{bytes_eq}
 use Rattle.diag.specs.declared.span.Span.{Span}
 use Rattle.lexing.specs.declared.token.TokenKind.{TokenKind}
 use Rattle.lexing.specs.declared.token.TokenKind.TheVariants as kind
-use Rattle.lexing.specs.declared.token.Token.{Token}
 use Rattle.lexing.specs.declared.token.Bracket.{Bracket}
 use Rattle.lexing.specs.declared.token.Bracket.TheVariants.{Round, Square, Curly}
 use Rattle.lexing.specs.declared.token.TokenTree.{TokenTree}
-use Rattle.lexing.specs.Trees.{Tree, token, group, Trees, end, ◌▸◌, tree_view, trees_view}
+use Rattle.lexing.specs.Trees.{Tree, token, group, Trees, end, ◌▸◌, trees_view}
 use Rattle.syntax.specs.declared.written.Ident.{Ident}
 use Rattle.syntax.specs.declared.words.Sign.{Sign}
 use Rattle.syntax.specs.declared.words.Sign.TheVariants.{Colon, Comma, Less, Greater}
 
+-- a name, the words `pub` and `struct`, a sign, what stands in curly brackets, and anything else
 pub data Word : Type 0 where
   name : Ident → Word
   pub_word : Span → Word
@@ -22,7 +22,7 @@ pub data Word : Type 0 where
   braces : Trees → Span → Word
   other : Word
 
--- the words that are no names, by their lengths
+-- the keywords and `_`, by their lengths
 abbrev pub reserved_of_1 : List (List ℕ)
 reserved_of_1 = codes "_" ∷ []
 
@@ -50,6 +50,7 @@ reserved_of_8 = codes "abstract" ∷ codes "continue" ∷ codes "override" ∷ [
 abbrev pub reserved_words : List (List ℕ)
 reserved_words = reserved_of_1 ++ (reserved_of_2 ++ (reserved_of_3 ++ (reserved_of_4 ++ (reserved_of_5 ++ (reserved_of_6 ++ (reserved_of_7 ++ reserved_of_8))))))
 
+-- the text is one of the words
 abbrev pub is_among : List ℕ → List (List ℕ) → Bool
 is_among text words = list_any (λ word. bytes_eq text word) words
 
@@ -60,6 +61,7 @@ is_reserved text = is_among text reserved_words
 abbrev pub is_container : List ℕ → Bool
 is_container text = is_among text (codes "Option" ∷ codes "Vec" ∷ [])
 
+-- what an identifier, a sign, a token and a group are
 abbrev pub identifier_word : List ℕ → Span → Word
 identifier_word text s =
     cond (bytes_eq text (codes "pub")) (pub_word s) (cond (bytes_eq text (codes "struct")) (struct_word s) (cond (is_reserved text) other (name (record { text = text; span = s }))))

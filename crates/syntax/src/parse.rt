@@ -54,7 +54,7 @@ fn refusal(alloc: Global, stop: Stop, bytes: usize) -> DeriveError
     }
 }
 
-/// The structs of the source.
+/// The structs of the source, by the grammar of this crate.
 ///
 /// A refusal is of kind `Syntax`, at the token or opening bracket that reading could not go on with, at the closing
 /// bracket of a group that ended too soon, or at the end of the source.
@@ -63,6 +63,7 @@ pub fn parse_declarations(alloc: Global, source: &str) -> Result<Declarations, D
     ensures refused { IfErr result (λ e. (e ≡ DeriveError.Memory) ⊎ IsUnreadable source.now e) }
 {
     let trees = lex(alloc, source)?;
+    // The source has no other trees, so what cannot be read of these cannot be read at all.
     one_cut();
     match declarations_of(alloc, trees.as_slice()) {
         Ok(items) => Ok(Declarations { items }),

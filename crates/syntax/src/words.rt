@@ -227,8 +227,8 @@ pub(crate) fn visibility(trees: &[TokenTree]) -> (Option<Span>, &[TokenTree])
     }
 }
 
-#[tactic(auto, using(crate::proofs::Turns::comma_follows))]
 /// What follows a comma, or nothing where nothing is left.
+#[tactic(auto, using(crate::proofs::Turns::comma_follows))]
 pub(crate) fn after_comma(trees: &[TokenTree]) -> Result<&[TokenTree], Stop>
     ensures value { Gives (λ rest. words_view rest.now) result (after_comma (words_view trees.now)) }
     ensures shorter { IfOk result (λ rest. length rest.now ≤ length trees.now) }

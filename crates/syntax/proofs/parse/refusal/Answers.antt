@@ -1,4 +1,4 @@
-use Rattle.std.proofs.Common.{◌≡◌, ◌⊎◌, inl, inr}
+use Rattle.std.proofs.Common.{inr}
 use Rattle.syntax.proofs.parse.refusal.Goals as goal
 
 pub returns-in-Ok : goal.returns-in-Ok

@@ -1,4 +1,4 @@
-use Rattle.std.proofs.Common.{◌<◌, length, sym, ◌∙◌, arith}
+use Rattle.std.proofs.Common.{sym, ◌∙◌, arith}
 use Rattle.std.proofs.Math.Bool.{or-false}
 use Rattle.syntax.proofs.Lengths.{reserved_outside, reserved_at_1, reserved_at_2, reserved_at_3, reserved_at_4, reserved_at_5, reserved_at_6, reserved_at_7, reserved_at_8}
 use Rattle.syntax.proofs.reserved.is_reserved.Goals as goal
