@@ -1,5 +1,5 @@
 -- Documents with the same components accept the same.
-use Rattle.std.proofs.Common.{ℕ, zero, suc, List, Bool, ◌≡◌, refl}
+use Rattle.std.proofs.Common.{ℕ, zero, suc, ◌≡◌, refl}
 use Rattle.acceptance.specs.Json.{Json}
 use Rattle.acceptance.specs.Acceptance.{component_accepts, if_component, accepts_with, accepts}
 use Rattle.acceptance.specs.Law.{SameComponents}

@@ -1,5 +1,5 @@
 -- What is looked up in a value nests less than the value.
-use Rattle.std.proofs.Common.{◌≡◌, ℕ, zero, suc, ◌+◌, ◌-◌, ◌*◌, ◌<◌, ◌≤◌, max, List, [], ◌∷◌, Bool, true, false, cond, bytes_eq, codes, Option, Some, None, option_and_then, refl, arith}
+use Rattle.std.proofs.Common.{◌≡◌, ℕ, zero, suc, ◌+◌, ◌-◌, ◌*◌, ◌<◌, ◌≤◌, max, List, Bool, true, false, cond, bytes_eq, codes, Option, Some, None, option_and_then, refl, arith}
 use Rattle.acceptance.specs.Json.{Json, null, boolean, number, text, list, map, Members, no_members, member, entries, look, member_of, levels, members_levels}
 use Rattle.acceptance.specs.Acceptance.{component_schema}
 

@@ -1,7 +1,7 @@
 -- When a JSON value, read as a schema of a document, accepts a JSON value (JSON Schema 2020-12: Core, 8.2.3.1 and 10; Validation, 6.1 to 6.5).
 -- This project's reading: `oneOf` asks for at least one, a reference leads to a component of the document (OpenAPI 3.1, "Components Object"),
 -- and a member that is not of its stated form binds nothing, like every member that is no keyword here.
-use Rattle.std.specs.Prelude.{ℕ, zero, suc, ◌%◌, ℤ, pos, negsuc, List, [], ◌∷◌, Bool, true, false, not, ◌&&◌, ◌||◌, ◌==◌, Option, Some, None, option_map, option_and_then, bytes_eq, nat_eq, int_le, length, drop, cond, codes, chars, IsTrue}
+use Rattle.std.specs.Prelude.{ℕ, zero, suc, ◌%◌, ℤ, pos, negsuc, List, [], ◌∷◌, Bool, true, false, not, ◌&&◌, ◌||◌, ◌==◌, Option, Some, None, option_map, option_and_then, nat_eq, int_le, length, drop, cond, codes, chars, IsTrue}
 use Rattle.std.specs.List.{list_all, list_any}
 use Rattle.acceptance.specs.Json.{Json, null, boolean, number, text, list, map, Items, no_items, item, Members, no_members, member, elements, entries, names, is_in, look, same, distinct, on_map, on_list, on_number, on_text, if_there, member_of}
 use Rattle.acceptance.specs.Keyword.{Keyword, keyword_of}

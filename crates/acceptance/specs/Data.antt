@@ -1,5 +1,5 @@
 -- What serde_json holds for a JSON value with whole numbers, and back.
-use Rattle.std.specs.Prelude.{ℕ, ℤ, pos, negsuc, List, [], ◌∷◌}
+use Rattle.std.specs.Prelude.{ℤ, pos, negsuc}
 use Rattle.serde_json.specs.Data.{Num, unsigned, negative, float, Data, Items as DataItems, Members as DataMembers, no_items as no_data, item as data_item, no_members as no_entries, member as entry, null as d_null, boolean as d_boolean, number as d_number, string, array, object}
 use Rattle.acceptance.specs.Json.{Json, null, boolean, number, text, list, map, Items, no_items, item, Members, no_members, member}
 

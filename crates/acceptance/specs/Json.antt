@@ -1,6 +1,6 @@
 -- JSON values (RFC 8259, 3 to 7), with whole numbers of any size, and what they are equal by (JSON Schema 2020-12, Core, 4.2).
 -- A map is the list of its members; their names are distinct, and of equal names the first would count.
-use Rattle.std.specs.Prelude.{ℕ, suc, max, ℤ, List, [], ◌∷◌, Bool, true, false, not, ◌&&◌, ◌||◌, Option, Some, None, bytes_eq, cond}
+use Rattle.std.specs.Prelude.{ℕ, suc, max, ℤ, List, [], ◌∷◌, Bool, true, false, not, ◌&&◌, Option, Some, None, bytes_eq, cond}
 use Rattle.std.specs.List.{list_all, list_any}
 use Rattle.std.specs.Ordering.{int_eq, nat_cmp, match_ordering}
 use Rattle.std.specs.Cmp.Lexicographic.{slice_cmp}

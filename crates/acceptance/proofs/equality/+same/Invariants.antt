@@ -1,5 +1,5 @@
-use Rattle.std.proofs.Common.{◌≡◌, ℕ, ◌+◌, ◌*◌, ◌≤◌, drop, length}
-use Rattle.acceptance.specs.Json.{same_items, same_members, entries, levels, items_levels, members_levels}
+use Rattle.std.proofs.Common.{◌≡◌, ◌+◌, ◌*◌, ◌≤◌, drop}
+use Rattle.acceptance.specs.Json.{same_items, same_members, levels, items_levels, members_levels}
 use Rattle.acceptance.specs.Layer.{json_of_layer, json_of_values, json_of_entries}
 use Rattle.acceptance.proofs.Views.{pairs}
 use Rattle.acceptance.proofs.equality.+same.Given as goal

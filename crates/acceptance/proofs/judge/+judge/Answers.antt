@@ -1,4 +1,4 @@
-use Rattle.std.proofs.Common.{◌≡◌, ◌≤◌, ◌&&◌, List, ◌∷◌, Some, option_map, sym, ap, ◌∙◌, arith}
+use Rattle.std.proofs.Common.{◌≡◌, ◌≤◌, ◌&&◌, Some, option_map, sym, ap, ◌∙◌, arith}
 use Rattle.acceptance.specs.Acceptance.{members_hold, component_schema}
 use Rattle.acceptance.specs.Json.{levels, members_levels}
 use Rattle.acceptance.specs.Judge.{components_at}

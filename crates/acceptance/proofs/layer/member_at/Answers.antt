@@ -1,4 +1,4 @@
-use Rattle.std.proofs.Common.{Some, ap, sym, ◌∙◌, option_map}
+use Rattle.std.proofs.Common.{Some, ap, ◌∙◌, option_map}
 use Rattle.serde_json.specs.View.{view}
 use Rattle.acceptance.specs.Data.{json_of}
 use Rattle.acceptance.proofs.Views.{look-pairs}
