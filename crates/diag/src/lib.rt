@@ -9,7 +9,7 @@ mod span;
 mod suggestion;
 mod text;
 
-pub use diagnostics::{DiangosticsInner, Diagnostics};
+pub use diagnostics::{Diagnostics, DiangosticsInner};
 pub use error::DeriveError;
 pub use kind::Kind;
 pub use list::List;
