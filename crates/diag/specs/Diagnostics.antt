@@ -1,31 +1,50 @@
--- Diagnostics as lists of entries.
-use Rattle.std.specs.Prelude.{◌≡◌, ℕ, List, [], ◌∷◌}
+-- Diagnostics as lists of entries, of which the first speaks for all.
+use Rattle.std.specs.Prelude.{◌≡◌, ℕ, List, [], ◌∷◌, ◌++◌, Option, Some, None}
+use Rattle.std.specs.List.{flat_map, join_by}
 use Rattle.diag.specs.declared.diagnostics.DiangosticsInner.{DiangosticsInner}
 use Rattle.diag.specs.declared.kind.Kind.{Kind}
 use Rattle.diag.specs.declared.span.Span.{Span}
 use Rattle.diag.specs.declared.suggestion.Suggestion.{Suggestion}
+use Rattle.diag.specs.Suggestion.{inserted, line_of}
 
 -- an entry without suggestions and instances
 abbrev pub diagnostic : Kind → Span → List ℕ → DiangosticsInner
 diagnostic kind span message = record { span = span; kind = kind; message = message; suggestions = []; instances = [] }
 
--- what the first entry has; of no entries, nothing
-abbrev pub first_kind : List DiangosticsInner → Kind → Type 0
-first_kind [] kind = ⊥
-first_kind (e ∷ es) kind = e.kind ≡ kind
+-- there is a first entry, and this holds of it
+abbrev pub HasFirst : List DiangosticsInner → (DiangosticsInner → Type 0) → Type 0
+HasFirst [] P = ⊥
+HasFirst (entry ∷ entries) P = P entry
 
-abbrev pub first_span : List DiangosticsInner → Span → Type 0
-first_span [] span = ⊥
-first_span (e ∷ es) span = e.span ≡ span
+-- the message of the first entry
+abbrev pub message_of : List DiangosticsInner → List ℕ
+message_of [] = []
+message_of (entry ∷ entries) = entry.message
 
-abbrev pub first_message : List DiangosticsInner → List ℕ → Type 0
-first_message [] message = ⊥
-first_message (e ∷ es) message = e.message ≡ message
+-- the first entry has one suggestion more, at its place in the order
+abbrev pub with_suggestion : Suggestion → List DiangosticsInner → List DiangosticsInner
+with_suggestion suggestion [] = []
+with_suggestion suggestion (entry ∷ entries) = record entry { suggestions = inserted suggestion entry.suggestions } ∷ entries
 
-abbrev pub first_suggestions : List DiangosticsInner → List Suggestion → Type 0
-first_suggestions [] suggestions = ⊥
-first_suggestions (e ∷ es) suggestions = e.suggestions ≡ suggestions
+-- the first entry has one instance more, at the end
+abbrev pub with_instance : List ℕ → List DiangosticsInner → List DiangosticsInner
+with_instance instance [] = []
+with_instance instance (entry ∷ entries) = record entry { instances = entry.instances ++ instance ∷ [] } ∷ entries
 
-abbrev pub first_instances : List DiangosticsInner → List (List ℕ) → Type 0
-first_instances [] instances = ⊥
-first_instances (e ∷ es) instances = e.instances ≡ instances
+-- the suggestions a line each, after an empty line
+abbrev pub lines_of : List Suggestion → List ℕ
+lines_of [] = []
+lines_of (suggestion ∷ suggestions) = 10 ∷ 10 ∷ join_by line_of (10 ∷ []) (suggestion ∷ suggestions)
+
+-- an entry as a report prints it: its message, and its suggestions
+abbrev pub entry_text : DiangosticsInner → List ℕ
+entry_text entry = entry.message ++ lines_of entry.suggestions
+
+-- the entries as a report prints them, joined by new lines
+abbrev pub text_of : List DiangosticsInner → List ℕ
+text_of entries = join_by entry_text (10 ∷ []) entries
+
+-- the entries of all, in order; of no diagnostics, none
+abbrev pub joined_of : List (List DiangosticsInner) → Option (List DiangosticsInner)
+joined_of [] = None
+joined_of (entries ∷ others) = Some (flat_map (λ part. part) (entries ∷ others))

@@ -1,6 +1,8 @@
-ghost use Rattle.std.specs.Prelude.{◌≡◌, [], ◌∷◌, IfOk};
-ghost use Rattle.diag.specs.Diagnostics.{diagnostic, first_kind, first_span, first_message, first_suggestions, first_instances};
+ghost use Rattle.std.specs.Prelude.{◌≡◌, [], ◌∷◌, ◌++◌, unwrap_or, IfOk, OnOk};
+ghost use Rattle.diag.specs.Diagnostics.{diagnostic, with_suggestion, with_instance, text_of, lines_of, entry_text, joined_of, HasFirst};
 ghost use Rattle.diag.specs.Span.{no_span};
+ghost use Rattle.diag.specs.Suggestion.{line_of, place_of};
+ghost use Rattle.diag.specs.declared.suggestion.Suggestion.TheVariants.{Help, Note};
 
 use crate::kind::Kind;
 use crate::list::List;
@@ -27,18 +29,17 @@ pub struct DiangosticsInner {
 /// What is reported of a source: one entry or more, of which the first speaks for all.
 #[derive(Debug, Drop)]
 pub struct Diagnostics {
-    entries: List<DiangosticsInner>,
+    first: DiangosticsInner,
+    others: List<DiangosticsInner>,
 }
 
 impl Model for Diagnostics {
-    ghost use Rattle.std.specs.Prelude.{◌<◌, List as Items, length};
+    ghost use Rattle.std.specs.Prelude.{List as Items, ◌∷◌};
     ghost use Rattle.diag.specs.declared.diagnostics.DiangosticsInner.{DiangosticsInner};
 
     ghost Value = { Items DiangosticsInner };
 
-    ghost view = { λ diagnostics. diagnostics.entries };
-
-    ghost invariant = { λ diagnostics. 0 < length diagnostics.entries };
+    ghost view = { λ diagnostics. diagnostics.first ∷ diagnostics.others };
 }
 
 impl Diagnostics {
@@ -58,31 +59,153 @@ impl Diagnostics {
     ) -> Result<Diagnostics, AllocError>
         ensures { IfOk result (λ d. d ≡ diagnostic kind span message.now ∷ []) }
     {
-        let mut entries = List::new(alloc);
-        entries.push(DiangosticsInner {
+        let first = DiangosticsInner {
             span,
             kind,
             message: Text::new(alloc, message)?,
             suggestions: List::new(alloc),
             instances: List::new(alloc),
-        })?;
-        Ok(Diagnostics { entries })
+        };
+        Ok(Diagnostics {
+            first,
+            others: List::new(alloc),
+        })
     }
 
-    fn first(&self) -> &DiangosticsInner
-        ensures kind { first_kind self.now result.now.kind }
-        ensures span { first_span self.now result.now.span }
-        ensures message { first_message self.now result.now.message }
-        ensures suggestions { first_suggestions self.now result.now.suggestions }
-        ensures instances { first_instances self.now result.now.instances }
+    /// All entries of all diagnostics, in order, or none if there are no diagnostics.
+    pub fn join(_alloc: Global, list: Vec<Diagnostics>) -> Result<Option<Diagnostics>, AllocError>
+        ensures { IfOk result (λ joined. joined ≡ joined_of list.items) }
     {
-        &self.entries.as_slice()[0]
+        let mut joined = None;
+        for part in list {
+            joined = Some(appended(joined, part)?);
+        }
+        Ok(joined)
+    }
+
+    /// The first entry with a suggestion more, which tells what the reader may do.
+    pub fn help(self, text: &str) -> Result<Diagnostics, AllocError>
+        ensures { IfOk result (λ d. d ≡ with_suggestion (Help text.now) self) }
+    {
+        let text = Text::new(self.allocator(), text)?;
+        self.suggest(Suggestion::Help(text))
+    }
+
+    /// The first entry with a suggestion more, which tells what the reader should know.
+    pub fn note(self, text: &str) -> Result<Diagnostics, AllocError>
+        ensures { IfOk result (λ d. d ≡ with_suggestion (Note text.now) self) }
+    {
+        let text = Text::new(self.allocator(), text)?;
+        self.suggest(Suggestion::Note(text))
+    }
+
+    /// The first entry with an instance more, the last.
+    pub fn instance(mut self, text: &str) -> Result<Diagnostics, AllocError>
+        ensures { IfOk result (λ d. d ≡ with_instance text.now self) }
+    {
+        let text = Text::new(self.allocator(), text)?;
+        self.first.instances.push(text)?;
+        Ok(self)
+    }
+
+    fn suggest(mut self, suggestion: Suggestion) -> Result<Diagnostics, AllocError>
+        ensures { IfOk result (λ d. d ≡ with_suggestion suggestion self) }
+    {
+        let place = suggestion.place_among(self.first.suggestions.as_slice());
+        self.first.suggestions.insert(place, suggestion)?;
+        Ok(self)
+    }
+
+    fn allocator(&self) -> Global {
+        self.others.allocator()
+    }
+
+    /// What the first entry is about.
+    pub fn kind(&self) -> Kind
+        ensures { HasFirst self.now (λ entry. result ≡ entry.kind) }
+    {
+        self.first.kind
+    }
+
+    /// Where the first entry stands in the source.
+    pub fn span(&self) -> Span
+        ensures { HasFirst self.now (λ entry. result ≡ entry.span) }
+    {
+        self.first.span
+    }
+
+    /// The message of the first entry.
+    pub fn message(&self) -> &str
+        ensures { HasFirst self.now (λ entry. result.now ≡ entry.message) }
+    {
+        self.first.message.as_str()
+    }
+
+    /// The suggestions of the first entry, sorted.
+    pub fn suggestions(&self) -> &[Suggestion]
+        ensures { HasFirst self.now (λ entry. result.now ≡ entry.suggestions) }
+    {
+        self.first.suggestions.as_slice()
+    }
+
+    /// The types that the first entry speaks of, as texts.
+    pub fn instances(&self) -> &[Text]
+        ensures { HasFirst self.now (λ entry. result.now ≡ entry.instances) }
+    {
+        self.first.instances.as_slice()
+    }
+
+    /// The entries as a report prints them: of each the message, and after an empty line its suggestions.
+    pub fn text(&self, alloc: Global) -> Result<Text, AllocError>
+        ensures { IfOk result (λ text. text ≡ text_of self.now) }
+    {
+        let mut text = Text::new(alloc, "")?;
+        push_entry(alloc, &mut text, &self.first)?;
+        for entry in self.others.as_slice() {
+            text.push("\n")?;
+            push_entry(alloc, &mut text, entry)?;
+        }
+        Ok(text)
     }
 }
 
+/// The entries so far, and those of the part.
+fn appended(joined: Option<Diagnostics>, part: Diagnostics) -> Result<Diagnostics, AllocError>
+    ensures { IfOk result (λ all. all ≡ unwrap_or joined [] ++ part) }
+{
+    let Some(mut all) = joined else {
+        return Ok(part);
+    };
+    let Diagnostics { first, others } = part;
+    all.others.push(first)?;
+    all.others.append(others)?;
+    Ok(all)
+}
+
+/// Adds an entry as a report prints it.
+fn push_entry(alloc: Global, text: &mut Text, entry: &DiangosticsInner) -> Result<(), AllocError>
+    ensures { OnOk result (text.new ≡ text.old ++ entry_text entry.now) }
+{
+    text.push(entry.message.as_str())?;
+    if entry.suggestions.is_empty() {
+        return Ok(());
+    }
+    text.push("\n")?;
+    for suggestion in entry.suggestions.as_slice() {
+        let line = format!(in alloc; "\n{suggestion}")?;
+        text.push(line.as_str())?;
+    }
+    Ok(())
+}
+
 impl fmt::Display for Diagnostics {
+    ghost use Rattle.std.specs.Prelude.{Some};
+    ghost use Rattle.diag.specs.Diagnostics.{message_of};
+
+    ghost output = { λ diagnostics. Some (message_of diagnostics) };
+
     fn fmt<W: fmt::Write>(&self, f: &mut fmt::Formatter<W>) -> fmt::Result {
-        f.write_str(self.first().message.as_str())
+        f.write_str(self.message())
     }
 }
 

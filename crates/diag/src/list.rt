@@ -1,4 +1,8 @@
+<<<<<<< HEAD
 ghost use Rattle.std.specs.Prelude.{◌≡◌, ◌<◌, ◌≤◌, [], ◌∷◌, ◌++◌, length, insert, remove, slice_index_or, OnOk, OnErr};
+=======
+ghost use Rattle.std.specs.Prelude.{◌≡◌, ◌≤◌, [], ◌∷◌, ◌++◌, length, insert, IsTrue, ◌↔◌, OnOk, OnErr};
+>>>>>>> 945d7a2bc803f697cd8bd6b906c7ecdc98bd86d6
 
 use std::alloc::{AllocError, Global};
 use std::marker::Model;
@@ -37,11 +41,23 @@ impl<T> List<T> {
         self.items.as_slice()
     }
 
+    /// What the list takes its memory from.
+    pub(crate) fn allocator(&self) -> Global {
+        *self.items.allocator()
+    }
+
     /// How many items there are.
     pub fn len(&self) -> usize
         ensures { result ≡ length self.now }
     {
         self.items.len()
+    }
+
+    /// Whether there are no items.
+    pub fn is_empty(&self) -> bool
+        ensures { IsTrue result ↔ (self.now ≡ []) }
+    {
+        self.items.is_empty()
     }
 }
 
@@ -55,6 +71,7 @@ impl<T: Drop> List<T> {
         Ok(())
     }
 
+<<<<<<< HEAD
     /// Adds the item before what stands at the place. A refused call changes nothing.
     pub fn insert(&mut self, at: usize, item: T) -> Result<(), AllocError>
         requires { at ≤ length self.old }
@@ -72,6 +89,24 @@ impl<T: Drop> List<T> {
         ensures rest { self.new ≡ remove self.old at }
     {
         self.items.remove(at)
+=======
+    /// Adds the item before the one at this place, or at the end. A refused call changes nothing.
+    pub fn insert(&mut self, place: usize, item: T) -> Result<(), AllocError>
+        requires { place ≤ length self.old }
+        ensures ok { OnOk result (self.new ≡ insert self.old place item) }
+        ensures err { OnErr result (self.new ≡ self.old) }
+    {
+        self.items.insert(place, item)?;
+        Ok(())
+    }
+
+    /// Adds the items of the other list at the end. A refused call changes nothing.
+    pub fn append(&mut self, mut other: List<T>) -> Result<(), AllocError>
+        ensures ok { OnOk result (self.new ≡ self.old ++ other) }
+        ensures err { OnErr result (self.new ≡ self.old) }
+    {
+        self.items.append(&mut other.items)
+>>>>>>> 945d7a2bc803f697cd8bd6b906c7ecdc98bd86d6
     }
 }
 

@@ -12,6 +12,15 @@ impl Span {
     ghost use Rattle.std.specs.Prelude.{◌≡◌};
     ghost use Rattle.diag.specs.Span.{no_span};
 
+    /// The span from `start` up to, and without, `end`.
+    pub fn new(start: usize, end: usize) -> Span
+        requires { start ≤ end }
+        ensures start { result.start ≡ start }
+        ensures end { result.end ≡ end }
+    {
+        Span { start, end }
+    }
+
     /// The span `0..0`, of what stands nowhere in a source.
     pub fn nowhere() -> Span
         ensures { result ≡ no_span }

@@ -1,3 +1,7 @@
+ghost use Rattle.std.specs.Prelude.{◌≡◌, position};
+ghost use Rattle.std.specs.Ordering.{is_lt};
+ghost use Rattle.diag.specs.Suggestion.{suggestion_cmp, place_of};
+
 use crate::text::Text;
 use std::fmt;
 
@@ -6,6 +10,29 @@ use std::fmt;
 pub enum Suggestion {
     Help(Text),
     Note(Text),
+}
+
+impl Suggestion {
+    /// Whether the suggestion comes before the other.
+    fn is_before(&self, other: &Suggestion) -> bool
+        ensures { result ≡ is_lt (suggestion_cmp self.now other.now) }
+    {
+        self < other
+    }
+
+    /// The place of the first of the others that comes after the suggestion.
+    fn first_after(&self, others: &[Suggestion]) -> Option<usize>
+        ensures { result ≡ position (λ other. is_lt (suggestion_cmp self.now other)) others.now }
+    {
+        others.iter().position(|other| self.is_before(other))
+    }
+
+    /// The place before the first of the others that comes after the suggestion, or the end.
+    pub(crate) fn place_among(&self, others: &[Suggestion]) -> usize
+        ensures { result ≡ place_of self.now others.now }
+    {
+        self.first_after(others).unwrap_or(others.len())
+    }
 }
 
 impl fmt::Display for Suggestion {
