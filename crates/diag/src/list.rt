@@ -1,8 +1,4 @@
-<<<<<<< HEAD
-ghost use Rattle.std.specs.Prelude.{◌≡◌, ◌<◌, ◌≤◌, [], ◌∷◌, ◌++◌, length, insert, remove, slice_index_or, OnOk, OnErr};
-=======
-ghost use Rattle.std.specs.Prelude.{◌≡◌, ◌≤◌, [], ◌∷◌, ◌++◌, length, insert, IsTrue, ◌↔◌, OnOk, OnErr};
->>>>>>> 945d7a2bc803f697cd8bd6b906c7ecdc98bd86d6
+ghost use Rattle.std.specs.Prelude.{◌≡◌, ◌<◌, ◌≤◌, [], ◌∷◌, ◌++◌, length, insert, remove, slice_index_or, IsTrue, ◌↔◌, OnOk, OnErr};
 
 use std::alloc::{AllocError, Global};
 use std::marker::Model;
@@ -71,7 +67,6 @@ impl<T: Drop> List<T> {
         Ok(())
     }
 
-<<<<<<< HEAD
     /// Adds the item before what stands at the place. A refused call changes nothing.
     pub fn insert(&mut self, at: usize, item: T) -> Result<(), AllocError>
         requires { at ≤ length self.old }
@@ -89,15 +84,6 @@ impl<T: Drop> List<T> {
         ensures rest { self.new ≡ remove self.old at }
     {
         self.items.remove(at)
-=======
-    /// Adds the item before the one at this place, or at the end. A refused call changes nothing.
-    pub fn insert(&mut self, place: usize, item: T) -> Result<(), AllocError>
-        requires { place ≤ length self.old }
-        ensures ok { OnOk result (self.new ≡ insert self.old place item) }
-        ensures err { OnErr result (self.new ≡ self.old) }
-    {
-        self.items.insert(place, item)?;
-        Ok(())
     }
 
     /// Adds the items of the other list at the end. A refused call changes nothing.
@@ -106,7 +92,6 @@ impl<T: Drop> List<T> {
         ensures err { OnErr result (self.new ≡ self.old) }
     {
         self.items.append(&mut other.items)
->>>>>>> 945d7a2bc803f697cd8bd6b906c7ecdc98bd86d6
     }
 }
 
