@@ -1,0 +1,153 @@
+//! The components of structs.
+
+ghost use Rattle.std.specs.Prelude.{◌≡◌, ◌<◌, ℕ, List, length, map, IfOk, string_bytes};
+ghost use Rattle.std.specs.BTreeMap.{get_by_text};
+ghost use Rattle.schema_core.specs.Schema.{schema_view, object_view, named_views, bind, bind_properties};
+ghost use Rattle.compose.specs.Derived.{place_in, IsWithinType, MembersWithin, AreWithin, AreComponents};
+ghost use Rattle.compose.specs.Terms.{type_word, only_word, or_null, leaf_object, place, properties_of, required_names, reference_to, struct_schema};
+ghost use Rattle.compose.specs.Types.{type_view, member_view, struct_view, struct_names};
+
+use crate::leaf::Leaf;
+use crate::open_type::OpenType;
+use crate::structs::{Member, Struct};
+use diag::{List, Text};
+use schema_core::{Array, Components, Object, OneOfSchema, RefLeaf, Schema, SchemaTypeInner, Tree, TypeWord};
+use std::alloc::{AllocError, Global};
+use std::collections::BTreeMap;
+
+fn type_word(nullable: bool, word: SchemaTypeInner) -> TypeWord
+    ensures { result ≡ type_word nullable word }
+{
+    if nullable {
+        TypeWord::Nullable(word)
+    } else {
+        TypeWord::One(word)
+    }
+}
+
+fn object(alloc: Global, ty: TypeWord) -> Object<RefLeaf>
+    ensures { object_view (λ l. l) result ≡ only_word ty }
+{
+    Object {
+        ty,
+        format: None,
+        properties: List::new(alloc),
+        required: List::new(alloc),
+        minimum: None,
+    }
+}
+
+fn boxed(alloc: Global, object: Object<RefLeaf>) -> Result<Schema, AllocError>
+    ensures { IfOk result (λ s. schema_view s ≡ object_view (λ l. l) object) }
+{
+    Ok(Tree::Object(Box::new(alloc, object)?))
+}
+
+/// The schema of a built-in name.
+fn leaf_schema(alloc: Global, leaf: Leaf, nullable: bool) -> Result<Schema, AllocError>
+    ensures { IfOk result (λ s. schema_view s ≡ leaf_object nullable leaf) }
+{
+    let mut object = object(alloc, type_word(nullable, leaf.type_word()));
+    object.format = match leaf.format() {
+        Some(name) => Some(Text::new(alloc, name)?),
+        None => None,
+    };
+    object.minimum = leaf.minimum();
+    boxed(alloc, object)
+}
+
+/// The schema, or null where it may be.
+fn or_null(alloc: Global, nullable: bool, schema: Schema) -> Result<Schema, AllocError>
+    ensures { IfOk result (λ s. schema_view s ≡ or_null nullable (schema_view schema)) }
+{
+    if !nullable {
+        return Ok(schema);
+    }
+    let mut items = List::new(alloc);
+    items.push(schema)?;
+    items.push(boxed(alloc, object(alloc, TypeWord::One(SchemaTypeInner::Null)))?)?;
+    Ok(Tree::OneOf(Box::new(alloc, OneOfSchema { items })?))
+}
+
+/// The schema of a place of the type, where null may stand or not.
+fn place_schema(
+    alloc: Global,
+    structs: &[Struct],
+    ty: &OpenType,
+    nullable: bool,
+) -> Result<Schema, AllocError>
+    requires { IsWithinType (length structs.now) (type_view ty.now) }
+    ensures { IfOk result (λ s. schema_view s ≡ bind (reference_to (map struct_view structs.now)) (place nullable (type_view ty.now))) }
+{
+    match ty {
+        OpenType::Leaf(leaf) => leaf_schema(alloc, *leaf, nullable),
+        OpenType::Items(ty) => {
+            let items = place_schema(alloc, structs, ty, false)?;
+            Ok(Tree::Array(Box::new(alloc, Array { nullable, items })?))
+        }
+        OpenType::Option(ty) => place_schema(alloc, structs, ty, true),
+        OpenType::Named(place) => {
+            let name = structs[*place].name.copy(alloc)?;
+            or_null(alloc, nullable, Tree::Leaf(RefLeaf { name }))
+        }
+    }
+}
+
+/// The schema of the struct's component.
+fn struct_schema(alloc: Global, structs: &[Struct], of: &Struct) -> Result<Schema, AllocError>
+    requires { MembersWithin (length structs.now) (struct_view of.now).members }
+    ensures { IfOk result (λ s. schema_view s ≡ struct_schema (map struct_view structs.now) (struct_view of.now)) }
+{
+    let mut object = object(alloc, TypeWord::One(SchemaTypeInner::Object));
+    object.properties = properties_of(alloc, structs, of.members.as_slice())?;
+    object.required = required_of(alloc, of.members.as_slice())?;
+    boxed(alloc, object)
+}
+
+/// A property for each member.
+fn properties_of(
+    alloc: Global,
+    structs: &[Struct],
+    members: &[Member],
+) -> Result<List<(Text, Schema)>, AllocError>
+    requires { MembersWithin (length structs.now) (map member_view members.now) }
+    ensures { IfOk result (λ ps. named_views (λ l. l) ps ≡ bind_properties (reference_to (map struct_view structs.now)) (properties_of (map member_view members.now))) }
+{
+    let mut properties = List::new(alloc);
+    for member in members {
+        let schema = place_schema(alloc, structs, &member.ty, false)?;
+        properties.push((member.name.copy(alloc)?, schema))?;
+    }
+    Ok(properties)
+}
+
+/// The names of the members that must be there.
+fn required_of(alloc: Global, members: &[Member]) -> Result<List<Text>, AllocError>
+    ensures { IfOk result (λ names. names ≡ required_names (map member_view members.now)) }
+{
+    let mut required = List::new(alloc);
+    for member in members {
+        if !matches!(member.ty, OpenType::Option(_)) {
+            required.push(member.name.copy(alloc)?)?;
+        }
+    }
+    Ok(required)
+}
+
+/// The components of the structs, where `places` has their places.
+pub(crate) fn components_of(
+    alloc: Global,
+    structs: &[Struct],
+    places: &BTreeMap<String, usize>,
+) -> Result<Components, AllocError>
+    requires places { (name : List ℕ) → get_by_text places.now name ≡ place_in name (struct_names (map struct_view structs.now)) }
+    requires within { AreWithin (length structs.now) (map struct_view structs.now) }
+    ensures { IfOk result (λ components. AreComponents (map struct_view structs.now) components) }
+{
+    let mut components = Components::new(alloc);
+    for (name, place) in places.iter() {
+        let schema = struct_schema(alloc, structs, &structs[*place])?;
+        components.insert(Text::new(alloc, name.as_str())?, schema)?;
+    }
+    Ok(components)
+}
