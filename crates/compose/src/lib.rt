@@ -11,7 +11,7 @@ mod resolve;
 mod structs;
 
 pub use derive::{Derived, derive_components};
-pub use law::components_describe;
+pub use law::{components_describe, shapes_deepen};
 pub use leaf::Leaf;
 pub use open_type::OpenType;
 pub use structs::{Member, Struct};
