@@ -1,3 +1,4 @@
 pub mod Accepted
 pub mod Deeper
+pub mod Derivation
 pub mod Described
