@@ -2,3 +2,5 @@ pub mod Accepted
 pub mod Deeper
 pub mod Derivation
 pub mod Described
+pub mod Growing
+pub mod PlaceLaws
