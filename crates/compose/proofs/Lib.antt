@@ -3,4 +3,5 @@ pub mod Deeper
 pub mod Derivation
 pub mod Described
 pub mod Growing
+pub mod Listed
 pub mod PlaceLaws
