@@ -1,9 +1,9 @@
 -- Components in the order of a map from names to places, and what is pushed on a list of them.
-use Rattle.std.proofs.Common.{rules, ℕ, zero, suc, ◌+◌, ◌<◌, ◌≤◌, List, [], ◌∷◌, ◌++◌, map, take, length, get_or, Bool, true, false, not, cond, String, string_bytes, ◌≡◌, refl, ap, sym, ◌∙◌, arith}
+use Rattle.std.proofs.Common.{rules, ℕ, zero, suc, ◌+◌, ◌<◌, ◌≤◌, List, [], ◌∷◌, ◌++◌, map, take, length, get_or, Bool, true, false, not, cond, String, string_bytes, ◌≡◌, refl, ap, sym, subst, ◌∙◌, arith}
 use Rattle.std.proofs.lemmas.List.{take_more, map_push}
 use Rattle.schema_core.specs.declared.tree.RefLeaf.{RefLeaf}
-use Rattle.schema_core.specs.declared.tree.Tree.{Tree}
-use Rattle.schema_core.specs.declared.tree.Tree as Tree
+use Rattle.schema_core.specs.declared.tree.Tree.{Tree, the_lemmas}
+use Rattle.schema_core.specs.declared.tree.Tree.TheVariants as Tree
 use Rattle.schema_core.specs.Document.{Entry}
 use Rattle.schema_core.specs.Schema.{SchemaOf, PropertiesOf, no_properties, property, bind, bind_properties, schema_view, named_view, named_views}
 use Rattle.schema_core.specs.Schema.{properties_of as schema_properties}
@@ -11,6 +11,7 @@ use Rattle.schema_core.specs.Schema as tree
 use Rattle.compose.specs.declared.structs.Member.{Member}
 use Rattle.compose.specs.declared.structs.Struct.{Struct}
 use Rattle.compose.specs.Types.{MemberOf, StructOf, is_option, is_required, type_view, member_view, struct_view, struct_at}
+use Rattle.compose.specs.Derived.{IsWithinType, MembersWithin, AreWithin}
 use Rattle.compose.specs.Terms.{or_null, place, properties_of, required_names, reference_to, struct_schema}
 
 -- the component of an entry of the map
@@ -77,9 +78,25 @@ pub views_push : (ps : List (List ℕ × Tree RefLeaf)) (p : List ℕ × Tree Re
 views_push ps p = ap schema_properties (map_push (named_view (λ r. r)) ps p) ∙ properties_push (map (named_view (λ r. r)) ps) (named_view (λ r. r) p)
 
 pub leaf_view : (r : RefLeaf) → schema_view (Tree.Leaf r) ≡ tree.leaf r
-leaf_view r = search rules
+leaf_view r = search (rules, the_lemmas)
 
 pub required_step : (members : List Member) (i : ℕ) (m : Member) → i < length members → m ≡ get_or members i m → (o : Bool) (old new : List (List ℕ)) →
     old ≡ required_names (map member_view (take i members)) → o ≡ is_option (type_view m.ty) → new ≡ cond (not o) (old ++ m.name ∷ []) old → new ≡ required_names (map member_view (take (i + 1) members))
 required_step members i m l is o old new e f g =
     g ∙ (λ j. cond (not (f j)) (e j ++ m.name ∷ []) (e j)) ∙ sym (required_more members i m l is)
+
+pub properties_step : (ss : List StructOf) (members : List Member) (i : ℕ) (m : Member) → i < length members → m ≡ get_or members i m → (old new : List (List ℕ × Tree RefLeaf)) (p : List ℕ × Tree RefLeaf) →
+    named_views (λ r. r) old ≡ bind_properties (reference_to ss) (properties_of (map member_view (take i members))) → new ≡ old ++ p ∷ [] → p.0 ≡ m.name → schema_view p.1 ≡ bind (reference_to ss) (place false (type_view m.ty)) →
+    named_views (λ r. r) new ≡ bind_properties (reference_to ss) (properties_of (map member_view (take (i + 1) members)))
+properties_step ss members i m l is old new p e g n s =
+    ap (named_views (λ r. r)) g ∙ views_push old p ∙ (λ j. property_behind (e j) (n j) (s j)) ∙ sym (bound_more ss members i m l is)
+
+pub within_at : (n : ℕ) (members : List Member) (i : ℕ) (m : Member) → i < length members → m ≡ get_or members i m → MembersWithin n (map member_view members) → IsWithinType n (type_view m.ty)
+within_at n [] i m l is h = absurd (omega arith)
+within_at n (k ∷ members) zero m l is h = subst (λ x. IsWithinType n (type_view x.ty)) (sym is) h.0
+within_at n (k ∷ members) (suc i) m l is h = within_at n members i m (omega arith) is h.1
+
+pub struct_within_at : (n : ℕ) (ss : List Struct) (i : ℕ) (s : Struct) → i < length ss → s ≡ get_or ss i s → AreWithin n (map struct_view ss) → MembersWithin n (struct_view s).members
+struct_within_at n [] i s l is h = absurd (omega arith)
+struct_within_at n (t ∷ ss) zero s l is h = subst (λ x. MembersWithin n (struct_view x).members) (sym is) h.0
+struct_within_at n (t ∷ ss) (suc i) s l is h = struct_within_at n ss i s (omega arith) is h.1
