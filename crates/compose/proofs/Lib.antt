@@ -1,2 +1,4 @@
 pub mod PlaceLaws
 pub mod Growing
+pub mod Places
+pub mod Entered
