@@ -1,23 +1,20 @@
 -- What the schemas of declarations accept: a place accepts what has the shape of its type, a term what has the shape of its struct.
-use Rattle.std.proofs.Common.{ℕ, zero, suc, ℤ, pos, List, [], ◌∷◌, Bool, true, false, not, ◌&&◌, ◌||◌, cond, codes, int_le, Option, Some, None, ◌≡◌, ◌≢◌, refl, ap, sym, ◌∙◌, ◌⊎◌, inl, inr}
+use Rattle.std.proofs.Common.{ℕ, pos, List, [], ◌∷◌, Bool, true, false, not, ◌&&◌, ◌||◌, cond, Some, ◌≡◌, ◌≢◌, refl, ap, ◌∙◌, inl, inr}
 use Rattle.std.specs.List.{list_all}
 use Rattle.std.proofs.Math.Path.{fun_ext}
-use Rattle.std.proofs.Math.Bool.{or-false, or-true, and-true}
 use Rattle.acceptance.specs.Json.{Json, null, boolean, number, text, list, map, entries, elements, names, is_in, look, on_map, on_list, if_there}
-use Rattle.acceptance.specs.Acceptance.{kinds_of}
 use Rattle.schema_core.specs.declared.tree.SchemaTypeInner.TheVariants as word
-use Rattle.schema_core.specs.declared.tree.TypeWord.TheVariants.{One, Nullable}
+use Rattle.schema_core.specs.declared.tree.TypeWord.TheVariants.{One}
 use Rattle.schema_core.specs.Schema.{Facts, SchemaOf, object, array, one_of, SchemasOf, no_schemas, schema, PropertiesOf, no_properties, property, bind, bind_schemas, bind_properties}
 use Rattle.schema_core.specs.Schema as tree
-use Rattle.schema_core.specs.Form.{word_text, array_word}
+use Rattle.schema_core.specs.Form.{array_word}
 use Rattle.schema_core.specs.Meaning.{word_accepts, minimum_accepts, required_accepts, tree_accepts, some_accepts, properties_accept}
-use Rattle.compose.specs.declared.leaf.Leaf.{Leaf}
 use Rattle.compose.specs.Leaves.{Reading, reading_of, word_of, minimum_of, format_of}
 use Rattle.compose.specs.Leaves as reading
 use Rattle.compose.specs.Types.{Resolved, leaf, items, option, named, MemberOf, StructOf, is_required}
 use Rattle.compose.specs.Shape.{is_null, is_list, is_map, reads, type_shape, member_fits, struct_shape}
 use Rattle.compose.specs.Plain.{StandsIn, StandsAmong, IsFloatless, AreFloatless}
-use Rattle.compose.specs.Terms.{type_word, only_word, or_null, leaf_object, place, properties_of, required_names, term}
+use Rattle.compose.specs.Terms.{type_word, only_word, place, properties_of, required_names, term}
 
 -- ---- a schema with others put at its leaves
 module _ {X Y : Type 0} (r : Y → Json → Bool) (f : X → SchemaOf Y) where
@@ -174,7 +171,7 @@ module _ (r : ℕ → Json → Bool) where
   members-accept (m ∷ ms) h es =
       (λ i. (if_there (look m.name es) (λ v. place-accepts false m.of h.0 v i) && properties_accept r (properties_of ms) es) && (list_all (λ k. is_in k (names es)) (required_names (m ∷ ms)) && true))
       ∙ member-accepts (is_required m) (if_there (look m.name es) (type_shape r m.of)) (is_in m.name (names es)) (properties_accept r (properties_of ms) es)
-          (list_all (λ k. is_in k (names es)) (required_names ms)) m.name (required_names ms) (λ k. is_in k (names es)) refl refl
+      (list_all (λ k. is_in k (names es)) (required_names ms)) m.name (required_names ms) (λ k. is_in k (names es)) refl refl
       ∙ ap (λ b. member_fits r es m && b) (members-accept ms h.1 es)
 
   pub term-accepts : (s : StructOf) → AreFloatless s.members → (v : Json) → tree_accepts r (term s) v ≡ struct_shape r s v

@@ -49,7 +49,7 @@ module _ (a b : ℕ → Json → Bool) (more : (d : ℕ) (v : Json) → IsTrue (
   member-more : (es : List (List ℕ × Json)) (m : MemberOf) → IsTrue (member_fits a es m) → IsTrue (member_fits b es m)
   member-more es m h =
       both-more (not (is_required m) || is_in m.name (names es)) (if_there (look m.name es) (type_shape a m.of)) (not (is_required m) || is_in m.name (names es)) (if_there (look m.name es) (type_shape b m.of))
-        (λ r. r) (there-more (type_shape a m.of) (type_shape b m.of) (type-more m.of) (look m.name es)) h
+      (λ r. r) (there-more (type_shape a m.of) (type_shape b m.of) (type-more m.of) (look m.name es)) h
 
   struct-more : (s : StructOf) (v : Json) → IsTrue (struct_shape a s v) → IsTrue (struct_shape b s v)
   struct-more s v h = map-more (λ es. list_all (member_fits a es) s.members) (λ es. list_all (member_fits b es) s.members) (λ es. all-more (member_fits a es) (member_fits b es) (member-more es) s.members) v h

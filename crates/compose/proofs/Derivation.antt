@@ -1,5 +1,5 @@
 -- From the contracts of the parts to what is derived of a source.
-use Rattle.std.proofs.Common.{ℕ, zero, suc, ◌<◌, List, [], ◌∷◌, ◌++◌, map, length, Bool, true, false, ◌||◌, cond, codes, Option, Some, None, option_map, option_and_then, IsTrue, bytes_eq, ◌≡◌, ◌≢◌, refl, ap, sym, subst, ◌∙◌, arith, ◌⊎◌, inl, inr}
+use Rattle.std.proofs.Common.{ℕ, suc, ◌<◌, List, [], ◌∷◌, ◌++◌, map, length, Bool, true, false, ◌||◌, cond, codes, Option, Some, None, option_map, option_and_then, bytes_eq, ◌≡◌, ◌≢◌, refl, ap, sym, subst, ◌∙◌, arith, ◌⊎◌, inl, inr}
 use Rattle.std.proofs.Math.Path.{fun_ext}
 use Rattle.std.proofs.Math.Bool.{or-true}
 use Rattle.std.proofs.lemmas.Bool.{false≢true}
@@ -11,12 +11,14 @@ use Rattle.diag.specs.declared.kind.Kind.TheVariants.{DuplicateName, UnknownType
 use Rattle.schema_core.specs.Meaning.{IsDistinct}
 use Rattle.syntax.specs.declared.written.Ident.{Ident}
 use Rattle.syntax.specs.declared.written.Declaration.{Declaration}
+use Rattle.syntax.specs.Source.{Reads}
+use Rattle.schema_core.specs.Document.{Entry, document}
 use Rattle.syntax.specs.Declarations.{Written, FieldItem, DeclaredStruct, declaration_view}
 use Rattle.syntax.specs.Declarations as written
 use Rattle.compose.specs.Types.{Resolved, leaf, items, option, named, MemberOf, StructOf, struct_names, member_names}
 use Rattle.compose.specs.Leaves.{leaf_of}
-use Rattle.compose.specs.Derived.{all_of, place_in, declared_names, is_kept_back, or_declared, name_resolved, container, resolved, member_of, struct_of, structs_of, MembersDiffer, IsWithinType, MembersWithin, AreWithin}
-use Rattle.compose.specs.Faults.{Somewhere, declared_idents, field_idents, texts, Repeats, inner_name, IsDuplicate, IsUnknown, duplicate_message, unknown_message, IsUnknownField, IsFaultyStruct, IsFaulty, AreClear}
+use Rattle.compose.specs.Derived.{all_of, place_in, declared_names, is_kept_back, or_declared, name_resolved, container, resolved, member_of, struct_of, structs_of, MembersDiffer, IsWithinType, MembersWithin, AreWithin, AreComponents, ComponentsDescribe, Describes}
+use Rattle.compose.specs.Faults.{Somewhere, declared_idents, field_idents, texts, Repeats, inner_name, IsDuplicate, duplicate_message, unknown_message, IsUnknownField, IsFaultyStruct, IsFaulty, IsRefused, AreClear, IsDerived}
 
 -- ---- each item's result
 module _ {A B : Type 0} (f : A → Option B) where
@@ -190,7 +192,7 @@ module _ (ds : List DeclaredStruct) where
   pub within : (n : ℕ) (ss : List StructOf) → n ≡ length ds → structs_of ds ≡ Some ss → AreWithin n ss
   within n ss e h =
       structs-within (λ name. place_in name (declared_names ds)) n
-        (λ name d f. let at = place-within name (declared_names ds) d f in let same = declared-length ds in omega arith) ds ss h
+      (λ name d f. let at = place-within name (declared_names ds) d f in let same = declared-length ds in omega arith) ds ss h
 
 -- ---- what a refusal says
 module _ (e : DeriveError) where
@@ -224,6 +226,61 @@ module _ (e : DeriveError) where
       by (inr r) = inr r
 
 -- ---- over the program's values
-pub idents-declared : (ds : List Declaration) → map (λ d. d.ident) ds ≡ declared_idents (map declaration_view ds)
+idents-declared : (ds : List Declaration) → map (λ d. d.ident) ds ≡ declared_idents (map declaration_view ds)
 idents-declared [] = refl
 idents-declared (d ∷ ds) = ap (λ xs. d.ident ∷ xs) (idents-declared ds)
+
+all_of-length : {A B : Type 0} (f : A → Option B) (xs : List A) (ys : List B) → all_of f xs ≡ Some ys → length ys ≡ length xs
+all_of-length f [] ys h = let none : ys ≡ [] = cc in ap length none
+all_of-length f (x ∷ xs) ys h = let s = split f x xs ys h in ap length s.whole ∙ ap suc (all_of-length f xs s.others s.are_others)
+
+abbrev pub written_names : List Declaration → List (List ℕ)
+written_names ds = texts (map (λ d. d.ident) ds)
+
+written-declared : (ds : List Declaration) → written_names ds ≡ declared_names (map declaration_view ds)
+written-declared ds = ap texts (idents-declared ds) ∙ declared-texts (map declaration_view ds)
+
+-- the declarations of a source, the places of their names, and their structs
+module _ (source : List ℕ) (ds : List Declaration) (read : Reads source (map declaration_view ds)) where
+  pub duplicate_refused : (e : DeriveError) → ((x : Ident) × Repeats (map (λ d. d.ident) ds) x × IsRefusal DuplicateName x.span (duplicate_message x.text) e) → IsRefused source e
+  duplicate_refused e (x, again, refusal) = inr (map declaration_view ds, read, inl (x, inl (subst (λ xs. Repeats xs x) (idents-declared ds) again), refusal))
+
+  module _ (p : List ℕ → Option ℕ) (places : (name : List ℕ) → p name ≡ place_in name (written_names ds)) where
+    same_places : p ≡ (λ name. place_in name (declared_names (map declaration_view ds)))
+    same_places = fun_ext (λ name. places name ∙ ap (place_in name) (written-declared ds))
+
+    pub fault_refused : (e : DeriveError) → Somewhere (λ d. IsFaultyStruct p d e) (map declaration_view ds) → IsRefused source e
+    fault_refused e w = inr (map declaration_view ds, read, faulty e (map declaration_view ds) (subst (λ q. Somewhere (λ d. IsFaultyStruct q d e) (map declaration_view ds)) same_places w))
+
+    module _ (ss : List StructOf) (are : all_of (struct_of p) (map declaration_view ds) ≡ Some ss) where
+      written-structs : written_names ds ≡ struct_names ss
+      written-structs = written-declared ds ∙ sym (structs-names p (map declaration_view ds) ss are)
+
+      resolved_all : structs_of (map declaration_view ds) ≡ Some ss
+      resolved_all = subst (λ q. all_of (struct_of q) (map declaration_view ds) ≡ Some ss) same_places are
+
+      pub placed : (name : List ℕ) → p name ≡ place_in name (struct_names ss)
+      placed name = places name ∙ ap (place_in name) written-structs
+
+      pub all_within : AreWithin (length ss) ss
+      all_within = within (map declaration_view ds) (length ss) ss (all_of-length (struct_of p) (map declaration_view ds) ss are) resolved_all
+
+      module _ (once : IsDistinct (written_names ds)) where
+        pub struct_names_once : IsDistinct (struct_names ss)
+        struct_names_once = subst IsDistinct written-structs once
+
+        pub derived : MembersDiffer ss → (cs : List Entry) → AreComponents ss cs → IsDerived source cs
+        derived differ cs made =
+            record {
+              declarations = map declaration_view ds;
+              read = read;
+              clear = clear (map declaration_view ds) ss resolved_all (subst IsDistinct (written-declared ds) once) differ;
+              structs = ss;
+              resolved = resolved_all;
+              apart = (struct_names_once, differ);
+              components_are = made;
+            }
+
+        pub described : ComponentsDescribe → MembersDiffer ss → (cs : List Entry) → AreComponents ss cs → (is : IsDerived source cs) × Describes is.structs (document cs)
+        unfolding derived
+        described law differ cs made = (derived differ cs made, law ss cs (struct_names_once, differ) all_within made)

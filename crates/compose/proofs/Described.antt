@@ -1,5 +1,5 @@
 -- A document of components describes the structs.
-use Rattle.std.proofs.Common.{ℕ, zero, suc, ◌<◌, List, [], ◌∷◌, length, Bool, true, false, ◌||◌, Option, Some, None, option_map, is_some, IsTrue, bytes_eq, nat_cmp, Less, is_eq, ◌≡◌, refl, ap, sym, subst, ◌∙◌, arith, ◌⊎◌, inl, inr, ◌↔◌}
+use Rattle.std.proofs.Common.{ℕ, zero, suc, ◌<◌, List, [], ◌∷◌, length, Bool, true, false, ◌||◌, Option, Some, None, option_map, is_some, IsTrue, nat_cmp, Less, is_eq, ◌≡◌, refl, ap, sym, subst, ◌∙◌, inl, inr, ◌↔◌}
 use Rattle.std.specs.Cmp.Lexicographic.{slice_cmp}
 use Rattle.std.specs.List.{AllByRecursion}
 use Rattle.std.specs.List.Sorted.{IsStrictlySortedBy}
@@ -13,11 +13,11 @@ use Rattle.schema_core.specs.Schema.{SchemaOf, bind, bind_properties, property_n
 use Rattle.schema_core.specs.Form.{form}
 use Rattle.schema_core.specs.Document.{Entry, document}
 use Rattle.schema_core.specs.Entries.{names_of, find, IsInOrder}
-use Rattle.schema_core.specs.Meaning.{tree_accepts, IsDistinct, IsProper, ArePropertiesProper, FormsAccept, FormsRefer, DocumentsHold}
+use Rattle.schema_core.specs.Meaning.{IsDistinct, IsProper, ArePropertiesProper, FormsAccept, FormsRefer, DocumentsHold}
 use Rattle.compose.specs.Types.{Resolved, leaf, items, option, named, MemberOf, StructOf, struct_at, member_names}
-use Rattle.compose.specs.Shape.{struct_shape, shape, HasShape}
-use Rattle.compose.specs.Plain.{StandsIn, StandsAmong, IsFloatless, AreFloatless, Reaches, itself, through, IsPlain}
-use Rattle.compose.specs.Terms.{or_null, place, properties_of, term, reference_to, struct_schema}
+use Rattle.compose.specs.Shape.{shape, HasShape}
+use Rattle.compose.specs.Plain.{StandsIn, StandsAmong, itself, through, IsPlain}
+use Rattle.compose.specs.Terms.{place, properties_of, term, reference_to, struct_schema}
 use Rattle.compose.specs.Derived.{MembersDiffer, IsApart, AreComponents, HasComponent, Describes, IsWithinType, MembersWithin, AreWithin}
 use Rattle.compose.proofs.Accepted.{bind-accepts, term-accepts, struct-same}
 
@@ -107,7 +107,7 @@ module _ (forms_accept : FormsAccept) (forms_refer : FormsRefer) (documents_hold
   refers : (t : SchemaOf RefLeaf) (d : ℕ) → d < length ss → t ≡ struct_schema ss (struct_at ss d) → EachReference (HasComponent doc) (form t)
   refers t d l e =
       forms_refer (λ name. is_some (component_schema doc name)) t
-        (subst (EachLeaf (λ r. HasComponent doc r.name)) (sym e) (members-leaves ss (HasComponent doc) (length ss) root (struct_at ss d).members (within-at (length ss) ss d within)))
+      (subst (EachLeaf (λ r. HasComponent doc r.name)) (sym e) (members-leaves ss (HasComponent doc) (length ss) root (struct_at ss d).members (within-at (length ss) ss d within)))
 
   some-same : {A : Type 0} {x y : A} → Some x ≡ Some y → x ≡ y
   some-same e = cc
@@ -134,7 +134,7 @@ module _ (forms_accept : FormsAccept) (forms_refer : FormsRefer) (documents_hold
       ∙ bind-accepts (λ r. component_accepts doc n r.name) (reference_to ss) (term (struct_at ss d)) v
       ∙ term-accepts (λ e. component_accepts doc n (name_at e)) (struct_at ss d) (p d (itself d)) v
       ∙ struct-same (λ e. component_accepts doc n (name_at e)) (shape ss n) (struct_at ss d)
-          (λ e s. fun_ext (plain-accepts n e (stands-within (length ss) e (struct_at ss d).members (within-at (length ss) ss d within) s) (plain-through d e p s))) v
+      (λ e s. fun_ext (plain-accepts n e (stands-within (length ss) e (struct_at ss d).members (within-at (length ss) ss d within) s) (plain-through d e p s))) v
 
   deep : (d : ℕ) → d < length ss → IsPlain ss d → (s v : Json) → component_schema doc (name_at d) ≡ Some s → (n : ℕ) → accepts doc s v n ≡ shape ss (suc n) d v
   deep d l p s v e n = sym (λ i. if_component (e i) (λ t. accepts_with (component_accepts doc n) t v)) ∙ plain-accepts (suc n) d l p v

@@ -1,6 +1,6 @@
 -- The components of a map from names to places, in the order of its keys.
-use Rattle.std.proofs.Common.{ℕ, zero, suc, ◌+◌, ◌<◌, List, [], ◌∷◌, ◌++◌, map, length, get_or, Bool, true, false, cond, ◌||◌, if◌then◌else◌, Option, Some, None, option_map, is_some, IsTrue, ◌↔◌, String, string_bytes, bytes_eq, nat_cmp, Less, is_eq, ◌≡◌, refl, ap, sym, subst, ◌∙◌, arith}
-use Rattle.std.specs.BTreeMap.{BTreeMap, get_by_text, get, IsOrdered}
+use Rattle.std.proofs.Common.{ℕ, zero, suc, ◌<◌, List, [], ◌∷◌, ◌++◌, map, length, get_or, Bool, true, false, cond, ◌||◌, if◌then◌else◌, Option, Some, None, option_map, is_some, IsTrue, ◌↔◌, String, string_bytes, bytes_eq, nat_cmp, Less, is_eq, ◌≡◌, refl, ap, sym, subst, ◌∙◌, arith}
+use Rattle.std.specs.BTreeMap.{BTreeMap, get_by_text, get}
 use Rattle.std.specs.String.{string_cmp}
 use Rattle.std.specs.Map.{keys_of, lookup}
 use Rattle.std.specs.Cmp.Lexicographic.{slice_cmp}

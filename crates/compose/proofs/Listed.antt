@@ -1,9 +1,8 @@
 -- Components in the order of a map from names to places, and what is pushed on a list of them.
-use Rattle.std.proofs.Common.{rules, ℕ, zero, suc, ◌+◌, ◌<◌, ◌≤◌, List, [], ◌∷◌, ◌++◌, map, take, length, get_or, Bool, true, false, not, cond, String, string_bytes, ◌≡◌, refl, ap, sym, subst, ◌∙◌, arith}
+use Rattle.std.proofs.Common.{rules, ℕ, zero, suc, ◌+◌, ◌<◌, List, [], ◌∷◌, ◌++◌, map, take, length, get_or, Bool, true, false, not, cond, String, string_bytes, ◌≡◌, refl, ap, sym, subst, ◌∙◌, arith}
 use Rattle.std.proofs.lemmas.List.{take_more, map_push}
 use Rattle.schema_core.specs.declared.tree.RefLeaf.{RefLeaf}
 use Rattle.schema_core.specs.declared.tree.Tree.{Tree, the_lemmas}
-use Rattle.schema_core.specs.declared.tree.Tree.TheVariants as Tree
 use Rattle.schema_core.specs.Document.{Entry}
 use Rattle.schema_core.specs.Schema.{SchemaOf, PropertiesOf, no_properties, property, bind, bind_properties, schema_view, named_view, named_views}
 use Rattle.schema_core.specs.Schema.{properties_of as schema_properties}

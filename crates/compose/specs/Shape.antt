@@ -1,5 +1,5 @@
 -- When a JSON value has the shape of a type or of a declared struct: what serde reads for it, with whole numbers of any size. No schema is known here.
-use Rattle.std.specs.Prelude.{ℕ, zero, suc, ◌≤◌, ℤ, pos, List, [], ◌∷◌, Bool, true, false, not, ◌&&◌, ◌||◌, int_le, IsTrue}
+use Rattle.std.specs.Prelude.{ℕ, zero, suc, ◌≤◌, ℤ, pos, List, Bool, true, false, not, ◌&&◌, ◌||◌, int_le, IsTrue}
 use Rattle.std.specs.List.{list_all}
 use Rattle.acceptance.specs.Json.{Json, null, boolean, number, text, list, map, elements, entries, names, is_in, look, if_there}
 use Rattle.compose.specs.Types.{Resolved, leaf, items, option, named, MemberOf, StructOf, is_required, struct_at}

@@ -1,6 +1,5 @@
-use Rattle.std.proofs.Common.{◌≡◌, ◌<◌, ℕ, List, length, map, String, Global, string_bytes, ◌++◌, ◌∷◌, [], ap, sym, subst, ◌∙◌, arith, append_assoc, append-nil}
+use Rattle.std.proofs.Common.{◌≡◌, ◌<◌, ℕ, length, map, String, Global, string_bytes, ◌++◌, ◌∷◌, [], ap, sym, subst, ◌∙◌, arith, append_assoc, append-nil}
 use Rattle.std.proofs.lemmas.List.{length-map, map_push}
-use Rattle.schema_core.specs.Document.{Entry}
 use Rattle.schema_core.specs.Entries.{IsInOrder, names_of}
 use Rattle.schema_core.specs.Schema.{schema_view}
 use Rattle.compose.specs.Derived.{AreComponents}
@@ -42,17 +41,19 @@ loop-name-preserved c =
     let bound : c.in-Some.place.now < length c.args.structs.now = subst (λ n. c.in-Some.place.now < n) (length-map c.args.structs.now struct_view) inside in
     let name : c.in_ok-new.field-0 ≡ string_bytes c.in-Some.name.now = c.in_ok-new.ensures ∙ c.as_str.ensures.value in
     let schema : schema_view c.in_ok-schema.schema ≡ struct_schema ss (struct_at ss c.in-Some.place.now) =
-      c.in_ok-schema.ensures ∙ ap (λ s. struct_schema ss (struct_view s)) c.index-structs-place.is ∙ sym (ap (struct_schema ss) (struct_at_view c.args.structs.now c.in-Some.place.now c.index-structs-place.result bound)) in
+    c.in_ok-schema.ensures ∙ ap (λ s. struct_schema ss (struct_view s)) c.index-structs-place.is ∙ sym (ap (struct_schema ss) (struct_at_view c.args.structs.now c.in-Some.place.now c.index-structs-place.result bound)) in
     let order : IsInOrder (names_of (map (listed ss) (done ++ e ∷ c.next.new.self))) =
-      subst (λ es. IsInOrder (names_of (map (listed ss) es))) whole (listed_in_order ss c.args.places.now.entries c.iter-name-items.ensures.ordered) in
+    subst (λ es. IsInOrder (names_of (map (listed ss) es))) whole (listed_in_order ss c.args.places.now.entries c.iter-name-items.ensures.ordered) in
     let below : Less_than c.in_ok-new.field-0 (names_of c.loop-name.components) =
-      subst (λ k. Less_than k (names_of c.loop-name.components)) (sym name)
-      (subst (λ es. Less_than (string_bytes c.in-Some.name.now) (names_of es)) (sym c.loop-name.invariant.2) (before ss done c.next.new.self e order)) in
+    subst (λ k. Less_than k (names_of c.loop-name.components)) (sym name)
+    (subst (λ es. Less_than (string_bytes c.in-Some.name.now) (names_of es)) (sym c.loop-name.invariant.2) (before ss done c.next.new.self e order)) in
     let pushed : c.insert.new.self ≡ c.loop-name.components ++ (c.in_ok-new.field-0, schema_view c.in_ok-schema.schema) ∷ [] =
-      inserted_behind c.in_ok-new.field-0 (schema_view c.in_ok-schema.schema) c.loop-name.components c.insert.new.self c.in_ok-insert.field-0
-        below c.in_ok-insert.ensures.new c.in_ok-insert.ensures.entries in
-    (done ++ e ∷ [], whole ∙ sym (append_assoc done (e ∷ []) c.next.new.self),
-      pushed ∙ (λ i. c.loop-name.invariant.2 i ++ (name i, schema i) ∷ []) ∙ sym (map_push (listed ss) done e))
+    inserted_behind c.in_ok-new.field-0 (schema_view c.in_ok-schema.schema) c.loop-name.components c.insert.new.self c.in_ok-insert.field-0
+    below c.in_ok-insert.ensures.new c.in_ok-insert.ensures.entries in (
+      done ++ e ∷ [],
+      whole ∙ sym (append_assoc done (e ∷ []) c.next.new.self),
+      pushed ∙ (λ i. c.loop-name.invariant.2 i ++ (name i, schema i) ∷ []) ∙ sym (map_push (listed ss) done e),
+    )
 
 pub returns : goal.returns
 returns c =

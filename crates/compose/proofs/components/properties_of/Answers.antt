@@ -9,4 +9,4 @@ place_schema-requires c = within_at _ c.args.members.now c.loop-member.member-in
 pub loop-member-preserved : goal.loop-member-preserved
 loop-member-preserved c =
     properties_step (map struct_view c.args.structs.now) c.args.members.now c.loop-member.member-index c.member-item.result c.loop-member-test.true c.member-item.is
-      c.loop-member.properties c.push.new.self (c.in_ok-copy.field-0, c.in_ok-schema.schema) c.loop-member.invariant c.in_ok-push.ensures.ok c.in_ok-copy.ensures c.in_ok-schema.ensures
+    c.loop-member.properties c.push.new.self (c.in_ok-copy.field-0, c.in_ok-schema.schema) c.loop-member.invariant c.in_ok-push.ensures.ok c.in_ok-copy.ensures c.in_ok-schema.ensures

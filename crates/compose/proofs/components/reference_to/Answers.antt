@@ -1,4 +1,4 @@
-use Rattle.std.proofs.Common.{◌≡◌, ap, sym, ◌∙◌}
+use Rattle.std.proofs.Common.{ap, sym, ◌∙◌}
 use Rattle.schema_core.specs.Schema as tree
 use Rattle.compose.proofs.Listed.{leaf_view, struct_at_view}
 use Rattle.compose.proofs.components.reference_to.Goals as goal
