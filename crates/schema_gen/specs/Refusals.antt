@@ -1,0 +1,68 @@
+-- Why a source of bytes is refused, and how a refusal is reported.
+use Rattle.std.specs.Prelude.{◌≡◌, ◌<◌, ◌≤◌, ◌+◌, ◌++◌, ◌⊎◌, ℕ, List, [], ◌∷◌, length, codes}
+use Rattle.std.specs.Fmt.{decimal}
+use Rattle.std.specs.Str.{IsUtf8, IsValidUpTo}
+use Rattle.diag.specs.Diagnostics.{text_of, HasFirst}
+use Rattle.diag.specs.Kind.{name_of}
+use Rattle.diag.specs.Refusal.{IsRefusal}
+use Rattle.diag.specs.Span.{no_span}
+use Rattle.diag.specs.declared.diagnostics.DiangosticsInner.{DiangosticsInner}
+use Rattle.diag.specs.declared.error.DeriveError.{DeriveError}
+use Rattle.diag.specs.declared.error.DeriveError.TheVariants as error
+use Rattle.diag.specs.declared.kind.Kind.{Kind}
+use Rattle.diag.specs.declared.kind.Kind.TheVariants.{TooLong, Syntax}
+use Rattle.diag.specs.declared.span.Span.{Span}
+use Rattle.syntax.specs.Declarations.{DeclaredStruct}
+use Rattle.syntax.specs.Source.{Reads}
+use Rattle.compose.specs.Faults.{IsRefused, AreClear}
+
+-- the most bytes of a source
+abbrev pub most_bytes : ℕ
+most_bytes = 1048576
+
+-- The bytes can be read as a text: they are not too many, and UTF-8 (RFC 3629).
+pub record IsText (bytes : List ℕ) : Type 0 where
+  pub short : length bytes ≤ most_bytes
+  pub utf8 : IsUtf8 bytes
+
+-- The span of the first bytes that are no UTF-8. The longest front that is UTF-8 ends where it starts.
+pub record IsBroken (bytes : List ℕ) (span : Span) : Type 0 where
+  pub no_text : ¬ (IsUtf8 bytes)
+  pub front : IsValidUpTo bytes span.start
+  pub some : span.start < span.end
+  pub few : span.end < span.start + 4
+  pub within : span.end ≤ length bytes
+
+-- ---- the causes, of which an earlier one comes first
+
+abbrev pub IsTooLong : List ℕ → DeriveError → Type 0
+IsTooLong bytes e = (most_bytes < length bytes) × IsRefusal TooLong no_span (codes "the source is longer than 1048576 bytes") e
+
+abbrev pub IsNoText : List ℕ → DeriveError → Type 0
+IsNoText bytes e = (length bytes ≤ most_bytes) × ((span : Span) × IsBroken bytes span × IsRefusal Syntax span (codes "unexpected text in a declaration") e)
+
+-- the error refuses the bytes: they are too many, or else no UTF-8, or else the source that they are is refused
+abbrev pub IsRefusedSource : List ℕ → DeriveError → Type 0
+IsRefusedSource bytes e = IsTooLong bytes e ⊎ (IsNoText bytes e ⊎ (IsText bytes × IsRefused bytes e))
+
+-- No condition of a refusal holds of the bytes: they are a text that has a reading, and nothing in it is at fault.
+pub record IsSound (bytes : List ℕ) : Type 0 where
+  pub text : IsText bytes
+  pub declarations : List DeclaredStruct
+  pub read : Reads bytes declarations
+  pub clear : AreClear declarations
+
+-- ---- the report
+
+-- the line of a report, of the first diagnostic's kind and span, and the text of all
+abbrev pub refusal_line : List DiangosticsInner → List ℕ
+refusal_line [] = []
+refusal_line (d ∷ ds) =
+    codes "refused: " ++ (name_of d.kind ++ (codes " " ++ (decimal d.span.start ++ (codes ".." ++ (decimal d.span.end ++ (codes ": " ++ (text_of (d ∷ ds) ++ codes "\n")))))))
+
+-- A refusal of the bytes with this kind, whose report is the line.
+pub record IsReported (bytes : List ℕ) (kind : Kind) (line : List ℕ) : Type 0 where
+  pub diagnostics : List DiangosticsInner
+  pub cause : IsRefusedSource bytes (error.Refused diagnostics)
+  pub kind_is : HasFirst diagnostics (λ d. d.kind ≡ kind)
+  pub line_is : line ≡ refusal_line diagnostics

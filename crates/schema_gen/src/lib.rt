@@ -1,0 +1,25 @@
+//! From the bytes of a source to the bytes of its document: Rust struct declarations in, one JSON document of OpenAPI
+//! 3.1 component schemas out.
+#![tactic(auto)]
+
+mod deliver;
+mod ending;
+mod law;
+mod program;
+mod refusal;
+mod status;
+#[cfg(test)]
+mod tests;
+mod words;
+
+pub use compose::{Derived, derive_components};
+pub use diag::{DeriveError, Diagnostics, DiangosticsInner, Kind, List, Span, Suggestion, Text};
+pub use law::sound_is_not_refused;
+pub use program::run;
+pub use schema_core::Components;
+pub use status::Status;
+pub use streams::{
+    Failed, HonestSink, HonestSource, MemorySink, MemorySource, ReadError, Sink, Source, StdSink,
+    StdSource, read_all, write_all,
+};
+pub use words::Words;

@@ -1,0 +1,75 @@
+//! Refusals that come before a source is a text, and the report of any refusal.
+
+ghost use Rattle.std.specs.Prelude.{◌≡◌, ◌≤◌, ◌⊎◌, [], ◌∷◌, length, codes, IfOk, IfErr};
+ghost use Rattle.std.specs.Str.{IsUtf8, IsValidUpTo, IsErrorLen, valid_up_to, error_len};
+ghost use Rattle.diag.specs.Diagnostics.{diagnostic};
+ghost use Rattle.diag.specs.Span.{no_span};
+ghost use Rattle.schema_gen.specs.Refusals.{most_bytes, IsBroken, IsNoText, refusal_line};
+
+use diag::{DeriveError, Diagnostics, Kind, Span, Text};
+use std::alloc::{AllocError, Global};
+use std::str::Utf8Error;
+
+/// The most bytes of a source.
+pub(crate) const MAX_BYTES: usize = 1_048_576;
+
+/// The refusal of a source of too many bytes.
+pub(crate) fn too_long(alloc: Global) -> Result<Diagnostics, AllocError>
+    ensures { IfOk result (λ d. d ≡ diagnostic Kind.TooLong no_span (codes "the source is longer than 1048576 bytes") ∷ []) }
+{
+    Diagnostics::new(
+        alloc,
+        Kind::TooLong,
+        "the source is longer than 1048576 bytes",
+    )
+}
+
+/// Where the first bytes stand that are no UTF-8.
+fn broken_span(bytes: &[u8], fault: &Utf8Error) -> Span
+    requires no_text { ¬ (IsUtf8 bytes.now) }
+    requires front { IsValidUpTo bytes.now (valid_up_to fault.now) }
+    requires len { IsErrorLen bytes.now (valid_up_to fault.now) (error_len fault.now) }
+    ensures { IsBroken bytes.now result }
+{
+    let start = fault.valid_up_to();
+    match fault.error_len() {
+        Some(len) => Span::new(start, start + len),
+        None => Span::new(start, bytes.len()),
+    }
+}
+
+/// The bytes of a source as a text.
+pub(crate) fn source_text(alloc: Global, bytes: &[u8]) -> Result<&str, DeriveError>
+    requires { length bytes.now ≤ most_bytes }
+    ensures text { IfOk result (λ text. (text.now ≡ bytes.now) × IsUtf8 bytes.now) }
+    ensures refused { IfErr result (λ e. (e ≡ DeriveError.Memory) ⊎ IsNoText bytes.now e) }
+{
+    let fault = match str::from_utf8(bytes) {
+        Ok(text) => return Ok(text),
+        Err(fault) => fault,
+    };
+    let span = broken_span(bytes, &fault);
+    let refusal = Diagnostics::with_span(
+        alloc,
+        Kind::Syntax,
+        span,
+        "unexpected text in a declaration",
+    )?;
+    Err(DeriveError::Refused(refusal))
+}
+
+/// The line that reports the refusal.
+pub(crate) fn refusal_line(alloc: Global, refusal: &Diagnostics) -> Result<Text, AllocError>
+    ensures { IfOk result (λ line. line ≡ refusal_line refusal.now) }
+{
+    let kind = refusal.kind();
+    let span = refusal.span();
+    let text = refusal.text(alloc)?;
+    let line = format!(in alloc;
+        "refused: {kind} {}..{}: {}\n",
+        span.start,
+        span.end,
+        text.as_str()
+    )?;
+    Ok(Text::from(line))
+}

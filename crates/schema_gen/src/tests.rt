@@ -1,0 +1,294 @@
+use super::*;
+use std::alloc::Global;
+use std::test::Fail;
+
+const PET: &str = "struct Pet { id: u64, name: Option<String> }";
+
+const PET_DOCUMENT: &str =
+    "{\"components\":{\"schemas\":{\"Pet\":{\"properties\":{\"id\":{\"format\":\"int64\",\"minimum\":0,\"type\":\"integer\"},\"name\":{\"type\":[\"string\",\"null\"]}},\"required\":[\"id\"],\"type\":\"object\"}}}}\n";
+
+const EMPTY_DOCUMENT: &str = "{\"components\":{\"schemas\":{}}}\n";
+
+fn words_of(alloc: Global, texts: &[&str]) -> Result<Words, Fail> {
+    let mut words = Vec::new(alloc);
+    for text in texts {
+        words.push(String::from_str(alloc, text)?)?;
+    }
+    Ok(Words::new(words))
+}
+
+/// The status of a run with room for what it writes, and what it wrote to both outputs, one after the other.
+fn outcome(alloc: Global, words: &[&str], source: &[u8]) -> Result<(Status, Vec<u8>), Fail> {
+    let words = words_of(alloc, words)?;
+    let mut input = HonestSource::new(source.to_vec(alloc)?);
+    let mut out = HonestSink::new(alloc, 1000)?;
+    let mut err = HonestSink::new(alloc, 1000)?;
+    let status = run(alloc, &words, &mut input, &mut out, &mut err);
+    let mut written = out.as_slice().to_vec(alloc)?;
+    written.extend_from_slice(err.as_slice())?;
+    Ok((status, written))
+}
+
+#[test]
+fn writes_documents(rt: HostRuntime) -> Result<(), Fail> {
+    let alloc = rt.alloc();
+    sound_is_not_refused();
+    let cases = [
+        (PET, PET_DOCUMENT),
+        ("", EMPTY_DOCUMENT),
+        (
+            "struct S { a: i128, b: usize, c: char }",
+            "{\"components\":{\"schemas\":{\"S\":{\"properties\":{\"a\":{\"type\":\"integer\"},\"b\":{\"minimum\":0,\"type\":\"integer\"},\"c\":{\"type\":\"string\"}},\"required\":[\"a\",\"b\",\"c\"],\"type\":\"object\"}}}}\n",
+        ),
+        (
+            "struct A { b: Vec<B>, c: Option<B> } struct B { x: bool }",
+            "{\"components\":{\"schemas\":{\"A\":{\"properties\":{\"b\":{\"items\":{\"$ref\":\"#/components/schemas/B\"},\"type\":\"array\"},\"c\":{\"oneOf\":[{\"$ref\":\"#/components/schemas/B\"},{\"type\":\"null\"}]}},\"required\":[\"b\"],\"type\":\"object\"},\"B\":{\"properties\":{\"x\":{\"type\":\"boolean\"}},\"required\":[\"x\"],\"type\":\"object\"}}}}\n",
+        ),
+    ];
+    for (source, document) in cases {
+        let (status, written) = outcome(alloc, &["derive"], source.as_bytes())?;
+        assert_eq!(rt; status, Status::Done, "{source}");
+        assert_eq!(rt; written.as_slice(), document.as_bytes(), "{source}");
+    }
+    Ok(())
+}
+
+#[test]
+fn refuses_and_reports(rt: HostRuntime) -> Result<(), Fail> {
+    let alloc = rt.alloc();
+    let cases: [(&[&str], &[u8], Status, &str); 12] = [
+        (
+            &["derive"],
+            b"struct S { x: bo",
+            Status::Refused(Kind::Syntax),
+            "refused: Syntax 16..16: unexpected text in a declaration\n",
+        ),
+        (
+            &["derive"],
+            b"struct S { \xff }",
+            Status::Refused(Kind::Syntax),
+            "refused: Syntax 11..12: unexpected text in a declaration\n",
+        ),
+        (
+            &["derive"],
+            b"struct S {} \xe2\x82",
+            Status::Refused(Kind::Syntax),
+            "refused: Syntax 12..14: unexpected text in a declaration\n",
+        ),
+        (
+            &["derive"],
+            b"struct S { x: Nope }",
+            Status::Refused(Kind::UnknownType),
+            "refused: UnknownType 14..18: unknown type Nope\n",
+        ),
+        (
+            &["derive"],
+            b"struct S { x: Value }",
+            Status::Refused(Kind::UnknownType),
+            "refused: UnknownType 14..19: unknown type Value\n",
+        ),
+        (
+            &["derive"],
+            b"struct S {} struct S {}",
+            Status::Refused(Kind::DuplicateName),
+            "refused: DuplicateName 19..20: name S is given twice\n",
+        ),
+        (
+            &["derive"],
+            b"struct S { x: u8, x: u8 }",
+            Status::Refused(Kind::DuplicateName),
+            "refused: DuplicateName 18..19: name x is given twice\n",
+        ),
+        (&[], b"", Status::Usage, "usage: schema_gen derive\n"),
+        (&[""], b"", Status::Usage, "usage: schema_gen derive\n"),
+        (
+            &["deride"],
+            b"",
+            Status::Usage,
+            "usage: schema_gen derive\n",
+        ),
+        (
+            &["derive", "derive"],
+            b"",
+            Status::Usage,
+            "usage: schema_gen derive\n",
+        ),
+        (
+            &["--help"],
+            b"",
+            Status::Usage,
+            "usage: schema_gen derive\n",
+        ),
+    ];
+    for (words, source, status, report) in cases {
+        let (found, written) = outcome(alloc, words, source)?;
+        assert_eq!(rt; found, status, "{report}");
+        assert_eq!(rt; written.as_slice(), report.as_bytes());
+    }
+    let numbers = [
+        (Status::Done, 0),
+        (Status::Refused(Kind::Syntax), 1),
+        (Status::Usage, 2),
+        (Status::ReadFault, 3),
+        (Status::WriteFault, 4),
+        (Status::Memory, 5),
+    ];
+    for (status, number) in numbers {
+        assert_eq!(rt; status.number(), number);
+    }
+    Ok(())
+}
+
+#[test]
+fn fails_with_its_streams(rt: HostRuntime) -> Result<(), Fail> {
+    let alloc = rt.alloc();
+    // The source, read by 16 bytes at a time; the calls that fail of the input, of `out` and of `err`; the room of
+    // `out`, which takes 100 bytes at a time; the status, how many bytes of the document `out` has, and the report.
+    let cases: [(
+        &str,
+        &[usize],
+        &[usize],
+        &[usize],
+        usize,
+        Status,
+        usize,
+        &str,
+    ); 17] = [
+        (PET, &[], &[], &[], 173, Status::Done, 173, ""),
+        (
+            PET,
+            &[0],
+            &[],
+            &[],
+            173,
+            Status::ReadFault,
+            0,
+            "read fault\n",
+        ),
+        (
+            PET,
+            &[1],
+            &[],
+            &[],
+            173,
+            Status::ReadFault,
+            0,
+            "read fault\n",
+        ),
+        (
+            PET,
+            &[2],
+            &[],
+            &[],
+            173,
+            Status::ReadFault,
+            0,
+            "read fault\n",
+        ),
+        (
+            PET,
+            &[3],
+            &[],
+            &[],
+            173,
+            Status::ReadFault,
+            0,
+            "read fault\n",
+        ),
+        (PET, &[4], &[], &[], 173, Status::Done, 173, ""),
+        (PET, &[], &[0], &[], 173, Status::WriteFault, 0, ""),
+        (PET, &[], &[1], &[], 173, Status::WriteFault, 100, ""),
+        (PET, &[], &[2], &[], 173, Status::WriteFault, 173, ""),
+        (PET, &[], &[3], &[], 173, Status::Done, 173, ""),
+        (PET, &[], &[], &[0], 173, Status::WriteFault, 173, ""),
+        (PET, &[], &[], &[], 86, Status::WriteFault, 86, ""),
+        (PET, &[], &[], &[], 0, Status::WriteFault, 0, ""),
+        (PET, &[0], &[], &[0], 173, Status::WriteFault, 0, ""),
+        (
+            PET,
+            &[0],
+            &[],
+            &[1],
+            173,
+            Status::WriteFault,
+            0,
+            "read fault\n",
+        ),
+        (
+            "!",
+            &[],
+            &[0],
+            &[],
+            0,
+            Status::Refused(Kind::Syntax),
+            0,
+            "refused: Syntax 0..1: unexpected text in a declaration\n",
+        ),
+        (
+            "!",
+            &[],
+            &[0],
+            &[1],
+            0,
+            Status::WriteFault,
+            0,
+            "refused: Syntax 0..1: unexpected text in a declaration\n",
+        ),
+    ];
+    let words = words_of(alloc, &["derive"])?;
+    for (source, reads, writes, reports, room, status, length, report) in cases {
+        let mut input = MemorySource::new(
+            source.as_bytes().to_vec(alloc)?,
+            16,
+            reads.to_vec(alloc)?,
+        );
+        let mut out = MemorySink::new(alloc, room, 100, writes.to_vec(alloc)?)?;
+        let mut err = MemorySink::new(alloc, 1000, 1000, reports.to_vec(alloc)?)?;
+        let found = run(alloc, &words, &mut input, &mut out, &mut err);
+        assert_eq!(rt; found, status, "{reads:?} {writes:?} {reports:?} {room}");
+        assert_eq!(rt; out.as_slice().len(), length);
+        assert!(rt; PET_DOCUMENT.as_bytes().starts_with(out.as_slice()));
+        assert_eq!(rt; err.as_slice(), report.as_bytes());
+    }
+    Ok(())
+}
+
+#[test]
+fn bounds_the_source(rt: HostRuntime) -> Result<(), Fail> {
+    let alloc = rt.alloc();
+    let mut source = vec![in alloc; b' '; 1048576]?;
+    let (status, written) = outcome(alloc, &["derive"], source.as_slice())?;
+    assert_eq!(rt; status, Status::Done);
+    assert_eq!(rt; written.as_slice(), EMPTY_DOCUMENT.as_bytes());
+    source.push(b' ')?;
+    let (status, written) = outcome(alloc, &["derive"], source.as_slice())?;
+    assert_eq!(rt; status, Status::Refused(Kind::TooLong));
+    let report = "refused: TooLong 0..0: the source is longer than 1048576 bytes\n";
+    assert_eq!(rt; written.as_slice(), report.as_bytes());
+    Ok(())
+}
+
+#[test]
+fn runs_over_std(rt: HostRuntime) -> Result<(), Fail> {
+    let alloc = rt.alloc();
+    let words = words_of(alloc, &["derive"])?;
+    let mut input = StdSource::new(PET.as_bytes());
+    let mut written = [0; 200];
+    let mut room: &mut [u8] = &mut written;
+    let mut report = [0; 8];
+    let mut narrow: &mut [u8] = &mut report;
+    let mut out = StdSink::new(&mut room);
+    let mut err = StdSink::new(&mut narrow);
+    assert_eq!(rt;
+        run(alloc, &words, &mut input, &mut out, &mut err),
+        Status::Done
+    );
+    let none = words_of(alloc, &[])?;
+    assert_eq!(rt;
+        run(alloc, &none, &mut input, &mut out, &mut err),
+        Status::WriteFault
+    );
+    assert!(rt; written.as_slice().starts_with(PET_DOCUMENT.as_bytes()));
+    assert_eq!(rt; report.as_slice(), "usage: s".as_bytes());
+    Ok(())
+}
