@@ -1,5 +1,5 @@
 -- The order of suggestions, and a suggestion at its place among others.
-use Rattle.std.proofs.Common.{◌≡◌, ◌∙◌, ◌+◌, ◌<◌, ◌≤◌, ℕ, Bool, true, false, cond, List, Some, None, length, get_or, ap, sym, refl, unwrap_or, position, insert, not, subst, ◌-◌, inl, inr, arith}
+use Rattle.std.proofs.Common.{◌≡◌, ◌∙◌, ◌+◌, ◌<◌, ◌≤◌, ℕ, Bool, true, false, List, length, get_or, ap, sym, refl, unwrap_or, position, not, subst, ◌-◌, inl, inr, arith}
 use Rattle.std.specs.List.{position_or_len}
 use Rattle.std.specs.List.Sorted.{IsSorted}
 use Rattle.std.specs.Cmp.{IsTotalOrder, Equal-is}
@@ -112,20 +112,20 @@ module _ (one : Suggestion) (others : List Suggestion) (sorted : IsSorted sugges
 
   in_order_from : (k : ℕ) (d : Suggestion) → place_of one others ≤ k → k < length others → InOrderAt (inserted one others) k d
   in_order_from k d from more = elim (cases_lt (place_of one others) k) [
-      inl above ↦ let back : k - 1 + 1 ≡ k = omega arith in
-          subst (λ n. InOrderAt (inserted one others) n d) back (in_order_above (k - 1) d (omega arith) (omega arith))
+    | inl above ↦ let back : k - 1 + 1 ≡ k = omega arith in
+        subst (λ n. InOrderAt (inserted one others) n d) back (in_order_above (k - 1) d (omega arith) (omega arith))
     | inr under ↦ let here : place_of one others ≡ k = omega arith in
-          subst (λ n. InOrderAt (inserted one others) n d) here (in_order_at d (omega arith))
-    ]
+        subst (λ n. InOrderAt (inserted one others) n d) here (in_order_at d (omega arith))
+  ]
 
   -- sorted suggestions stay so
   pub IsSorted-inserted : IsSorted suggestion_cmp (inserted one others)
   IsSorted-inserted k d low within =
       let size = length-insert others (place_of one others) one (place_of-le one others) in
       elim (cases_lt (k + 1) (place_of one others)) [
-          inl below ↦ in_order_below k d below
+        | inl below ↦ in_order_below k d below
         | inr under ↦ elim (cases_lt k (place_of one others)) [
-              inl before ↦ in_order_before k d (omega arith)
-            | inr from ↦ in_order_from k d from (omega arith)
-          ]
+          | inl before ↦ in_order_before k d (omega arith)
+          | inr from ↦ in_order_from k d from (omega arith)
         ]
+      ]

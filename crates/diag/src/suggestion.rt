@@ -62,5 +62,4 @@ pub fn suggestions_are_ordered()
     ensures ties { (one other : AnySuggestion) → (suggestion_cmp one other ≡ Equal) ↔ (one ≡ other) }
     ensures equality { (one other : AnySuggestion) → IsTrue (⟦<Suggestion as PartialEq>⟧.eq one other) ↔ (one ≡ other) }
     ensures help_first { (help note : List ℕ) → suggestion_cmp (Help help) (Note note) ≡ Less }
-{
-}
+{}

@@ -1,4 +1,4 @@
-use Rattle.std.proofs.Common.{◌≡◌, ◌∙◌, ap, sym, subst, insert, IsSorted}
+use Rattle.std.proofs.Common.{◌∙◌, ap, sym, subst, insert, IsSorted}
 use Rattle.diag.specs.Suggestion.{suggestion_cmp, place_of}
 use Rattle.diag.proofs.Orders.{IsSorted-inserted}
 use Rattle.diag.proofs.diagnostics.Diagnostics.suggest.Goals as goal

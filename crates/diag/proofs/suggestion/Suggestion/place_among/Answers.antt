@@ -1,6 +1,6 @@
-use Rattle.std.proofs.Common.{◌≡◌, ◌≤◌, ◌∙◌, ap, sym, subst, length, unwrap_or}
+use Rattle.std.proofs.Common.{◌≤◌, ◌∙◌, ap, sym, subst, length, unwrap_or}
 use Rattle.std.specs.Ordering.{is_lt}
-use Rattle.diag.specs.Suggestion.{suggestion_cmp, place_of}
+use Rattle.diag.specs.Suggestion.{suggestion_cmp}
 use Rattle.diag.proofs.Orders.{position-or_len, place_of-le}
 use Rattle.diag.proofs.suggestion.Suggestion.place_among.Goals as goal
 
