@@ -42,6 +42,7 @@ impl Model for Diagnostics {
 
     ghost view = { λ diagnostics. diagnostics.first ∷ diagnostics.others };
 
+    // `help` and `note` keep the order of the suggestions
     ghost invariant = { λ diagnostics. IsSorted suggestion_cmp diagnostics.first.suggestions };
 }
 

@@ -57,9 +57,12 @@ impl fmt::Display for Suggestion {
 /// The order of suggestions: it is total, ties only what is equal, puts every help before every note, and texts by
 /// their bytes.
 pub fn suggestions_are_ordered()
-    ensures order { (one other : AnySuggestion) → ⟦<Suggestion as Ord>⟧.cmp one other ≡ suggestion_cmp one other }
+    ensures order { (one other : AnySuggestion) →
+        ⟦<Suggestion as Ord>⟧.cmp one other ≡ suggestion_cmp one other }
     ensures total { IsTotalOrder suggestion_cmp }
-    ensures ties { (one other : AnySuggestion) → (suggestion_cmp one other ≡ Equal) ↔ (one ≡ other) }
-    ensures equality { (one other : AnySuggestion) → IsTrue (⟦<Suggestion as PartialEq>⟧.eq one other) ↔ (one ≡ other) }
+    ensures ties { (one other : AnySuggestion) →
+        (suggestion_cmp one other ≡ Equal) ↔ (one ≡ other) }
+    ensures equality { (one other : AnySuggestion) →
+        IsTrue (⟦<Suggestion as PartialEq>⟧.eq one other) ↔ (one ≡ other) }
     ensures help_first { (help note : List ℕ) → suggestion_cmp (Help help) (Note note) ≡ Less }
 {}
