@@ -2,3 +2,4 @@ pub mod PlaceLaws
 pub mod Growing
 pub mod Places
 pub mod Entered
+pub mod Whole
