@@ -1,4 +1,4 @@
-use Rattle.std.proofs.Common.{◌≡◌, ◌<◌, List, length, map, IfOk, ap, sym, ◌∙◌, subst, arith}
+use Rattle.std.proofs.Common.{◌≡◌, ◌<◌, length, map, IfOk, ap, sym, ◌∙◌, subst}
 use Rattle.schema_core.specs.Schema.{schema_view, bind}
 use Rattle.compose.specs.declared.structs.Struct.{Struct}
 use Rattle.compose.specs.Derived.{IsWithinType}

@@ -1,12 +1,12 @@
-use Rattle.std.proofs.Common.{◌≡◌, ◌<◌, ◌∷◌, List, ℕ, length, map, string_bytes, Some, ap, sym, ◌∙◌, subst, inr, arith, rules, IsTrue, is_some}
+use Rattle.std.proofs.Common.{◌≡◌, ◌<◌, length, map, string_bytes, ap, sym, ◌∙◌, subst, inr, rules, IsTrue, is_some}
 use Rattle.std.proofs.lemmas.List.{length-map}
 use Rattle.schema_core.specs.Schema.{schema_view}
 use Rattle.std.specs.BTreeMap.{get_by_text}
 use Rattle.std.specs.Map.Iter.{deref_pair}
 use Rattle.std.specs.String.{string_cmp_total}
 use Rattle.std.proofs.lemmas.Map.Iter.{btree_map_turn}
-use Rattle.compose.specs.Types.{struct_view, struct_at, struct_names}
-use Rattle.compose.specs.Derived.{place_in, MembersWithin}
+use Rattle.compose.specs.Types.{struct_view, struct_at}
+use Rattle.compose.specs.Derived.{MembersWithin}
 use Rattle.compose.specs.declared.structs.Struct.{Struct}
 use Rattle.compose.specs.Terms.{struct_schema}
 use Rattle.compose.proofs.Entered.{known_none, placed, known_more, left_more, all_entered, AreKnown, AreLeft, at_text}

@@ -1,4 +1,4 @@
-use Rattle.std.proofs.Common.{◌≡◌, ◌<◌, ◌⊎◌, ℕ, List, length, map, Some, IsTrue, is_some}
+use Rattle.std.proofs.Common.{map}
 use Rattle.std.specs.BTreeMap.{get_by_text}
 use Rattle.compose.specs.Types.{struct_view}
 use Rattle.compose.proofs.Entered.{AreKnown, AreLeft}

@@ -1,4 +1,4 @@
-use Rattle.std.proofs.Common.{◌≡◌, ◌<◌, ◌++◌, ◌∷◌, [], List, length, map, take, Bool, true, false, not, cond, ap, sym, ◌∙◌, subst, arith}
+use Rattle.std.proofs.Common.{◌≡◌, ◌<◌, ◌++◌, ◌∷◌, [], length, not, cond, ap, sym, ◌∙◌, arith}
 use Rattle.compose.specs.Types.{is_option, type_view}
 use Rattle.compose.proofs.Places.{required_more, append_none}
 use Rattle.compose.proofs.components.required_of.Goals as goal

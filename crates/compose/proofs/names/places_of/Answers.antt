@@ -1,16 +1,15 @@
-use Rattle.std.proofs.Common.{rules, ◌≡◌, ◌⊎◌, ◌++◌, codes, ℕ, List, map, IfOk, OnOk, IfErr, string_bytes, ◌+◌, ◌<◌, ◌≤◌, length, Bool, true, false, [], ◌∷◌, Ok, Err, Some, None, take, drop, get_or, ap, sym, ◌∙◌, arith, subst, inl, inr, refl, suc, nat_cmp, bytes_eq}
+use Rattle.std.proofs.Common.{◌≡◌, ◌++◌, ℕ, List, map, IfOk, OnOk, string_bytes, ◌+◌, ◌<◌, length, [], ◌∷◌, Ok, Some, None, take, drop, get_or, ap, sym, ◌∙◌, arith, subst, inr, suc, nat_cmp, bytes_eq}
 use Rattle.std.specs.BTreeMap.{get_by_text, UpdatesBy}
 use Rattle.std.specs.String.{string_cmp}
 use Rattle.std.specs.Map.{update}
 use Rattle.std.specs.Cmp.Lexicographic.{slice_cmp}
 use Rattle.std.proofs.lemmas.List.{take_more, map_push, length-map, length-take-le}
 use Rattle.std.proofs.lemmas.Map.Text.{btree_map_updates_text}
-use Rattle.std.proofs.lemmas.Result.{IfOk-at_ok}
 use Rattle.diag.specs.Refusal.{IsRefusal}
 use Rattle.diag.specs.declared.kind.Kind.TheVariants.{DuplicateName}
 use Rattle.schema_core.specs.Meaning.{IsDistinct}
 use Rattle.compose.specs.Derived.{place_in}
-use Rattle.compose.specs.Faults.{Repeats, texts, duplicate_message, unknown_message}
+use Rattle.compose.specs.Faults.{texts, duplicate_message}
 use Rattle.compose.proofs.PlaceLaws.{places_more, distinct-push, is_in-from_place, texts-push, length-texts, map-split, none_from, ok_before}
 use Rattle.compose.proofs.names.places_of.Goals as goal
 

@@ -1,4 +1,4 @@
-use Rattle.std.proofs.Common.{◌≡◌, ◌⊎◌, List, map, ap, sym, ◌∙◌, subst, inl, inr, Some}
+use Rattle.std.proofs.Common.{◌≡◌, map, ap, sym, ◌∙◌, subst, inl, inr}
 use Rattle.std.proofs.lemmas.Result.{err_from_is_err_and}
 use Rattle.std.specs.BTreeMap.{get_by_text}
 use Rattle.diag.specs.Refusal.{IsRefusal}
@@ -7,9 +7,8 @@ use Rattle.schema_core.specs.Meaning.{IsDistinct}
 use Rattle.syntax.specs.declared.written.Ident.{Ident}
 use Rattle.syntax.specs.declared.written.Field.{Field}
 use Rattle.syntax.specs.Declarations.{field_view}
-use Rattle.compose.specs.Derived.{all_of, member_of}
-use Rattle.compose.specs.Faults.{Repeats, Somewhere, IsUnknownField, texts, field_idents, duplicate_message}
-use Rattle.compose.specs.Types.{member_view, member_names}
+use Rattle.compose.specs.Faults.{Repeats, Somewhere, IsUnknownField, field_idents, duplicate_message}
+use Rattle.compose.specs.Types.{member_view}
 use Rattle.compose.proofs.Growing.{field_idents-are, member_names-are}
 use Rattle.compose.proofs.resolve.resolve_declaration.Goals as goal
 

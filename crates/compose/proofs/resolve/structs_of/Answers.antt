@@ -1,4 +1,4 @@
-use Rattle.std.proofs.Common.{◌≡◌, ◌<◌, ◌⊎◌, List, length, map, take, ap, sym, ◌∙◌, arith, subst, inl, inr, refl, Some}
+use Rattle.std.proofs.Common.{◌≡◌, ◌<◌, length, map, take, ap, sym, ◌∙◌, arith, subst, inl, inr}
 use Rattle.std.proofs.lemmas.Grind.{common_steps}
 use Rattle.std.proofs.lemmas.List.{map_push}
 use Rattle.std.proofs.lemmas.Result.{err_from_is_err_and}
