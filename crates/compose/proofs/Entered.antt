@@ -100,8 +100,10 @@ find-entered k s (e ∷ es) new name = by (slice_cmp nat_cmp e.0 k) refl (find-e
   where
     differs : bytes_eq k e.0 ≡ false
     differs = (none_parts (bytes_eq k e.0) e.1 (find k es) new).0
+
     never : bytes_eq name e.0 ≡ true → bytes_eq name k ≡ true → ⊥
     never t u = false≢true (sym differs ∙ (bytes_eq-Decides k e.0).1 (sym ((bytes_eq-Decides name k).0 u) ∙ (bytes_eq-Decides name e.0).0 t))
+
     by : (o : Ordering) → slice_cmp nat_cmp e.0 k ≡ o → find name (with_entry k s es) ≡ cond (bytes_eq name k) (Some s) (find name es) →
         find name (match_ordering o (e ∷ with_entry k s es) (e ∷ es) ((k, s) ∷ e ∷ es)) ≡ cond (bytes_eq name k) (Some s) (cond (bytes_eq name e.0) (Some e.1) (find name es))
     by Less q before = ap (cond (bytes_eq name e.0) (Some e.1)) before ∙ swapped (bytes_eq name e.0) (bytes_eq name k) e.1 s (find name es) never
@@ -149,9 +151,9 @@ pub known_more : (ss : List StructOf) (d : ℕ) (name : List ℕ) (s : SchemaOf 
     AreKnown ss components → AreKnown ss after
 known_more ss d name s false components after l n e new is h = subst (AreKnown ss) (sym is) h
 known_more ss d name s true components after l n e new is h = subst (AreKnown ss) (sym is) (record {
-    known = λ k t f. by k t (bytes_eq k name) refl (sym (find-entered name s components (new.0 refl) k) ∙ f);
-    order = order-entered name s components h.order;
-  })
+  known = λ k t f. by k t (bytes_eq k name) refl (sym (find-entered name s components (new.0 refl) k) ∙ f);
+  order = order-entered name s components h.order;
+})
   where
     by : (k : List ℕ) (t : SchemaOf RefLeaf) (b : Bool) → bytes_eq k name ≡ b → cond b (Some s) (find k components) ≡ Some t →
         (q : ℕ) × (q < length ss) × (k ≡ (struct_at ss q).name) × (t ≡ struct_schema ss (struct_at ss q))
@@ -171,13 +173,16 @@ left_more place_of key d rest s name added components after named new is h = λ 
     still : (k : List ℕ) (b : Bool) → (IsTrue b ↔ (find name components ≡ None)) → IsTrue (is_some (find k components)) → IsTrue (is_some (find k (cond b (with_entry name s components) components)))
     still k false g f = f
     still k true g f = subst (λ o. IsTrue (is_some o)) (sym (find-entered name s components (g.0 refl) k)) (cond-some (bytes_eq k name) s (find k components) f)
+
     here : (b : Bool) → (IsTrue b ↔ (find name components ≡ None)) → IsTrue (is_some (find name (cond b (with_entry name s components) components)))
     here false g = given (find name components) (λ e. false≢true (g.1 e))
     here true g = subst (λ o. IsTrue (is_some o)) (sym (find-entered name s components (g.0 refl) name ∙ ap (λ b. cond b (Some s) (find name components)) (same_text name))) refl
+
     moved : (k : List ℕ) (b : Bool) → bytes_eq k (string_bytes key) ≡ b → IsTrue (is_some (cond b (Some d) (at_text k rest))) →
         IsTrue (is_some (find k after)) ⊎ IsTrue (is_some (at_text k rest))
     moved k true t f = inl (subst (λ n. IsTrue (is_some (find n after))) (named ∙ sym ((bytes_eq-Decides k (string_bytes key)).0 t)) (subst (λ es. IsTrue (is_some (find name es))) (sym is) (here added new)))
     moved k false t f = inr f
+
     turn : (k : List ℕ) → IsTrue (is_some (find k components)) ⊎ IsTrue (is_some (at_text k ((key, d) ∷ rest))) → IsTrue (is_some (find k after)) ⊎ IsTrue (is_some (at_text k rest))
     turn k (inl f) = inl (subst (λ es. IsTrue (is_some (find k es))) (sym is) (still k added new f))
     turn k (inr f) = moved k (bytes_eq k (string_bytes key)) refl (subst (λ b. IsTrue (is_some (cond b (Some d) (at_text k rest)))) (is_eq-slice_cmp k (string_bytes key)) f)
@@ -192,14 +197,17 @@ all_entered ss place_of entries components distinct places empty h left = record
     found : (o : Option (SchemaOf RefLeaf)) → IsTrue (is_some o) → (s : SchemaOf RefLeaf) × (o ≡ Some s)
     found None f = absurd (false≢true f)
     found (Some s) f = (s, refl)
+
     there : (k : List ℕ) → IsTrue (is_some (find k components)) ⊎ IsTrue (is_some (at_text k entries)) → IsTrue (is_some (find k components))
     there k (inl f) = f
     there k (inr f) = absurd (false≢true (subst (λ es. IsTrue (is_some (at_text k es))) empty f))
+
     only : (name : List ℕ) → IsTrue (is_some (find name components)) → (d : ℕ) × (d < length ss) × (name ≡ (struct_at ss d).name)
     only name f =
         let s = found (find name components) f in
         let k = h.known name s.0 s.1 in
         (k.0, k.1, k.2)
+
     roots : (d : ℕ) → d < length ss → find (struct_at ss d).name components ≡ Some (struct_schema ss (struct_at ss d))
     roots d l =
         let name = (struct_at ss d).name in

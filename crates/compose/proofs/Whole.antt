@@ -106,8 +106,9 @@ module _ (place_of : List ℕ → Option ℕ) where
       let j = joined (member_of place_of f) (all_of (member_of place_of) fs) ms e in
       let m = mapped (λ t. let r : MemberOf = record { name = f.ident.text; of = t } in r) (resolved place_of f.ty) j.0 j.2 in
       elim h [
-        inl w ↦ none-some m.0 (sym (unresolved f.ty (sym (ap (λ (y : Ident). name_resolved place_of y.text) w.0) ∙ w.1)) ∙ m.1)
-      | inr w ↦ fields_known x fs j.1 j.3 w ]
+        | inl w ↦ none-some m.0 (sym (unresolved f.ty (sym (ap (λ (y : Ident). name_resolved place_of y.text) w.0) ∙ w.1)) ∙ m.1)
+        | inr w ↦ fields_known x fs j.1 j.3 w
+      ]
 
   pub none_unknown : (x : Ident) (ds : List DeclaredStruct) (ss : List StructOf) → all_of (struct_of place_of) ds ≡ Some ss →
       Somewhere (λ d. Somewhere (λ f. (x ≡ inner_name f.ty) × (name_resolved place_of x.text ≡ None)) d.fields) ds → ⊥
@@ -116,8 +117,9 @@ module _ (place_of : List ℕ → Option ℕ) where
       let j = joined (struct_of place_of d) (all_of (struct_of place_of) ds) ss e in
       let m = mapped (λ ms. let s : StructOf = record { name = d.ident.text; members = ms } in s) (all_of (member_of place_of) d.fields) j.0 j.2 in
       elim h [
-        inl w ↦ fields_known x d.fields m.0 m.1 w
-      | inr w ↦ none_unknown x ds j.1 j.3 w ]
+        | inl w ↦ fields_known x d.fields m.0 m.1 w
+        | inr w ↦ none_unknown x ds j.1 j.3 w
+      ]
 
 -- ---- no name twice
 
@@ -148,8 +150,9 @@ fields_differ place_of x (d ∷ ds) ss e differ h =
     let parts : IsDistinct (member_names j.0.members) × MembersDiffer j.1 = subst MembersDiffer (sym j.4) differ in
     let names : member_names j.0.members ≡ texts (field_idents d.fields) = sym (ap (λ (s : StructOf). member_names s.members) m.2) ∙ members-are place_of d.fields m.0 m.1 in
     elim h [
-      inl w ↦ none_repeats (field_idents d.fields) x (subst IsDistinct names parts.0) w
-    | inr w ↦ fields_differ place_of x ds j.1 j.3 parts.1 w ]
+      | inl w ↦ none_repeats (field_idents d.fields) x (subst IsDistinct names parts.0) w
+      | inr w ↦ fields_differ place_of x ds j.1 j.3 parts.1 w
+    ]
 
 -- ---- faults
 
@@ -157,8 +160,9 @@ unknown_in : (place_of : List ℕ → Option ℕ) (e : DeriveError) (fs : List F
     (x : Ident) × Somewhere (λ f. (x ≡ inner_name f.ty) × (name_resolved place_of x.text ≡ None)) fs × IsRefusal UnknownType x.span (unknown_message x.text) e
 unknown_in place_of e [] h = absurd h
 unknown_in place_of e (f ∷ fs) h = elim h [
-    inl w ↦ (inner_name f.ty, inl (refl, w.0), w.1)
-  | inr w ↦ (let r = unknown_in place_of e fs w in (r.0, inr r.1, r.2)) ]
+  | inl w ↦ (inner_name f.ty, inl (refl, w.0), w.1)
+  | inr w ↦ (let r = unknown_in place_of e fs w in (r.0, inr r.1, r.2))
+]
 
 -- the error of a faulty struct is one of all declarations
 pub faulty_in : (place_of : List ℕ → Option ℕ) (e : DeriveError) (ds : List DeclaredStruct) → Somewhere (λ d. IsFaultyStruct place_of d e) ds →
@@ -169,15 +173,16 @@ faulty_in place_of e (d ∷ ds) h = by h (faulty_in place_of e ds)
   where
     by : IsFaultyStruct place_of d e ⊎ Somewhere (λ c. IsFaultyStruct place_of c e) ds →
         (Somewhere (λ c. IsFaultyStruct place_of c e) ds →
-          ((x : Ident) × Somewhere (λ c. Repeats (field_idents c.fields) x) ds × IsRefusal DuplicateName x.span (duplicate_message x.text) e)
-          ⊎ ((x : Ident) × Somewhere (λ c. Somewhere (λ f. (x ≡ inner_name f.ty) × (name_resolved place_of x.text ≡ None)) c.fields) ds × IsRefusal UnknownType x.span (unknown_message x.text) e)) →
+        ((x : Ident) × Somewhere (λ c. Repeats (field_idents c.fields) x) ds × IsRefusal DuplicateName x.span (duplicate_message x.text) e)
+        ⊎ ((x : Ident) × Somewhere (λ c. Somewhere (λ f. (x ≡ inner_name f.ty) × (name_resolved place_of x.text ≡ None)) c.fields) ds × IsRefusal UnknownType x.span (unknown_message x.text) e)) →
         ((x : Ident) × (Repeats (field_idents d.fields) x ⊎ Somewhere (λ c. Repeats (field_idents c.fields) x) ds) × IsRefusal DuplicateName x.span (duplicate_message x.text) e)
         ⊎ ((x : Ident) × (Somewhere (λ f. (x ≡ inner_name f.ty) × (name_resolved place_of x.text ≡ None)) d.fields ⊎ Somewhere (λ c. Somewhere (λ f. (x ≡ inner_name f.ty) × (name_resolved place_of x.text ≡ None)) c.fields) ds) × IsRefusal UnknownType x.span (unknown_message x.text) e)
     by (inl (inl r)) rest = inl (r.0, inl r.1, r.2)
     by (inl (inr u)) rest = let r = unknown_in place_of e d.fields u in inr (r.0, inl r.1, r.2)
     by (inr w) rest = elim (rest w) [
-        inl r ↦ inl (r.0, inr r.1, r.2)
-      | inr r ↦ inr (r.0, inr r.1, r.2) ]
+      | inl r ↦ inl (r.0, inr r.1, r.2)
+      | inr r ↦ inr (r.0, inr r.1, r.2)
+    ]
 
 -- ---- all of it
 
@@ -200,18 +205,20 @@ pub record IsSettled (ds : List DeclaredStruct) (ss : List StructOf) : Type 0 wh
 
 pub settled : (ds : List DeclaredStruct) (ss : List StructOf) → structs_of ds ≡ Some ss → IsDistinct (declared_names ds) → MembersDiffer ss → IsSettled ds ss
 settled ds ss e distinct differ = record {
-    clear = record {
-      distinct = λ x h. elim h [
-          inl r ↦ none_repeats (declared_idents ds) x (subst IsDistinct (sym (texts-declared ds)) distinct) r
-        | inr r ↦ fields_differ place_of x ds ss e differ r ];
-      known = λ x h. none_unknown place_of x ds ss e h;
-    };
-    apart = (subst IsDistinct (sym names) distinct, differ);
-    within = are_within place_of (length ss) (λ k d h. (placed ss k d (ap (place_in k) names ∙ h)).0) ds ss e;
-    names = names;
-  }
+  clear = record {
+    distinct = λ x h. elim h [
+      | inl r ↦ none_repeats (declared_idents ds) x (subst IsDistinct (sym (texts-declared ds)) distinct) r
+      | inr r ↦ fields_differ place_of x ds ss e differ r
+    ];
+    known = λ x h. none_unknown place_of x ds ss e h;
+  };
+  apart = (subst IsDistinct (sym names) distinct, differ);
+  within = are_within place_of (length ss) (λ k d h. (placed ss k d (ap (place_in k) names ∙ h)).0) ds ss e;
+  names = names;
+}
   where
     place_of : List ℕ → Option ℕ
     place_of = λ name. place_in name (declared_names ds)
+
     names : struct_names ss ≡ declared_names ds
     names = struct_names-are place_of ds ss e

@@ -12,7 +12,9 @@ use crate::leaf::Leaf;
 use crate::open_type::OpenType;
 use crate::structs::{Member, Struct};
 use diag::{List, Text};
-use schema_core::{Array, Components, Object, OneOfSchema, RefLeaf, Schema, SchemaTypeInner, Tree, TypeWord};
+use schema_core::{
+    Array, Components, Object, OneOfSchema, RefLeaf, Schema, SchemaTypeInner, Tree, TypeWord,
+};
 use std::alloc::{AllocError, Global};
 use std::collections::BTreeMap;
 

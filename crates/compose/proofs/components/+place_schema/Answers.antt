@@ -14,6 +14,6 @@ returns-in_ok-name-in-Named t c =
     let view : type_view c.args.ty.now ≡ named c.in-Named.place = ap type_view c.in-Named.is ∙ type_view-named c.in-Named.place in
     let lt : c.in-Named.place < length structs = subst (IsWithinType (length structs)) view c.requires in
     let e = ap (or_null c.args.nullable) (schema_view-leaf (record { name = c.in_ok-name-in-Named.name }))
-        ∙ named_place structs c.args.nullable c.in-Named.place c.index-structs-place.result c.in_ok-name-in-Named.name lt c.index-structs-place.is (c.in_ok-name-in-Named.ensures ∙ sym (ap (λ (s : Struct). s.name) c.index-structs-place.is))
-        ∙ sym (ap (λ x. bind f (place c.args.nullable x)) view) in
+    ∙ named_place structs c.args.nullable c.in-Named.place c.index-structs-place.result c.in_ok-name-in-Named.name lt c.index-structs-place.is (c.in_ok-name-in-Named.ensures ∙ sym (ap (λ (s : Struct). s.name) c.index-structs-place.is))
+    ∙ sym (ap (λ x. bind f (place c.args.nullable x)) view) in
     subst (λ x. IfOk c.or_null.result (λ s. schema_view s ≡ x)) e c.or_null.ensures

@@ -15,11 +15,11 @@ use Rattle.compose.proofs.components.components_of.Goals as goal
 
 pub loop-name-init : goal.loop-name-init
 loop-name-init c = record {
-    can = tt;
-    finite = tt;
-    known = subst (AreKnown (map struct_view c.args.structs.now)) (sym c.new-components.ensures) (known_none (map struct_view c.args.structs.now));
-    left = λ name h. inr (subst (λ es. IsTrue (is_some (at_text name es))) (sym (c.into_iter-name-iterator.ensures.into_iter_gives ∙ c.iter-name-items.ensures.rest)) h);
-  }
+  can = tt;
+  finite = tt;
+  known = subst (AreKnown (map struct_view c.args.structs.now)) (sym c.new-components.ensures) (known_none (map struct_view c.args.structs.now));
+  left = λ name h. inr (subst (λ es. IsTrue (is_some (at_text name es))) (sym (c.into_iter-name-iterator.ensures.into_iter_gives ∙ c.iter-name-items.ensures.rest)) h);
+}
 
 pub bounds-structs-place : goal.bounds-structs-place
 bounds-structs-place c =
@@ -47,7 +47,7 @@ struct_schema-requires c =
     let at = placed ss (string_bytes c.in-Some.name.now) c.in-Some.place.now (sym (c.requires.places (string_bytes c.in-Some.name.now)) ∙ turn.1) in
     let within : c.in-Some.place.now < length structs = subst (λ n. c.in-Some.place.now < n) (length-map structs struct_view) at.0 in
     subst (λ (s : Struct). MembersWithin (length structs) (struct_view s).members) (sym c.index-structs-place.is)
-      (members_at (length structs) structs c.in-Some.place.now c.index-structs-place.result c.requires.within within)
+    (members_at (length structs) structs c.in-Some.place.now c.index-structs-place.result c.requires.within within)
 
 pub loop-name-preserved : goal.loop-name-preserved
 loop-name-preserved c =
@@ -58,16 +58,16 @@ loop-name-preserved c =
     let within : c.in-Some.place.now < length structs = subst (λ n. c.in-Some.place.now < n) (length-map structs struct_view) at.0 in
     let name : c.in_ok-new.field-0 ≡ string_bytes c.in-Some.name.now = c.in_ok-new.ensures ∙ c.as_str.ensures.value in
     let here : struct_view c.index-structs-place.result ≡ struct_at ss c.in-Some.place.now =
-      ap struct_view c.index-structs-place.is ∙ sym (struct_at-view structs c.in-Some.place.now c.index-structs-place.result within) in
+    ap struct_view c.index-structs-place.is ∙ sym (struct_at-view structs c.in-Some.place.now c.index-structs-place.result within) in
     let schema : schema_view c.in_ok-schema.schema ≡ struct_schema ss (struct_at ss c.in-Some.place.now) = c.in_ok-schema.ensures ∙ ap (struct_schema ss) here in
     record {
       can = tt;
       finite = tt;
       known = known_more ss c.in-Some.place.now c.in_ok-new.field-0 (schema_view c.in_ok-schema.schema) c.in_ok-insert.field-0 c.loop-name.components c.insert.new.self at.0 (name ∙ at.1) schema
-        c.in_ok-insert.ensures.new c.in_ok-insert.ensures.entries c.loop-name.invariant.known;
+          c.in_ok-insert.ensures.new c.in_ok-insert.ensures.entries c.loop-name.invariant.known;
       left = left_more (get_by_text c.args.places.now) c.in-Some.name.now c.in-Some.place.now c.next.new.self (schema_view c.in_ok-schema.schema) c.in_ok-new.field-0 c.in_ok-insert.field-0 c.loop-name.components c.insert.new.self
-        name c.in_ok-insert.ensures.new c.in_ok-insert.ensures.entries
-        (subst (λ es. AreLeft (get_by_text c.args.places.now) es c.loop-name.components) c.in-Some.ensures.steps c.loop-name.invariant.left);
+          name c.in_ok-insert.ensures.new c.in_ok-insert.ensures.entries
+          (subst (λ es. AreLeft (get_by_text c.args.places.now) es c.loop-name.components) c.in-Some.ensures.steps c.loop-name.invariant.left);
     }
 
 pub returns : goal.returns

@@ -11,7 +11,7 @@ pub place_schema-requires : goal.place_schema-requires
 place_schema-requires c =
     let lt : c.loop-member.member-index < length c.args.members.now = omega arith in
     subst (λ (m : Member). IsWithinType (length c.args.structs.now) (type_view m.ty)) (sym c.member-item.is)
-      (within_at (length c.args.structs.now) c.args.members.now c.loop-member.member-index c.member-item.result c.requires lt)
+    (within_at (length c.args.structs.now) c.args.members.now c.loop-member.member-index c.member-item.result c.requires lt)
 
 pub returns : goal.returns
 returns c =

@@ -22,8 +22,9 @@ returns-in_err-declarations-clause-refused c =
     let p = err_from_is_err_and c.from_residual.result c.from_residual.ensures.1 in
     rw (p.1, p.2)
     (elim c.in_err-declarations.ensures.refused [
-        inl memory ↦ inl memory
-      | inr unreadable ↦ inr (inl unreadable) ])
+      | inl memory ↦ inl memory
+      | inr unreadable ↦ inr (inl unreadable)
+    ])
 
 pub returns-in_err-places-clause-refused : goal.returns-in_err-places-clause-refused
 returns-in_err-places-clause-refused c =
@@ -31,13 +32,14 @@ returns-in_err-places-clause-refused c =
     let e = c.in_err-places.field-0.0 in
     let ds = map declaration_view c.in_ok-declarations.declarations.items in
     let idents : map (λ (d : Declaration). d.ident) c.as_slice.result.now ≡ declared_idents ds =
-      ap (map (λ (d : Declaration). d.ident)) c.as_slice.ensures ∙ declared_idents-are c.in_ok-declarations.declarations.items in
+    ap (map (λ (d : Declaration). d.ident)) c.as_slice.ensures ∙ declared_idents-are c.in_ok-declarations.declarations.items in
     rw (p.1, p.2)
     (elim c.in_err-places.ensures.refused [
-        inl memory ↦ inl memory
+      | inl memory ↦ inl memory
       | inr fault ↦
           (let r = subst (λ xs. (x : Ident) × Repeats xs x × IsRefusal DuplicateName x.span (duplicate_message x.text) e) idents fault in
-          inr (inr (ds, c.in_ok-declarations.ensures.found, inl (r.0, inl r.1, r.2)))) ])
+          inr (inr (ds, c.in_ok-declarations.ensures.found, inl (r.0, inl r.1, r.2))))
+    ])
 
 pub returns-in_err-structs-clause-refused : goal.returns-in_err-structs-clause-refused
 returns-in_err-structs-clause-refused c =
@@ -48,11 +50,12 @@ returns-in_err-structs-clause-refused c =
     let places = place_of-is items c.as_slice.result.now (get_by_text c.in_ok-places.places) c.as_slice.ensures c.in_ok-places.ensures.places in
     rw (p.1, p.2)
     (elim c.in_err-structs.ensures.refused [
-        inl memory ↦ inl memory
+      | inl memory ↦ inl memory
       | inr fault ↦
           (let here = subst (λ (xs : List Declaration). Somewhere (λ d. IsFaultyStruct (get_by_text c.in_ok-places.places) d e) (map declaration_view xs)) c.as_slice-2.ensures fault in
           let faulty = faulty_in (λ name. place_in name (declared_names ds)) e ds (subst (λ q. Somewhere (λ d. IsFaultyStruct q d e) ds) places here) in
-          inr (inr (ds, c.in_ok-declarations.ensures.found, (elim faulty [ inl r ↦ inl (r.0, inr r.1, r.2) | inr r ↦ inr r ])))) ])
+          inr (inr (ds, c.in_ok-declarations.ensures.found, (elim faulty [ inl r ↦ inl (r.0, inr r.1, r.2) | inr r ↦ inr r ]))))
+    ])
 
 pub components_of-requires-clause-places : goal.components_of-requires-clause-places
 components_of-requires-clause-places c =
@@ -64,7 +67,7 @@ components_of-requires-clause-places c =
     let distinct = subst IsDistinct (ap (λ (xs : List Declaration). texts (map (λ d. d.ident) xs)) c.as_slice.ensures ∙ declared_names-are items) c.in_ok-places.ensures.distinct in
     let all = settled ds ss resolved distinct c.in_ok-structs.ensures.distinct in
     subst (λ (xs : List Struct). (name : List ℕ) → get_by_text c.in_ok-places.places name ≡ place_in name (struct_names (map struct_view xs))) (sym c.as_slice-3.ensures)
-      (λ name. ap (λ q. q name) places ∙ ap (place_in name) (sym all.names))
+    (λ name. ap (λ q. q name) places ∙ ap (place_in name) (sym all.names))
 
 pub components_of-requires-clause-distinct : goal.components_of-requires-clause-distinct
 components_of-requires-clause-distinct c =
@@ -87,7 +90,7 @@ components_of-requires-clause-within c =
     let distinct = subst IsDistinct (ap (λ (xs : List Declaration). texts (map (λ d. d.ident) xs)) c.as_slice.ensures ∙ declared_names-are items) c.in_ok-places.ensures.distinct in
     let all = settled ds ss resolved distinct c.in_ok-structs.ensures.distinct in
     subst (λ (xs : List Struct). AreWithin (length xs) (map struct_view xs)) (sym c.as_slice-3.ensures)
-      (subst (λ n. AreWithin n ss) (length-map c.in_ok-structs.structs struct_view) all.within)
+    (subst (λ n. AreWithin n ss) (length-map c.in_ok-structs.structs struct_view) all.within)
 
 pub returns-clause-derived : goal.returns-clause-derived
 returns-clause-derived c =
@@ -100,7 +103,7 @@ returns-clause-derived c =
     let all = settled ds ss resolved distinct c.in_ok-structs.ensures.distinct in
     let components = subst (λ (xs : List Struct). AreComponents (map struct_view xs) c.in_ok-components.components) c.as_slice-3.ensures c.in_ok-components.ensures in
     let derived : IsDerived c.args.source.now c.in_ok-components.components =
-      record { declarations = ds; read = c.in_ok-declarations.ensures.found; clear = all.clear; structs = ss; resolved = resolved; apart = all.apart; components_are = components } in
+    record { declarations = ds; read = c.in_ok-declarations.ensures.found; clear = all.clear; structs = ss; resolved = resolved; apart = all.apart; components_are = components } in
     derived
 
 pub returns-clause-describes : goal.returns-clause-describes
@@ -114,5 +117,5 @@ returns-clause-describes c =
     let all = settled ds ss resolved distinct c.in_ok-structs.ensures.distinct in
     let components = subst (λ (xs : List Struct). AreComponents (map struct_view xs) c.in_ok-components.components) c.as_slice-3.ensures c.in_ok-components.ensures in
     let derived : IsDerived c.args.source.now c.in_ok-components.components =
-      record { declarations = ds; read = c.in_ok-declarations.ensures.found; clear = all.clear; structs = ss; resolved = resolved; apart = all.apart; components_are = components } in
+    record { declarations = ds; read = c.in_ok-declarations.ensures.found; clear = all.clear; structs = ss; resolved = resolved; apart = all.apart; components_are = components } in
     (derived, c.components_describe.ensures ss c.in_ok-components.components all.apart all.within components)

@@ -20,8 +20,9 @@ returns-in_err-places_of-clause-refused c =
     let idents : map (λ (f : Field). f.ident) c.as_slice-fields.result.now ≡ field_idents (map field_view fields) = ap (map (λ (f : Field). f.ident)) c.as_slice-fields.ensures ∙ field_idents-are fields in
     rw (p.1, p.2)
     (elim c.in_err-places_of.ensures.refused [
-        inl memory ↦ inl memory
-      | inr fault ↦ inr (inl (subst (λ xs. (x : Ident) × Repeats xs x × IsRefusal DuplicateName x.span (duplicate_message x.text) e) idents fault)) ])
+      | inl memory ↦ inl memory
+      | inr fault ↦ inr (inl (subst (λ xs. (x : Ident) × Repeats xs x × IsRefusal DuplicateName x.span (duplicate_message x.text) e) idents fault))
+    ])
 
 pub returns-in_err-resolve_fields-clause-refused :
     goal.returns-in_err-resolve_fields-clause-refused
@@ -30,8 +31,9 @@ returns-in_err-resolve_fields-clause-refused c =
     let e = c.in_err-resolve_fields.field-0.0 in
     rw (p.1, p.2)
     (elim c.in_err-resolve_fields.ensures.refused [
-        inl memory ↦ inl memory
-      | inr fault ↦ inr (inr (subst (λ fs. Somewhere (λ f. IsUnknownField (get_by_text c.args.places.now) f e) (map field_view fs)) c.as_slice-fields.ensures fault)) ])
+      | inl memory ↦ inl memory
+      | inr fault ↦ inr (inr (subst (λ fs. Somewhere (λ f. IsUnknownField (get_by_text c.args.places.now) f e) (map field_view fs)) c.as_slice-fields.ensures fault))
+    ])
 
 pub returns-clause-distinct : goal.returns-clause-distinct
 returns-clause-distinct c =

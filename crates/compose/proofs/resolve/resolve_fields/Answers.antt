@@ -15,15 +15,16 @@ returns-in_err-resolve_field-clause-refused c =
     let lt : c.loop-field.field-index < length c.args.fields.now = omega arith in
     rw (p.1, p.2)
     (elim c.in_err-resolve_field.ensures.refused [
-        inl memory ↦ inl memory
-      | inr fault ↦ inr (somewhere (λ f. IsUnknownField (get_by_text c.args.places.now) f c.in_err-resolve_field.field-0.0) field_view c.args.fields.now c.loop-field.field-index c.field-item.result lt c.field-item.is fault) ])
+      | inl memory ↦ inl memory
+      | inr fault ↦ inr (somewhere (λ f. IsUnknownField (get_by_text c.args.places.now) f c.in_err-resolve_field.field-0.0) field_view c.args.fields.now c.loop-field.field-index c.field-item.result lt c.field-item.is fault)
+    ])
 
 pub loop-field-preserved : goal.loop-field-preserved
 loop-field-preserved c =
     let lt : c.loop-field.field-index < length c.args.fields.now = omega arith in
     rw c.in_ok-push.ensures.ok
     (all_more (member_of (get_by_text c.args.places.now)) field_view member_view c.args.fields.now c.loop-field.field-index c.field-item.result c.loop-field.members _ lt c.field-item.is
-      c.loop-field.invariant c.in_ok-resolve_field.ensures.member)
+    c.loop-field.invariant c.in_ok-resolve_field.ensures.member)
 
 pub returns-clause-members : goal.returns-clause-members
 returns-clause-members c =

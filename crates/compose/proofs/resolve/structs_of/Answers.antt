@@ -16,16 +16,18 @@ returns-in_err-resolve_declaration-clause-refused c =
     let lt : c.loop-declaration.declaration-index < length c.args.declarations.now = omega arith in
     rw (p.1, p.2)
     (elim c.in_err-resolve_declaration.ensures.refused [
-        inl memory ↦ inl memory
-      | inr fault ↦ inr (somewhere (λ d. IsFaultyStruct (get_by_text c.args.places.now) d c.in_err-resolve_declaration.field-0.0) declaration_view c.args.declarations.now c.loop-declaration.declaration-index c.declaration-item.result lt c.declaration-item.is fault) ])
+      | inl memory ↦ inl memory
+      | inr fault ↦ inr (somewhere (λ d. IsFaultyStruct (get_by_text c.args.places.now) d c.in_err-resolve_declaration.field-0.0) declaration_view c.args.declarations.now c.loop-declaration.declaration-index c.declaration-item.result lt c.declaration-item.is fault)
+    ])
 
 pub loop-declaration-preserved : goal.loop-declaration-preserved
 loop-declaration-preserved c =
     let lt : c.loop-declaration.declaration-index < length c.args.declarations.now = omega arith in
-    rw c.in_ok-push.ensures.ok
-    (all_more (struct_of (get_by_text c.args.places.now)) declaration_view struct_view c.args.declarations.now c.loop-declaration.declaration-index c.declaration-item.result c.loop-declaration.structs _ lt c.declaration-item.is
-      c.loop-declaration.invariant.0 c.in_ok-resolve_declaration.ensures.structs,
-    subst MembersDiffer (sym (map_push struct_view c.loop-declaration.structs _)) (differ-push (map struct_view c.loop-declaration.structs) _ c.loop-declaration.invariant.1 c.in_ok-resolve_declaration.ensures.distinct))
+    rw c.in_ok-push.ensures.ok (
+      all_more (struct_of (get_by_text c.args.places.now)) declaration_view struct_view c.args.declarations.now c.loop-declaration.declaration-index c.declaration-item.result c.loop-declaration.structs _ lt c.declaration-item.is
+          c.loop-declaration.invariant.0 c.in_ok-resolve_declaration.ensures.structs,
+      subst MembersDiffer (sym (map_push struct_view c.loop-declaration.structs _)) (differ-push (map struct_view c.loop-declaration.structs) _ c.loop-declaration.invariant.1 c.in_ok-resolve_declaration.ensures.distinct),
+    )
 
 pub returns-clause-structs : goal.returns-clause-structs
 returns-clause-structs c =
