@@ -1,8 +1,8 @@
 pub mod Accepted
 pub mod Deeper
-pub mod Derivation
 pub mod Described
+pub mod Entered
 pub mod Growing
-pub mod InOrder
-pub mod Listed
 pub mod PlaceLaws
+pub mod Places
+pub mod Whole

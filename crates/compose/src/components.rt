@@ -2,11 +2,11 @@
 
 ghost use Rattle.std.specs.Prelude.{◌≡◌, ◌<◌, ℕ, List, length, map, IfOk, string_bytes};
 ghost use Rattle.std.specs.BTreeMap.{get_by_text};
+ghost use Rattle.schema_core.specs.Meaning.{IsDistinct};
 ghost use Rattle.schema_core.specs.Schema.{schema_view, object_view, named_views, bind, bind_properties};
 ghost use Rattle.compose.specs.Derived.{place_in, IsWithinType, MembersWithin, AreWithin, AreComponents};
 ghost use Rattle.compose.specs.Terms.{type_word, only_word, or_null, leaf_object, place, properties_of, required_names, reference_to, struct_schema};
-ghost use Rattle.compose.specs.Types.{named, is_option, type_view, member_view, struct_view, struct_names};
-ghost use Rattle.schema_core.specs.Meaning.{IsDistinct};
+ghost use Rattle.compose.specs.Types.{type_view, member_view, struct_view, struct_names};
 
 use crate::leaf::Leaf;
 use crate::open_type::OpenType;
@@ -72,29 +72,6 @@ fn or_null(alloc: Global, nullable: bool, schema: Schema) -> Result<Schema, Allo
     Ok(Tree::OneOf(Box::new(alloc, OneOfSchema { items })?))
 }
 
-/// A reference to the component of the struct at the place.
-fn reference_to(alloc: Global, structs: &[Struct], place: usize) -> Result<Schema, AllocError>
-    requires { place < length structs.now }
-    ensures { IfOk result (λ s. schema_view s ≡ reference_to (map struct_view structs.now) place) }
-{
-    let name = structs[place].name.copy(alloc)?;
-    Ok(Tree::Leaf(RefLeaf { name }))
-}
-
-/// The schema of a place of the struct at a place, where null may stand or not.
-#[tactic(auto, using(crate::proofs::Listed::bind_or_null))]
-fn named_schema(
-    alloc: Global,
-    structs: &[Struct],
-    at: usize,
-    nullable: bool,
-) -> Result<Schema, AllocError>
-    requires { at < length structs.now }
-    ensures { IfOk result (λ s. schema_view s ≡ bind (reference_to (map struct_view structs.now)) (place nullable (named at))) }
-{
-    or_null(alloc, nullable, reference_to(alloc, structs, at)?)
-}
-
 /// The schema of a place of the type, where null may stand or not.
 fn place_schema(
     alloc: Global,
@@ -112,7 +89,10 @@ fn place_schema(
             Ok(Tree::Array(Box::new(alloc, Array { nullable, items })?))
         }
         OpenType::Option(ty) => place_schema(alloc, structs, ty, true),
-        OpenType::Named(place) => named_schema(alloc, structs, *place, nullable),
+        OpenType::Named(place) => {
+            let name = structs[*place].name.copy(alloc)?;
+            or_null(alloc, nullable, Tree::Leaf(RefLeaf { name }))
+        }
     }
 }
 
@@ -128,7 +108,6 @@ fn struct_schema(alloc: Global, structs: &[Struct], of: &Struct) -> Result<Schem
 }
 
 /// A property for each member.
-#[tactic(auto, using(crate::proofs::Listed::bound_more, crate::proofs::Listed::views_push))]
 fn properties_of(
     alloc: Global,
     structs: &[Struct],
@@ -145,23 +124,13 @@ fn properties_of(
     Ok(properties)
 }
 
-/// Whether the type is an option.
-fn is_option(ty: &OpenType) -> bool
-    ensures { result ≡ is_option (type_view ty.now) }
-{
-    match ty {
-        OpenType::Option(_) => true,
-        OpenType::Leaf(_) | OpenType::Items(_) | OpenType::Named(_) => false,
-    }
-}
-
 /// The names of the members that must be there.
 fn required_of(alloc: Global, members: &[Member]) -> Result<List<Text>, AllocError>
     ensures { IfOk result (λ names. names ≡ required_names (map member_view members.now)) }
 {
     let mut required = List::new(alloc);
     for member in members {
-        if !is_option(&member.ty) {
+        if !member.ty.is_option() {
             required.push(member.name.copy(alloc)?)?;
         }
     }

@@ -9,6 +9,8 @@ mod names;
 mod open_type;
 mod resolve;
 mod structs;
+#[cfg(test)]
+mod tests;
 
 pub use derive::{Derived, derive_components};
 pub use law::{components_describe, shapes_deepen};
