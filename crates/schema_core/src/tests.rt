@@ -12,6 +12,31 @@ const STRING: TypeWord = TypeWord::One(SchemaTypeInner::String);
 
 const STRING_OR_NULL: TypeWord = TypeWord::Nullable(SchemaTypeInner::String);
 
+/// Schemas by name, and the text of each.
+const FORMS: [(&str, &str); 9] = [
+    (
+        "Pet",
+        r#"{"properties":{"id":{"format":"uint64","minimum":0,"type":"integer"},"name":{"type":["string","null"]}},"required":["id"],"type":"object"}"#,
+    ),
+    ("Name", r#"{"type":["string","null"]}"#),
+    (
+        "Pets",
+        r##"{"items":{"$ref":"#/components/schemas/Pet"},"type":"array"}"##,
+    ),
+    (
+        "PetsOrNull",
+        r##"{"items":{"$ref":"#/components/schemas/Pet"},"type":["array","null"]}"##,
+    ),
+    (
+        "PetOrNull",
+        r##"{"oneOf":[{"$ref":"#/components/schemas/Pet"},{"type":"null"}]}"##,
+    ),
+    ("AtLeast", r#"{"minimum":-5}"#),
+    ("Alias", r##"{"$ref":"#/components/schemas/Pet"}"##),
+    ("Nothing", r#"{"oneOf":[]}"#),
+    ("Anything", "{}"),
+];
+
 const VALUES: &str = r#"[
     {"name": "Pet", "depth": 1, "accepted": [{"id": 0}, {"id": 7, "name": "a"}, {"id": 18446744073709551615, "name": null, "more": []}], "refused": [{}, {"id": -1}, {"id": "0"}, {"name": "a"}, {"id": 1, "name": 2}, null, []]},
     {"name": "Name", "depth": 1, "accepted": ["", "a", null], "refused": [1, false, [], {}]},
@@ -75,6 +100,26 @@ fn pet(alloc: Global) -> Result<Schema, AllocError> {
     Ok(Tree::Object(Box::new(alloc, pet)?))
 }
 
+fn nothing(alloc: Global) -> Result<Schema, AllocError> {
+    let items = List::new(alloc);
+    Ok(Tree::OneOf(Box::new(alloc, OneOfSchema { items })?))
+}
+
+/// The schema of the name, or the one that accepts all.
+fn schema_named(alloc: Global, name: &str) -> Result<Schema, AllocError> {
+    match name {
+        "Pet" => pet(alloc),
+        "Name" => of_type(alloc, STRING_OR_NULL),
+        "Pets" => array(alloc, false, reference(alloc, "Pet")?),
+        "PetsOrNull" => array(alloc, true, reference(alloc, "Pet")?),
+        "PetOrNull" => or_null(alloc, reference(alloc, "Pet")?),
+        "AtLeast" => at_least(alloc, -5),
+        "Alias" => reference(alloc, "Pet"),
+        "Nothing" => nothing(alloc),
+        _ => of_type(alloc, TypeWord::Any),
+    }
+}
+
 /// What a document of one component says of its schema.
 fn form_text(alloc: Global, schema: Schema) -> Result<String, Fail> {
     let mut components = Components::new(alloc);
@@ -103,40 +148,9 @@ fn of_names(alloc: Global, names: &[&str]) -> Result<Components, Fail> {
 #[test]
 fn writes_schemas(rt: HostRuntime) -> Result<(), Fail> {
     let alloc = rt.alloc();
-    let cases = vec![in alloc;
-        (
-            pet(alloc)?,
-            r#"{"properties":{"id":{"format":"uint64","minimum":0,"type":"integer"},"name":{"type":["string","null"]}},"required":["id"],"type":"object"}"#,
-        ),
-        (of_type(alloc, TypeWord::Any)?, "{}"),
-        (
-            of_type(alloc, STRING_OR_NULL)?,
-            r#"{"type":["string","null"]}"#
-        ),
-        (at_least(alloc, -5)?, r#"{"minimum":-5}"#),
-        (
-            at_least(alloc, (1 << 64) - 1)?,
-            r#"{"minimum":18446744073709551615}"#
-        ),
-        (
-            reference(alloc, "B")?,
-            r##"{"$ref":"#/components/schemas/B"}"##
-        ),
-        (
-            array(alloc, false, reference(alloc, "B")?)?,
-            r##"{"items":{"$ref":"#/components/schemas/B"},"type":"array"}"##,
-        ),
-        (
-            array(alloc, true, of_type(alloc, INTEGER)?)?,
-            r#"{"items":{"type":"integer"},"type":["array","null"]}"#,
-        ),
-        (
-            or_null(alloc, reference(alloc, "B")?)?,
-            r##"{"oneOf":[{"$ref":"#/components/schemas/B"},{"type":"null"}]}"##,
-        ),
-    ]?;
-    for (schema, expected) in cases {
-        assert_eq!(rt; form_text(alloc, schema)?.as_str(), expected);
+    for (name, expected) in FORMS {
+        let form = form_text(alloc, schema_named(alloc, name)?)?;
+        assert_eq!(rt; form.as_str(), expected, "{name}");
     }
     Ok(())
 }
@@ -223,31 +237,12 @@ fn bounds_have_64_bits(rt: HostRuntime) {
 }
 
 /// A document of a schema of each form.
-fn sample(alloc: Global) -> Result<Value, Fail> {
-    let entries = vec![in alloc;
-        ("Pet", pet(alloc)?),
-        ("Name", of_type(alloc, STRING_OR_NULL)?),
-        ("Pets", array(alloc, false, reference(alloc, "Pet")?)?),
-        ("PetsOrNull", array(alloc, true, reference(alloc, "Pet")?)?),
-        ("PetOrNull", or_null(alloc, reference(alloc, "Pet")?)?),
-        ("Anything", of_type(alloc, TypeWord::Any)?),
-        ("AtLeast", at_least(alloc, -5)?),
-        ("Alias", reference(alloc, "Pet")?),
-        (
-            "Nothing",
-            Tree::OneOf(Box::new(
-                alloc,
-                OneOfSchema {
-                    items: List::new(alloc)
-                }
-            )?)
-        ),
-    ]?;
+fn sample(alloc: Global) -> Result<Value, AllocError> {
     let mut components = Components::new(alloc);
-    for (name, schema) in entries {
-        components.insert(Text::new(alloc, name)?, schema)?;
+    for (name, _form) in FORMS {
+        components.insert(Text::new(alloc, name)?, schema_named(alloc, name)?)?;
     }
-    Ok(components.to_value(alloc)?)
+    components.to_value(alloc)
 }
 
 fn values_of<'a>(row: &'a Value, name: &str) -> &'a [Value] {
