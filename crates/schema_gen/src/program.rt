@@ -54,6 +54,7 @@ pub fn run<S: Source, O: Sink, E: Sink>(
         × Appends (O.written out.old) (O.written out.new) text × Appends (E.written err.old) (E.written err.new) report }
     ensures cut { result ≡ Status.WriteFault → (status : AnyStatus) × (text : List ℕ) × (report : List ℕ)
         × Owed words.now (S.left input.old) status text report
+        × (status ≡ Status.ReadFault → CountsFault (S.faults input.old) (S.faults input.new))
         × AppendsPart (O.written out.old) (O.written out.new) text × AppendsPart (E.written err.old) (E.written err.new) report }
     ensures out_kept { result ≢ Status.Done → result ≢ Status.WriteFault → Keeps (O.written out.old) (O.written out.new) }
     ensures err_kept { (result ≡ Status.Done) ⊎ (result ≡ Status.Memory) → Keeps (E.written err.old) (E.written err.new) }

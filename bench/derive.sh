@@ -1,0 +1,64 @@
+#!/usr/bin/env bash
+# Sources of plain structs from 64 KiB to 1 MiB, each twice the one before: the time that the program takes for each, its
+# peak memory, and the ratio of the time to that of the one before. By hand; no test rests on it.
+#
+#     bench/derive.sh [ascending|descending|references|wide]
+set -eu
+here=$(cd "$(dirname "$0")/.." && pwd)
+program=$here/crates/schema_gen_cli/out/schema_gen_cli
+[ -x "$program" ] || echo 'struct First { it: bool }' | "$here/schema_gen" derive >/dev/null
+folder=$(mktemp -d)
+trap 'rm -rf "$folder"' EXIT
+python3 - "$program" "$folder" "${1:-references}" <<'PY'
+import os, resource, subprocess, sys, time
+
+program, folder, form = sys.argv[1:]
+
+def struct(name, fields):
+    return "pub struct %s {\n%s}\n\n" % (name, "".join("    pub %s: %s,\n" % f for f in fields))
+
+def source(size):
+    parts, length, i = [], 0, 0
+    if form == "wide":
+        fields = []
+        while length < size - 80:
+            fields.append(("field_%06d" % i, ("u64", "Option<String>", "Vec<bool>")[i % 3]))
+            length += len("    pub %s: %s,\n" % fields[-1])
+            i += 1
+        return struct("Wide", fields)
+    while True:
+        number = 999999 - i if form == "descending" else i
+        fields = [("id", "u64"), ("name", "Option<String>"), ("tags", "Vec<Vec<String>>"), ("size", "i32")]
+        if form == "references":
+            fields += [("owner", "Item%06d" % (i // 2)), ("next", "Option<Item%06d>" % max(0, i - 1)), ("all", "Vec<Item%06d>" % (i // 3))]
+        part = struct("Item%06d" % number, fields)
+        if length + len(part) > size:
+            return "".join(parts)
+        parts.append(part)
+        length += len(part)
+        i += 1
+
+def run(path):
+    best, peak = None, 0
+    for _ in range(5):
+        with open(path, "rb") as text, open(os.devnull, "wb") as nothing:
+            start = time.perf_counter()
+            child = subprocess.Popen([program, "derive"], stdin=text, stdout=nothing)
+            _, status, usage = os.wait4(child.pid, 0)
+            took = time.perf_counter() - start
+        if status != 0:
+            sys.exit("the program ended with %d" % os.waitstatus_to_exitcode(status))
+        best = took if best is None else min(best, took)
+        peak = max(peak, usage.ru_maxrss)
+    return best, peak / 1024
+
+before = None
+print("%10s %10s %12s %8s" % ("bytes", "seconds", "peak MiB", "ratio"))
+for size in (65536 << n for n in range(5)):
+    path = os.path.join(folder, "source")
+    with open(path, "w") as file:
+        file.write(source(size))
+    took, peak = run(path)
+    print("%10d %10.3f %12.1f %8s" % (os.path.getsize(path), took, peak, "" if before is None else "%.2f" % (took / before)))
+    before = took
+PY
