@@ -1,4 +1,4 @@
--- What the values of serde_json accept as schemas, and what a member of such a schema says.
+-- What values of serde_json accept, read as schemas of a document (OpenAPI 3.1, "Components Object"), and what a member of such a schema says.
 use Rattle.std.specs.Prelude.{ℕ, List, Bool}
 use Rattle.serde_json.specs.declared.value.Value.{Value}
 use Rattle.acceptance.specs.Acceptance.{Readings, accepts_with, properties_accept, prefix_accepts, all_accept, one_accepts, reference_holds, component_accepts}

@@ -1,4 +1,4 @@
--- The keyword that a member of a schema is.
+-- The keyword that a member of a schema is, by what the program calls it (JSON Schema 2020-12: Core, 10; Validation, 6), and how numbers compare under it.
 use Rattle.std.specs.Prelude.{ℕ, ℤ, pos, Bool, int_le}
 use Rattle.acceptance.specs.Acceptance.{int_below, is_multiple}
 use Rattle.acceptance.specs.Keyword.{Keyword, other, types, enumeration, minimum, maximum, exclusive_minimum, exclusive_maximum, multiple_of, min_length, max_length, properties, required, additional_properties, property_names, min_properties, max_properties, prefix_items, items, unique_items, min_items, max_items, all_of, one_of, reference}

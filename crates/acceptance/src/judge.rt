@@ -16,7 +16,8 @@ use crate::siblings::{is_named, rest_items};
 use serde_json::{Map, Value};
 
 /// Whether the schema of the document accepts the value, where references are followed at most
-/// `depth` times, one behind the other. A float reads as null, in each of the three.
+/// `depth` times, one behind the other. A float reads as null, in each of the three. It takes no
+/// memory, and may look at a part of the value once for each path of the schema to it.
 pub fn accepts(document: &Value, schema: &Value, value: &Value, depth: usize) -> bool
     ensures { result ≡ accepts_at (json_of_value document.now) (json_of_value schema.now) (json_of_value value.now) depth }
 {

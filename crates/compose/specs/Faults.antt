@@ -1,5 +1,5 @@
 -- Why declarations have no components: a name given twice, or a name that is not known.
-use Rattle.std.specs.Prelude.{◌≡◌, ◌⊎◌, ℕ, List, [], ◌∷◌, ◌++◌, Option, Some, None, Bool, IsTrue, codes}
+use Rattle.std.specs.Prelude.{◌≡◌, ◌⊎◌, ℕ, List, [], ◌∷◌, ◌++◌, Option, Some, None, IsTrue, codes}
 use Rattle.acceptance.specs.Json.{is_in}
 use Rattle.diag.specs.Refusal.{IsRefusal}
 use Rattle.diag.specs.declared.error.DeriveError.{DeriveError}
@@ -8,7 +8,7 @@ use Rattle.schema_core.specs.Document.{Entry}
 use Rattle.syntax.specs.declared.written.Ident.{Ident}
 use Rattle.syntax.specs.Declarations.{Written, named, applied, FieldItem, DeclaredStruct}
 use Rattle.syntax.specs.Source.{Reads, IsUnreadable}
-use Rattle.compose.specs.Types.{Resolved, StructOf}
+use Rattle.compose.specs.Types.{StructOf}
 use Rattle.compose.specs.Derived.{name_resolved, place_in, declared_names, structs_of, IsApart, AreComponents}
 
 -- the fact holds of some item

@@ -1,5 +1,5 @@
 -- When a JSON value has the shape of a type or of a declared struct: what serde reads for it, with whole numbers of any size. No schema is known here.
-use Rattle.std.specs.Prelude.{ℕ, zero, suc, ℤ, pos, List, [], ◌∷◌, Bool, true, false, not, ◌&&◌, ◌||◌, int_le, IsTrue}
+use Rattle.std.specs.Prelude.{ℕ, zero, suc, ◌≤◌, ℤ, pos, List, Bool, true, false, not, ◌&&◌, ◌||◌, int_le, IsTrue}
 use Rattle.std.specs.List.{list_all}
 use Rattle.acceptance.specs.Json.{Json, null, boolean, number, text, list, map, elements, entries, names, is_in, look, if_there}
 use Rattle.compose.specs.Types.{Resolved, leaf, items, option, named, MemberOf, StructOf, is_required, struct_at}
@@ -62,3 +62,7 @@ shape ss (suc depth) d v = struct_shape (shape ss depth) (struct_at ss d) v
 -- The value has the shape of the declaration at the place.
 abbrev pub HasShape : List StructOf → ℕ → Json → Type 0
 HasShape ss d v = (depth : ℕ) × IsTrue (shape ss depth d v)
+
+-- The law: what has the shape at a depth has it at each greater depth.
+abbrev pub ShapesDeepen : Type 0
+ShapesDeepen = (ss : List StructOf) (d : ℕ) (v : Json) (depth deep : ℕ) → depth ≤ deep → IsTrue (shape ss depth d v) → IsTrue (shape ss deep d v)

@@ -1,5 +1,5 @@
 -- The schema of a declaration, over the places of the declarations that it names.
-use Rattle.std.specs.Prelude.{ℕ, List, [], ◌∷◌, Bool, true, false, cond, Option, Some, None}
+use Rattle.std.specs.Prelude.{ℕ, List, [], ◌∷◌, Bool, true, false, cond, None}
 use Rattle.schema_core.specs.declared.tree.RefLeaf.{RefLeaf}
 use Rattle.schema_core.specs.declared.tree.SchemaTypeInner.{SchemaTypeInner}
 use Rattle.schema_core.specs.declared.tree.SchemaTypeInner.TheVariants as word

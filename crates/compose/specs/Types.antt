@@ -1,5 +1,5 @@
 -- Resolved types, and structs of them (the serde data model; The Rust Reference, "Types").
-use Rattle.std.specs.Prelude.{ℕ, zero, suc, List, [], ◌∷◌, Bool, true, false, not, Option, Some, None, map, box_value}
+use Rattle.std.specs.Prelude.{ℕ, zero, suc, List, [], ◌∷◌, Bool, true, false, not, map, box_value}
 use Rattle.compose.specs.declared.leaf.Leaf.{Leaf}
 use Rattle.compose.specs.declared.open_type.OpenType.{OpenType, fold-OpenType}
 use Rattle.compose.specs.declared.open_type.OpenType.TheOpen.{OpenType-F}

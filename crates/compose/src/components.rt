@@ -2,6 +2,7 @@
 
 ghost use Rattle.std.specs.Prelude.{◌≡◌, ◌<◌, ℕ, List, length, map, IfOk, string_bytes};
 ghost use Rattle.std.specs.BTreeMap.{get_by_text};
+ghost use Rattle.schema_core.specs.Meaning.{IsDistinct};
 ghost use Rattle.schema_core.specs.Schema.{schema_view, object_view, named_views, bind, bind_properties};
 ghost use Rattle.compose.specs.Derived.{place_in, IsWithinType, MembersWithin, AreWithin, AreComponents};
 ghost use Rattle.compose.specs.Terms.{type_word, only_word, or_null, leaf_object, place, properties_of, required_names, reference_to, struct_schema};
@@ -11,7 +12,9 @@ use crate::leaf::Leaf;
 use crate::open_type::OpenType;
 use crate::structs::{Member, Struct};
 use diag::{List, Text};
-use schema_core::{Array, Components, Object, OneOfSchema, RefLeaf, Schema, SchemaTypeInner, Tree, TypeWord};
+use schema_core::{
+    Array, Components, Object, OneOfSchema, RefLeaf, Schema, SchemaTypeInner, Tree, TypeWord,
+};
 use std::alloc::{AllocError, Global};
 use std::collections::BTreeMap;
 
@@ -127,7 +130,7 @@ fn required_of(alloc: Global, members: &[Member]) -> Result<List<Text>, AllocErr
 {
     let mut required = List::new(alloc);
     for member in members {
-        if !matches!(member.ty, OpenType::Option(_)) {
+        if !member.ty.is_option() {
             required.push(member.name.copy(alloc)?)?;
         }
     }
@@ -141,6 +144,7 @@ pub(crate) fn components_of(
     places: &BTreeMap<String, usize>,
 ) -> Result<Components, AllocError>
     requires places { (name : List ℕ) → get_by_text places.now name ≡ place_in name (struct_names (map struct_view structs.now)) }
+    requires distinct { IsDistinct (struct_names (map struct_view structs.now)) }
     requires within { AreWithin (length structs.now) (map struct_view structs.now) }
     ensures { IfOk result (λ components. AreComponents (map struct_view structs.now) components) }
 {

@@ -86,7 +86,9 @@ impl Leaf {
         ensures { result ≡ minimum_of (reading_of self.now) }
     {
         match self {
-            Leaf::U8 | Leaf::U16 | Leaf::U32 | Leaf::U64 | Leaf::U128 | Leaf::Usize => Some(Bound::zero()),
+            Leaf::U8 | Leaf::U16 | Leaf::U32 | Leaf::U64 | Leaf::U128 | Leaf::Usize => Some(
+                Bound::zero(),
+            ),
             _ => None,
         }
     }

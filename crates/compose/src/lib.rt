@@ -9,9 +9,11 @@ mod names;
 mod open_type;
 mod resolve;
 mod structs;
+#[cfg(test)]
+mod tests;
 
 pub use derive::{Derived, derive_components};
-pub use law::components_describe;
+pub use law::{components_describe, shapes_deepen};
 pub use leaf::Leaf;
 pub use open_type::OpenType;
 pub use structs::{Member, Struct};

@@ -43,7 +43,12 @@ fn duplicate(alloc: Global, ident: &Ident) -> Result<DeriveError, AllocError>
     ensures { IfOk result (λ e. IsRefusal Kind.DuplicateName ident.now.span (duplicate_message ident.now.text) e) }
 {
     let message = format!(in alloc; "name {} is given twice", ident.text.as_str())?;
-    let diagnostics = Diagnostics::with_span(alloc, Kind::DuplicateName, ident.span, message.as_str())?;
+    let diagnostics = Diagnostics::with_span(
+        alloc,
+        Kind::DuplicateName,
+        ident.span,
+        message.as_str(),
+    )?;
     Ok(DeriveError::Refused(diagnostics))
 }
 

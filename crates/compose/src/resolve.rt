@@ -24,7 +24,12 @@ fn unknown(alloc: Global, ident: &Ident) -> Result<DeriveError, AllocError>
     ensures { IfOk result (λ e. IsRefusal Kind.UnknownType ident.now.span (unknown_message ident.now.text) e) }
 {
     let message = format!(in alloc; "unknown type {}", ident.text.as_str())?;
-    let diagnostics = Diagnostics::with_span(alloc, Kind::UnknownType, ident.span, message.as_str())?;
+    let diagnostics = Diagnostics::with_span(
+        alloc,
+        Kind::UnknownType,
+        ident.span,
+        message.as_str(),
+    )?;
     Ok(DeriveError::Refused(diagnostics))
 }
 

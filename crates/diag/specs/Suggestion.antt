@@ -1,5 +1,6 @@
 -- How a suggestion reads, and its place among others.
-use Rattle.std.specs.Prelude.{ℕ, List, ◌++◌, codes, insert, length, position, unwrap_or}
+use Rattle.std.specs.Prelude.{ℕ, List, ◌++◌, codes, insert}
+use Rattle.std.specs.List.{position_or_len}
 use Rattle.std.specs.Cmp.Lexicographic.{slice_cmp}
 use Rattle.std.specs.Ordering.{nat_cmp, is_lt}
 use Rattle.std.specs.declared.cmp.Ordering.{Ordering}
@@ -20,7 +21,7 @@ suggestion_cmp (Note a) (Note b) = slice_cmp nat_cmp a b
 
 -- the place before the first that comes after the suggestion, or the end
 abbrev pub place_of : Suggestion → List Suggestion → ℕ
-place_of suggestion others = unwrap_or (position (λ other. is_lt (suggestion_cmp suggestion other)) others) (length others)
+place_of suggestion others = position_or_len (λ other. is_lt (suggestion_cmp suggestion other)) others
 
 -- the suggestions and one more, at its place
 abbrev pub inserted : Suggestion → List Suggestion → List Suggestion

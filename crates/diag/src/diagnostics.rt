@@ -1,7 +1,7 @@
-ghost use Rattle.std.specs.Prelude.{◌≡◌, [], ◌∷◌, ◌++◌, unwrap_or, IfOk, OnOk};
-ghost use Rattle.diag.specs.Diagnostics.{diagnostic, with_suggestion, with_instance, text_of, lines_of, entry_text, joined_of, HasFirst};
+ghost use Rattle.std.specs.Prelude.{◌≡◌, [], ◌∷◌, ◌++◌, unwrap_or, IfOk, OnOk, IsSorted};
+ghost use Rattle.diag.specs.Diagnostics.{diagnostic, with_suggestion, with_instance, text_of, entry_text, joined_of, HasFirst};
 ghost use Rattle.diag.specs.Span.{no_span};
-ghost use Rattle.diag.specs.Suggestion.{line_of, place_of};
+ghost use Rattle.diag.specs.Suggestion.{suggestion_cmp};
 ghost use Rattle.diag.specs.declared.suggestion.Suggestion.TheVariants.{Help, Note};
 
 use crate::kind::Kind;
@@ -34,12 +34,16 @@ pub struct Diagnostics {
 }
 
 impl Model for Diagnostics {
-    ghost use Rattle.std.specs.Prelude.{List as Items, ◌∷◌};
+    ghost use Rattle.std.specs.Prelude.{List as Items, ◌∷◌, IsSorted};
+    ghost use Rattle.diag.specs.Suggestion.{suggestion_cmp};
     ghost use Rattle.diag.specs.declared.diagnostics.DiangosticsInner.{DiangosticsInner};
 
     ghost Value = { Items DiangosticsInner };
 
     ghost view = { λ diagnostics. diagnostics.first ∷ diagnostics.others };
+
+    // `help` and `note` keep the order of the suggestions
+    ghost invariant = { λ diagnostics. IsSorted suggestion_cmp diagnostics.first.suggestions };
 }
 
 impl Diagnostics {
@@ -143,7 +147,8 @@ impl Diagnostics {
 
     /// The suggestions of the first entry, sorted.
     pub fn suggestions(&self) -> &[Suggestion]
-        ensures { HasFirst self.now (λ entry. result.now ≡ entry.suggestions) }
+        ensures first { HasFirst self.now (λ entry. result.now ≡ entry.suggestions) }
+        ensures sorted { IsSorted suggestion_cmp result.now }
     {
         self.first.suggestions.as_slice()
     }

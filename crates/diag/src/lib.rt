@@ -14,5 +14,8 @@ pub use error::DeriveError;
 pub use kind::Kind;
 pub use list::List;
 pub use span::Span;
-pub use suggestion::Suggestion;
+pub use suggestion::{Suggestion, suggestions_are_ordered};
 pub use text::Text;
+
+#[cfg(test)]
+mod tests;

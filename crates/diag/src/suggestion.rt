@@ -1,4 +1,8 @@
-ghost use Rattle.std.specs.Prelude.{◌≡◌, position};
+ghost use Rattle.std.specs.Prelude.{◌≡◌, ◌≤◌, ◌↔◌, ℕ, List, length, IsTrue, position};
+ghost use Rattle.std.specs.Cmp.{IsTotalOrder};
+ghost use Rattle.std.specs.declared.cmp.Ordering.TheVariants.{Less, Equal};
+ghost use Rattle.diag.specs.declared.suggestion.Suggestion.{Suggestion as AnySuggestion};
+ghost use Rattle.diag.specs.declared.suggestion.Suggestion.TheVariants.{Help, Note};
 ghost use Rattle.std.specs.Ordering.{is_lt};
 ghost use Rattle.diag.specs.Suggestion.{suggestion_cmp, place_of};
 
@@ -29,7 +33,8 @@ impl Suggestion {
 
     /// The place before the first of the others that comes after the suggestion, or the end.
     pub(crate) fn place_among(&self, others: &[Suggestion]) -> usize
-        ensures { result ≡ place_of self.now others.now }
+        ensures place { result ≡ place_of self.now others.now }
+        ensures within { result ≤ length others.now }
     {
         self.first_after(others).unwrap_or(others.len())
     }
@@ -48,3 +53,16 @@ impl fmt::Display for Suggestion {
         }
     }
 }
+
+/// The order of suggestions: it is total, ties only what is equal, puts every help before every note, and texts by
+/// their bytes.
+pub fn suggestions_are_ordered()
+    ensures order { (one other : AnySuggestion) →
+        ⟦<Suggestion as Ord>⟧.cmp one other ≡ suggestion_cmp one other }
+    ensures total { IsTotalOrder suggestion_cmp }
+    ensures ties { (one other : AnySuggestion) →
+        (suggestion_cmp one other ≡ Equal) ↔ (one ≡ other) }
+    ensures equality { (one other : AnySuggestion) →
+        IsTrue (⟦<Suggestion as PartialEq>⟧.eq one other) ↔ (one ≡ other) }
+    ensures help_first { (help note : List ℕ) → suggestion_cmp (Help help) (Note note) ≡ Less }
+{}

@@ -6,10 +6,8 @@ use Rattle.std.proofs.lemmas.Map.Text.{is_eq-slice_cmp}
 use Rattle.std.proofs.lemmas.Slice.Eq.{bytes_eq-Decides}
 use Rattle.acceptance.specs.Json.{Json, Members, no_members, member, put, put_given, put_all, entries, names, is_in, look, if_there}
 use Rattle.acceptance.specs.Keyword.{keyword_of}
-use Rattle.acceptance.specs.Acceptance.{Readings, keyword_holds, accepts_with, members_hold, properties_accept, prefix_accepts, all_accept, one_accepts, reference_holds, each_property}
-use Rattle.acceptance.specs.References.{EachReference, InMembers, InProperties, InSchemas, InEach, ReferenceHas, AtKeyword}
+use Rattle.acceptance.specs.Acceptance.{keyword_holds, accepts_with, members_hold, properties_accept, prefix_accepts, all_accept, one_accepts, reference_holds, each_property}
 use Rattle.schema_core.specs.Form.{put_fields}
-use Rattle.schema_core.specs.Meaning.{IsDistinct}
 
 or-swap : (a b c : Bool) → (a || (b || c)) ≡ (b || (a || c))
 or-swap true true c = refl

@@ -1,20 +1,20 @@
 -- The JSON of a schema accepts what the tree accepts.
-use Rattle.std.proofs.Common.{ℕ, ℤ, List, [], ◌∷◌, ◌++◌, Bool, true, false, ◌&&◌, ◌||◌, Option, Some, None, option_map, codes, bytes_eq, int_le, drop, ◌≡◌, refl, ap, sym, ◌∙◌}
-use Rattle.std.specs.List.{list_all, list_any}
+use Rattle.std.proofs.Common.{ℕ, ℤ, List, [], ◌∷◌, Bool, true, false, ◌&&◌, ◌||◌, Option, Some, None, option_map, codes, bytes_eq, ◌≡◌, refl, ap, ◌∙◌}
+use Rattle.std.specs.List.{list_all}
 use Rattle.std.proofs.Math.Path.{fun_ext}
 use Rattle.std.proofs.Math.Bool.{or-false, and-true}
-use Rattle.acceptance.specs.Json.{Json, null, boolean, number, text, list, map, Items, no_items, item, Members, no_members, put_all, entries, names, is_in, look, on_map, on_list, on_number, if_there}
-use Rattle.acceptance.specs.Acceptance.{kinds_of, texts_of, if_texts, accepts_with, members_hold}
+use Rattle.acceptance.specs.Json.{Json, null, number, text, map, Members, no_members, names, is_in, look, on_map, on_list, if_there}
+use Rattle.acceptance.specs.Acceptance.{kinds_of, texts_of, if_texts, accepts_with}
 use Rattle.acceptance.specs.Acceptance.{some_accepts as some_json_accepts}
 use Rattle.schema_core.specs.declared.tree.TypeWord.{TypeWord}
 use Rattle.schema_core.specs.declared.tree.TypeWord.TheVariants.{Any, One, Nullable}
 use Rattle.schema_core.specs.declared.tree.RefLeaf.{RefLeaf}
-use Rattle.schema_core.specs.Schema.{Facts, SchemaOf, leaf, object, array, one_of, SchemasOf, no_schemas, schema, PropertiesOf, no_properties, property, property_names}
+use Rattle.schema_core.specs.Schema.{SchemaOf, leaf, object, array, one_of, SchemasOf, no_schemas, schema, PropertiesOf, no_properties, property, property_names}
 use Rattle.schema_core.specs.Form.{word_text, type_form, texts_form, required_form, entries_form, array_word, put_fields, object_fields, form, schema_forms, property_forms}
 use Rattle.schema_core.specs.Meaning.{word_accepts, minimum_accepts, required_accepts, tree_accepts, some_accepts, properties_accept, IsDistinct, IsProper, AreProper, ArePropertiesProper}
 use Rattle.std.proofs.lemmas.Slice.Eq.{bytes_eq-Decides}
 use Rattle.std.proofs.Math.Bool.{or-true}
-use Rattle.schema_core.proofs.Fields.{field_holds, fields_hold, map-of-fields, entries_accept, map-of-entries, AreNew, or-false-of, same_name}
+use Rattle.schema_core.proofs.Fields.{field_holds, map-of-fields, entries_accept, map-of-entries, AreNew, or-false-of, same_name}
 
 always : (v : Json) → true ≡ on_map v (λ es. true)
 always null = refl

@@ -1,5 +1,5 @@
 -- A short number is held by serde_json as it is.
-use Rattle.std.proofs.Common.{ℤ, pos, negsuc, ◌<◌, ◌≤◌, ◌^◌, ◌≡◌, refl, arith, ◌≤ℤ◌, ◌<ℤ◌, FitsSigned}
+use Rattle.std.proofs.Common.{ℤ, pos, negsuc, ◌≡◌, refl, arith, FitsSigned}
 use Rattle.std.specs.Int.{FitsUnsigned, w64}
 use Rattle.std.proofs.lemmas.Int.{ints}
 use Rattle.serde_json.specs.Find.{of_integer}

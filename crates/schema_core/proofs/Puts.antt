@@ -1,5 +1,5 @@
 -- What is put into a map of serde_json's is put into the members that it stands for.
-use Rattle.std.proofs.Common.{ℕ, List, [], ◌∷◌, ◌≡◌, refl, ap, sym, ◌∙◌, String, string_bytes, BTreeMap, Bool, true, false, ℤ, pos, negsuc, Option, Some, None, option_map}
+use Rattle.std.proofs.Common.{ℕ, List, ◌≡◌, refl, ap, ◌∙◌, String, string_bytes, BTreeMap, false, ℤ, pos, negsuc, Option, Some, None, option_map}
 use Rattle.std.specs.BTreeMap.{insert_entry}
 use Rattle.std.specs.String.{string_cmp}
 use Rattle.std.specs.declared.alloc.Global.{Global}
@@ -13,7 +13,7 @@ use Rattle.serde_json.specs.Find.{is_float}
 use Rattle.serde_json.specs.View.{view, members_view}
 use Rattle.serde_json.specs.Written.{has_float, items_have_float, members_have_float}
 use Rattle.serde_json.proofs.Views.{Entry, members_view-insert_entry, view-Object}
-use Rattle.acceptance.specs.Json.{Json, null, boolean, number, text, list, map, Items, no_items, item, Members, no_members, member, put, put_given, put_all}
+use Rattle.acceptance.specs.Json.{Json, null, boolean, number, text, list, map, Items, no_items, item, Members, no_members, member, put, put_given}
 use Rattle.schema_core.specs.Members.{put_given_data}
 use Rattle.acceptance.specs.Data.{num_of, data_of, items_data, members_data}
 

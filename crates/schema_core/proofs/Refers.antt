@@ -1,8 +1,8 @@
 -- The references of the JSON of a schema are the leaves of the tree.
-use Rattle.std.proofs.Common.{ℕ, ℤ, List, [], ◌∷◌, Bool, true, false, Option, Some, None, option_map, codes, nat_cmp, Ordering, Less, Equal, Greater, ◌≡◌, refl, sym, subst, IsTrue}
+use Rattle.std.proofs.Common.{ℕ, ℤ, List, [], ◌∷◌, Option, Some, None, option_map, codes, nat_cmp, Ordering, Less, Equal, Greater, ◌≡◌, refl, subst}
 use Rattle.std.specs.Cmp.Lexicographic.{slice_cmp}
 use Rattle.std.specs.Ordering.{match_ordering}
-use Rattle.acceptance.specs.Json.{Json, number, text, list, map, Items, Members, no_members, member, put, put_given, put_all}
+use Rattle.acceptance.specs.Json.{Json, number, text, Members, no_members, member, put, put_given, put_all}
 use Rattle.acceptance.specs.Keyword.{keyword_of}
 use Rattle.acceptance.specs.References.{EachReference, InMembers, InProperties, InSchemas, InItems, InEach, ReferenceHas, AtKeyword}
 use Rattle.schema_core.specs.declared.tree.TypeWord.{TypeWord}

@@ -1,5 +1,5 @@
 -- Lists of values, built one by one.
-use Rattle.std.proofs.Common.{ℕ, suc, ◌+◌, ◌<◌, Some, Option, rules, arith, List, [], ◌∷◌, ◌++◌, ◌≡◌, refl, ap, sym, ◌∙◌, length, take, get_or, map as map_list}
+use Rattle.std.proofs.Common.{ℕ, suc, ◌+◌, ◌<◌, Some, rules, arith, List, [], ◌∷◌, ◌++◌, ◌≡◌, refl, ap, sym, ◌∙◌, length, take, get_or, map as map_list}
 use Rattle.std.proofs.lemmas.List.{take_more, map-append}
 use Rattle.serde_json.specs.Data.{Data, string, item as data_item, put as put_data, Members as DataMembers}
 use Rattle.serde_json.specs.View.{items_of}

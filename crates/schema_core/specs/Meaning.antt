@@ -1,13 +1,13 @@
 -- What a schema accepts, told on the tree, and the laws that the JSON of the tree says the same.
 use Rattle.std.specs.Prelude.{◌≡◌, ℕ, ℤ, List, [], ◌∷◌, Bool, true, false, ◌&&◌, ◌||◌, Option, Some, None, option_map, codes, int_le, IsTrue}
 use Rattle.std.specs.List.{list_all}
-use Rattle.acceptance.specs.Json.{Json, entries, names, is_in, look, on_map, on_list, on_number, if_there}
+use Rattle.acceptance.specs.Json.{Json, names, is_in, look, on_map, on_list, on_number, if_there}
 use Rattle.acceptance.specs.Acceptance.{kinds_of, accepts_with, component_schema}
 use Rattle.acceptance.specs.References.{EachReference}
 use Rattle.schema_core.specs.declared.tree.TypeWord.{TypeWord}
 use Rattle.schema_core.specs.declared.tree.TypeWord.TheVariants.{Any, One, Nullable}
 use Rattle.schema_core.specs.declared.tree.RefLeaf.{RefLeaf}
-use Rattle.schema_core.specs.Schema.{Facts, SchemaOf, leaf, object, array, one_of, SchemasOf, no_schemas, schema, PropertiesOf, no_properties, property, property_names, EachLeaf}
+use Rattle.schema_core.specs.Schema.{SchemaOf, leaf, object, array, one_of, SchemasOf, no_schemas, schema, PropertiesOf, no_properties, property, property_names, EachLeaf}
 use Rattle.schema_core.specs.Form.{word_text, array_word, form}
 use Rattle.schema_core.specs.Document.{Entry, document}
 use Rattle.schema_core.specs.Entries.{names_of, find}

@@ -6,6 +6,8 @@ mod components;
 mod form;
 mod law;
 mod members;
+#[cfg(test)]
+mod tests;
 mod tree;
 
 pub use bound::Bound;

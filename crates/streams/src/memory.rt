@@ -88,13 +88,15 @@ impl Source for MemorySource {
 
     fn read(&mut self, buffer: &mut [u8]) -> Result<usize, Failed>
         ensures bound { ReadsAtMost result buffer.new }
-        ensures bytes { ReadConsumes (Some (source_left self.old)) (Some (source_left self.new)) result buffer.new }
+        ensures bytes { ReadConsumes (Some (source_left self.old)) (Some (source_left self.new))
+            result buffer.new }
         ensures cause { HasCause (source_faults self.old) (source_faults self.new) result }
 
         // a call fails where its number is among those, and nowhere else
         ensures failing { IsErr result ↔ Contains (source_fails self.old) (source_calls self.old) }
         ensures count { IfOk result (λ count.
-            count ≡ min (min (length (source_left self.old)) (length buffer.old)) (source_piece self.old)) }
+            count ≡ min (min (length (source_left self.old)) (length buffer.old))
+            (source_piece self.old)) }
         ensures call { SourceCounts self.old self.new }
     {
         let call = self.calls;
@@ -218,7 +220,8 @@ impl Sink for MemorySink {
     fn write(&mut self, piece: &[u8]) -> Result<usize, Failed>
         ensures bound { WritesAtMost result piece.now }
         ensures some { IfOk result (λ count. 0 < length piece.now → 0 < count) }
-        ensures bytes { WriteAppends (Some (sink_written self.old)) (Some (sink_written self.new)) result piece.now }
+        ensures bytes { WriteAppends (Some (sink_written self.old)) (Some (sink_written self.new))
+            result piece.now }
         ensures cause { HasCause (sink_faults self.old) (sink_faults self.new) result }
 
         // a call fails where its number is among those or the room is full, and nowhere else
@@ -226,7 +229,8 @@ impl Sink for MemorySink {
         ensures failing { IsErr result → Contains (sink_fails self.old) (sink_calls self.old)
             ⊎ (length (sink_written self.old) ≡ sink_room self.old) }
         ensures count { IfOk result (λ count. count ≡
-            min (min (length piece.now) (sink_room self.old - length (sink_written self.old))) (sink_piece self.old)) }
+            min (min (length piece.now) (sink_room self.old - length (sink_written self.old)))
+            (sink_piece self.old)) }
         ensures call { SinkCounts self.old self.new }
     {
         if self.is_to_fail() {
@@ -301,7 +305,8 @@ impl Sink for HonestSink {
     fn write(&mut self, piece: &[u8]) -> Result<usize, Failed>
         ensures bound { WritesAtMost result piece.now }
         ensures some { IfOk result (λ count. 0 < length piece.now → 0 < count) }
-        ensures bytes { WriteAppends (Some (honest_written self.old)) (Some (honest_written self.new)) result piece.now }
+        ensures bytes { WriteAppends (Some (honest_written self.old)) (Some (honest_written self.new))
+            result piece.now }
         ensures cause { HasCause (honest_faults self.old) (honest_faults self.new) result }
         ensures full { OnErr result (length (honest_written self.old) ≡ honest_room self.old) }
         ensures count { IfOk result (λ count.

@@ -1,3 +1,5 @@
+ghost use Rattle.std.specs.Prelude.{◌≡◌};
+
 use crate::sink::Sink;
 use crate::source::{Failed, Source, count_fault};
 use std::io::{Read, Write};
@@ -9,8 +11,12 @@ pub struct StdSource<R> {
     faults: u64,
 }
 
-impl<R> StdSource<R> {
-    pub fn new(reader: R) -> StdSource<R> {
+impl<R: Read> StdSource<R> {
+    /// No fault was counted yet.
+    pub fn new(reader: R) -> StdSource<R>
+        ensures left { ⟦<StdSource<R> as Source>⟧.left result ≡ R.remaining reader }
+        ensures faults { ⟦<StdSource<R> as Source>⟧.faults result ≡ 0 }
+    {
         StdSource { reader, faults: 0 }
     }
 }
@@ -35,8 +41,12 @@ pub struct StdSink<W> {
     faults: u64,
 }
 
-impl<W> StdSink<W> {
-    pub fn new(writer: W) -> StdSink<W> {
+impl<W: Write> StdSink<W> {
+    /// No fault was counted yet.
+    pub fn new(writer: W) -> StdSink<W>
+        ensures written { ⟦<StdSink<W> as Sink>⟧.written result ≡ W.contents writer }
+        ensures faults { ⟦<StdSink<W> as Sink>⟧.faults result ≡ 0 }
+    {
         StdSink { writer, faults: 0 }
     }
 }

@@ -1,4 +1,4 @@
-use Rattle.std.proofs.Common.{◌≡◌, ◌<◌, ◌≤◌, [], ap, sym, ◌∙◌, subst, length, get_or, insert, map, arith, refl, suc, None, rules}
+use Rattle.std.proofs.Common.{◌≡◌, ◌<◌, [], ap, sym, ◌∙◌, subst, length, get_or, insert, map, refl, suc, rules}
 use Rattle.std.proofs.lemmas.Bool.{false≢true}
 use Rattle.schema_core.specs.Entries.{find, entries_of, with_entry, IsInOrder}
 use Rattle.schema_core.specs.Schema.{schema_view}

@@ -1,4 +1,4 @@
-use Rattle.std.proofs.Common.{◌≡◌, ◌∷◌, [], ◌++◌, ap, ◌∙◌}
+use Rattle.std.proofs.Common.{◌∷◌, [], ◌++◌, ap, ◌∙◌}
 use Rattle.serde_json.specs.Written.{has_float, compact_text}
 use Rattle.schema_core.specs.Document.{document, text_of}
 use Rattle.schema_core.proofs.Puts.{has_no_float}

@@ -1,4 +1,4 @@
-use Rattle.std.proofs.Common.{◌≡◌, ◌∷◌, [], ap, ◌∙◌, codes, map as map_list}
+use Rattle.std.proofs.Common.{◌∷◌, [], ap, ◌∙◌, codes, map as map_list}
 use Rattle.serde_json.specs.Data.{object}
 use Rattle.acceptance.specs.Json.{Json, map_of}
 use Rattle.schema_core.specs.Document.{entry_form}

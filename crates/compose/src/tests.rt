@@ -1,0 +1,183 @@
+use crate::{components_describe, derive_components};
+use acceptance::component_accepts;
+use diag::DeriveError;
+use serde_json::Value;
+use std::alloc::Global;
+use std::test::Fail;
+
+/// The schemas of the source's components, as the document's text has them.
+const SCHEMAS: [(&str, &str); 12] = [
+    ("", ""),
+    ("struct Empty {}", r#""Empty":{"type":"object"}"#),
+    (
+        "struct Pet { id: u64, name: Option<String> }",
+        r#""Pet":{"properties":{"id":{"format":"int64","minimum":0,"type":"integer"},"name":{"type":["string","null"]}},"required":["id"],"type":"object"}"#,
+    ),
+    (
+        "struct B { z: bool, a: char } struct A { s: str }",
+        r#""A":{"properties":{"s":{"type":"string"}},"required":["s"],"type":"object"},"B":{"properties":{"a":{"type":"string"},"z":{"type":"boolean"}},"required":["z","a"],"type":"object"}"#,
+    ),
+    (
+        "struct Tree { leaf: i8, children: Vec<Tree> }",
+        r##""Tree":{"properties":{"children":{"items":{"$ref":"#/components/schemas/Tree"},"type":"array"},"leaf":{"format":"int32","type":"integer"}},"required":["leaf","children"],"type":"object"}"##,
+    ),
+    (
+        "struct Odd { even: Option<Even> } struct Even { odd: Odd }",
+        r##""Even":{"properties":{"odd":{"$ref":"#/components/schemas/Odd"}},"required":["odd"],"type":"object"},"Odd":{"properties":{"even":{"oneOf":[{"$ref":"#/components/schemas/Even"},{"type":"null"}]}},"type":"object"}"##,
+    ),
+    (
+        "struct S { a: Option<Option<i32>> }",
+        r#""S":{"properties":{"a":{"format":"int32","type":["integer","null"]}},"type":"object"}"#,
+    ),
+    (
+        "struct S { a: Vec<Vec<String>>, b: Option<Vec<Option<bool>>> }",
+        r#""S":{"properties":{"a":{"items":{"items":{"type":"string"},"type":"array"},"type":"array"},"b":{"items":{"type":["boolean","null"]},"type":["array","null"]}},"required":["a"],"type":"object"}"#,
+    ),
+    (
+        "struct N { a: i8, b: i16, c: i32, d: i64, e: i128, f: isize }",
+        r#""N":{"properties":{"a":{"format":"int32","type":"integer"},"b":{"format":"int32","type":"integer"},"c":{"format":"int32","type":"integer"},"d":{"format":"int64","type":"integer"},"e":{"type":"integer"},"f":{"type":"integer"}},"required":["a","b","c","d","e","f"],"type":"object"}"#,
+    ),
+    (
+        "struct N { a: u8, b: u16, c: u32, d: u64, e: u128, f: usize }",
+        r#""N":{"properties":{"a":{"format":"int32","minimum":0,"type":"integer"},"b":{"format":"int32","minimum":0,"type":"integer"},"c":{"format":"int32","minimum":0,"type":"integer"},"d":{"format":"int64","minimum":0,"type":"integer"},"e":{"minimum":0,"type":"integer"},"f":{"minimum":0,"type":"integer"}},"required":["a","b","c","d","e","f"],"type":"object"}"#,
+    ),
+    (
+        "struct F { a: f32, b: Option<f64> }",
+        r#""F":{"properties":{"a":{"format":"float","type":"number"},"b":{"format":"double","type":["number","null"]}},"required":["a"],"type":"object"}"#,
+    ),
+    (
+        "struct String { a: u8 } struct S { b: String }",
+        r#""S":{"properties":{"b":{"type":"string"}},"required":["b"],"type":"object"},"String":{"properties":{"a":{"format":"int32","minimum":0,"type":"integer"}},"required":["a"],"type":"object"}"#,
+    ),
+];
+
+const VALUES: &str = r#"[
+    {"source": "struct Pet { id: u64, name: Option<String> }", "name": "Pet",
+        "accepted": [{"id": 1}, {"id": 0, "name": null}, {"id": 18446744073709551615, "name": "Rex"}, {"id": 1, "more": []}],
+        "refused": [{}, {"id": -1}, {"id": "1"}, {"id": null}, {"name": "Rex"}, {"id": 1, "name": 2}, [1], null, 1]},
+    {"source": "struct Tree { children: Vec<Tree>, id: i8 }", "name": "Tree",
+        "accepted": [{"id": 1, "children": []}, {"id": -1, "children": [{"id": 2, "children": []}]}],
+        "refused": [{"id": 1}, {"children": []}, {"id": 1, "children": [{}]}, {"id": 1, "children": [{"id": "a", "children": []}]}, {"id": 1, "children": {}}]},
+    {"source": "struct Odd { even: Option<Even> } struct Even { odd: Odd }", "name": "Odd",
+        "accepted": [{}, {"even": null}, {"even": {"odd": {}}}],
+        "refused": [{"even": {}}, {"even": 1}, {"even": {"odd": null}}]},
+    {"source": "struct Odd { even: Option<Even> } struct Even { odd: Odd }", "name": "Even", "accepted": [{"odd": {}}], "refused": [{}, null]},
+    {"source": "struct S { a: Vec<Option<bool>>, b: char }", "name": "S",
+        "accepted": [{"a": [], "b": "x"}, {"a": [true, null], "b": "y"}],
+        "refused": [{"a": null, "b": "x"}, {"a": [1], "b": "x"}, {"a": [], "b": true}]},
+    {"source": "struct S { a: Option<Option<i32>> }", "name": "S", "accepted": [{}, {"a": null}, {"a": -3}], "refused": [{"a": []}, {"a": "3"}]}
+]"#;
+
+#[test]
+fn schemas_stand_in_the_document(rt: HostRuntime) -> Result<(), Fail> {
+    let alloc = rt.alloc();
+    for (source, schemas) in SCHEMAS {
+        let text = derive_components(alloc, source)?.components.to_text(alloc)?;
+        let mut expected = String::from_str(alloc, r#"{"components":{"schemas":{"#)?;
+        expected.push_str(schemas)?;
+        expected.push_str("}}}\n")?;
+        assert_eq!(rt; text.as_str(), expected.as_str(), "{source}");
+    }
+    components_describe();
+    Ok(())
+}
+
+#[test]
+fn schemas_accept_what_serde_reads(rt: HostRuntime) -> Result<(), Fail> {
+    let alloc = rt.alloc();
+    let rows = Value::from_str(alloc, VALUES)?;
+    for row in rows.as_array().ok_or("a list of rows")? {
+        let source = row.get("source").and_then(Value::as_str).ok_or("a source")?;
+        let name = row.get("name").and_then(Value::as_str).ok_or("a name")?;
+        let document = derive_components(alloc, source)?
+            .components
+            .to_value(alloc)?;
+        for value in values_of(row, "accepted") {
+            assert!(rt;
+                component_accepts(&document, name, value, 9),
+                "{source}: {name} accepts {value}"
+            );
+        }
+        for value in values_of(row, "refused") {
+            assert!(rt;
+                !component_accepts(&document, name, value, 9),
+                "{source}: {name} refuses {value}"
+            );
+        }
+    }
+    Ok(())
+}
+
+fn values_of<'a>(row: &'a Value, name: &str) -> &'a [Value] {
+    match row.get(name) {
+        Some(Value::Array(values)) => values.as_slice(),
+        _ => &[],
+    }
+}
+
+/// The kind, the place and the message of the source's refusal.
+fn refusal_text(alloc: Global, source: &str) -> Result<String, Fail> {
+    match derive_components(alloc, source) {
+        Ok(_) => Ok(String::from_str(alloc, "no refusal")?),
+        Err(DeriveError::Memory) => Ok(String::from_str(alloc, "out of memory")?),
+        Err(DeriveError::Refused(diagnostics)) => {
+            let span = diagnostics.span();
+            let kind = diagnostics.kind().name();
+            Ok(format!(in alloc;
+                "{kind} {}..{} {}",
+                span.start,
+                span.end,
+                diagnostics.message()
+            )?)
+        }
+    }
+}
+
+#[test]
+fn faults_are_refused(rt: HostRuntime) -> Result<(), Fail> {
+    let alloc = rt.alloc();
+    let cases = [
+        (
+            "struct A {} struct A {}",
+            "DuplicateName 19..20 name A is given twice",
+        ),
+        (
+            "struct A { x: u8, y: u8, x: Gone }",
+            "DuplicateName 25..26 name x is given twice",
+        ),
+        (
+            "struct A { x: Gone } struct A {}",
+            "DuplicateName 28..29 name A is given twice",
+        ),
+        (
+            "struct A { x: u8, y: Gone }",
+            "UnknownType 21..25 unknown type Gone",
+        ),
+        (
+            "struct A { x: Vec<Option<Gone>> }",
+            "UnknownType 25..29 unknown type Gone",
+        ),
+        (
+            "struct A { x: Value }",
+            "UnknownType 14..19 unknown type Value",
+        ),
+        (
+            "struct A { x: Object } struct Object {}",
+            "UnknownType 14..20 unknown type Object",
+        ),
+        (
+            "struct A { x: Gone } struct B { y: u8, y: u8 }",
+            "UnknownType 14..18 unknown type Gone",
+        ),
+        (
+            "struct A { x: Option }",
+            "UnknownType 14..20 unknown type Option",
+        ),
+        ("struct A { x: a }", "UnknownType 14..15 unknown type a"),
+    ];
+    for (source, expected) in cases {
+        let text = refusal_text(alloc, source)?;
+        assert_eq!(rt; text.as_str(), expected, "{source}");
+    }
+    Ok(())
+}
