@@ -1,5 +1,5 @@
 -- What follows from what a run owes.
-use Rattle.std.proofs.Common.{ℕ, List, [], Option, Some, None, ◌≡◌, ◌⊎◌, inl, inr, refl, subst, codes}
+use Rattle.std.proofs.Common.{ℕ, List, Option, Some, ◌≡◌, ◌⊎◌, inl, inr, refl, subst, codes}
 use Rattle.std.specs.Io.KnownBytes.{Appends}
 use Rattle.diag.specs.declared.error.DeriveError.{DeriveError}
 use Rattle.diag.specs.declared.error.DeriveError.TheVariants as error

@@ -1,5 +1,5 @@
 -- Lists of one word.
-use Rattle.std.proofs.Common.{ℕ, List, [], ◌∷◌, length, map, get_or, Bool, true, false, IsTrue, bytes_eq, String, Global, string_bytes, ◌≡◌, ◌↔◌, refl, sym, ap, ◌∙◌, arith}
+use Rattle.std.proofs.Common.{ℕ, List, [], ◌∷◌, length, map, get_or, Bool, false, IsTrue, bytes_eq, String, Global, string_bytes, ◌≡◌, ◌↔◌, sym, ap, ◌∙◌, arith}
 use Rattle.std.proofs.lemmas.Slice.Eq.{bytes_eq-Decides}
 use Rattle.std.proofs.lemmas.List.{length-map}
 

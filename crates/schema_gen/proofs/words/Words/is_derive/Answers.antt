@@ -1,4 +1,4 @@
-use Rattle.std.proofs.Common.{◌≡◌, length, arith}
+use Rattle.std.proofs.Common.{arith}
 use Rattle.schema_gen.specs.Words.{IsDerive}
 use Rattle.schema_gen.proofs.OneWord.{one_word, not_one}
 use Rattle.schema_gen.proofs.words.Words.is_derive.Goals as goal
