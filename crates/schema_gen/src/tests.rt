@@ -21,8 +21,8 @@ fn words_of(alloc: Global, texts: &[&str]) -> Result<Words, Fail> {
 fn outcome(alloc: Global, words: &[&str], source: &[u8]) -> Result<(Status, Vec<u8>), Fail> {
     let words = words_of(alloc, words)?;
     let mut input = HonestSource::new(source.to_vec(alloc)?);
-    let mut out = HonestSink::new(alloc, 1000)?;
-    let mut err = HonestSink::new(alloc, 1000)?;
+    let mut out = HonestSink::new(alloc, 3000)?;
+    let mut err = HonestSink::new(alloc, 3000)?;
     let status = run(alloc, &words, &mut input, &mut out, &mut err);
     let mut written = out.as_slice().to_vec(alloc)?;
     written.extend_from_slice(err.as_slice())?;
@@ -249,6 +249,31 @@ fn fails_with_its_streams(rt: HostRuntime) -> Result<(), Fail> {
         assert_eq!(rt; out.as_slice().len(), length);
         assert!(rt; PET_DOCUMENT.as_bytes().starts_with(out.as_slice()));
         assert_eq!(rt; err.as_slice(), report.as_bytes());
+    }
+    Ok(())
+}
+
+/// A struct with a field of that many lists, one in the other.
+fn lists_of(alloc: Global, levels: usize) -> Result<String, Fail> {
+    let mut source = String::from_str(alloc, "struct S { x: ")?;
+    for _ in 0..levels {
+        source.push_str("Vec<")?;
+    }
+    source.push_str("bool")?;
+    for _ in 0..levels {
+        source.push_str(">")?;
+    }
+    source.push_str(" }")?;
+    Ok(source)
+}
+
+#[test]
+fn bounds_the_levels(rt: HostRuntime) -> Result<(), Fail> {
+    let alloc = rt.alloc();
+    for (levels, expected) in [(63, Status::Done), (64, Status::Refused(Kind::Syntax))] {
+        let source = lists_of(alloc, levels)?;
+        let (status, _) = outcome(alloc, &["derive"], source.as_bytes())?;
+        assert_eq!(rt; status, expected, "{levels}");
     }
     Ok(())
 }
