@@ -1,5 +1,5 @@
 -- Components of structs that are entered one after another.
-use Rattle.std.proofs.Common.{ℕ, zero, suc, ◌+◌, ◌<◌, ◌≤◌, List, [], ◌∷◌, ◌++◌, Option, Some, None, is_some, IsTrue, Bool, true, false, cond, bytes_eq, length, map, String, string_bytes, nat_cmp, Ordering, Less, Equal, Greater, is_eq, ◌≡◌, refl, ap, sym, subst, ◌∙◌, arith, ◌⊎◌, inl, inr, ◌||◌, option_map, ◌↔◌}
+use Rattle.std.proofs.Common.{ℕ, zero, suc, ◌<◌, List, [], ◌∷◌, Option, Some, None, is_some, IsTrue, Bool, true, false, cond, bytes_eq, length, String, string_bytes, nat_cmp, Ordering, Less, Equal, Greater, is_eq, ◌≡◌, refl, ap, sym, subst, ◌∙◌, arith, ◌⊎◌, inl, inr, ◌||◌, option_map, ◌↔◌}
 use Rattle.std.specs.Cmp.Lexicographic.{slice_cmp}
 use Rattle.std.specs.BTreeMap.{is_at}
 use Rattle.std.specs.Map.{lookup}
@@ -15,6 +15,7 @@ use Rattle.schema_core.specs.declared.tree.RefLeaf.{RefLeaf}
 use Rattle.schema_core.specs.Schema.{SchemaOf}
 use Rattle.schema_core.specs.Document.{Entry}
 use Rattle.schema_core.specs.Entries.{find, names_of, with_entry, IsInOrder}
+use Rattle.compose.proofs.Growing.{some_same}
 use Rattle.compose.specs.Types.{StructOf, struct_at, struct_names}
 use Rattle.compose.specs.Terms.{struct_schema}
 use Rattle.compose.specs.Derived.{place_in, AreComponents}
@@ -35,9 +36,6 @@ abbrev pub AreLeft : {Y : Type 0} → (List ℕ → Option ℕ) → List (String
 AreLeft place_of entries components = (name : List ℕ) → IsTrue (is_some (place_of name)) → IsTrue (is_some (find name components)) ⊎ IsTrue (is_some (at_text name entries))
 
 -- ---- places
-
-some_same : {A : Type 0} (a b : A) → Some a ≡ Some b → a ≡ b
-some_same a b e = grind arith
 
 pub placed : (ss : List StructOf) (k : List ℕ) (p : ℕ) → place_in k (struct_names ss) ≡ Some p → (p < length ss) × (k ≡ (struct_at ss p).name)
 placed [] k p e = absurd (none-some p e)

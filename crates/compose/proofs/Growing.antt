@@ -1,19 +1,18 @@
 -- What holds of a list whose items are resolved from the first on, and where an item is at fault.
-use Rattle.std.proofs.Common.{ℕ, zero, suc, ◌+◌, ◌<◌, ◌≤◌, List, [], ◌∷◌, ◌++◌, Option, Some, None, option_map, option_and_then, length, take, drop, get_or, map, ◌≡◌, refl, ap, sym, subst, ◌∙◌, arith, rules, ◌⊎◌, inl, inr}
+use Rattle.std.proofs.Common.{ℕ, zero, suc, ◌+◌, ◌<◌, List, [], ◌∷◌, ◌++◌, Option, Some, None, option_map, option_and_then, length, take, get_or, map, ◌≡◌, refl, ap, sym, subst, ◌∙◌, arith, inl, inr}
 use Rattle.std.proofs.lemmas.List.{take_more, map_push}
 use Rattle.std.proofs.lemmas.Option.{none-some}
 use Rattle.schema_core.specs.Meaning.{IsDistinct}
-use Rattle.syntax.specs.declared.written.Ident.{Ident}
 use Rattle.syntax.specs.declared.written.Field.{Field}
 use Rattle.syntax.specs.declared.written.Declaration.{Declaration}
-use Rattle.syntax.specs.Declarations.{FieldItem, DeclaredStruct, field_view, declaration_view}
-use Rattle.compose.specs.Types.{Resolved, StructOf, MemberOf, member_names, struct_names}
-use Rattle.compose.specs.Derived.{all_of, member_of, struct_of, resolved, declared_names, MembersDiffer}
+use Rattle.syntax.specs.Declarations.{field_view, declaration_view}
+use Rattle.compose.specs.Types.{Resolved, StructOf, MemberOf, member_names}
+use Rattle.compose.specs.Derived.{all_of, member_of, resolved, MembersDiffer}
 use Rattle.compose.specs.Faults.{Somewhere, texts, field_idents, declared_idents}
 
 -- ---- one more
 
-some_same : {A : Type 0} (a b : A) → Some a ≡ Some b → a ≡ b
+pub some_same : {A : Type 0} (a b : A) → Some a ≡ Some b → a ≡ b
 some_same a b e = grind arith
 
 grown : {B : Type 0} (y : B) (ys : List B) (o : Option B) (p q : Option (List B)) → ((ws : List B) → p ≡ Some ws → q ≡ Some (ws ++ y ∷ [])) →

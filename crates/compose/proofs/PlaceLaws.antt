@@ -1,15 +1,13 @@
 -- Places of names in a list that grows at its end.
-use Rattle.std.proofs.Common.{ℕ, zero, suc, ◌+◌, ◌<◌, ◌≤◌, List, [], ◌∷◌, ◌++◌, Option, Some, None, option_map, Bool, true, false, cond, ◌||◌, bytes_eq, length, take, drop, get_or, map, ◌≡◌, ◌≢◌, refl, ap, sym, subst, ◌∙◌, arith, rules, ◌⊎◌, inl, inr, IsTrue, Result, Ok, Err, MatchResult, is_ok}
-use Rattle.std.specs.List.{list_any}
+use Rattle.std.proofs.Common.{ℕ, zero, suc, ◌<◌, List, [], ◌∷◌, ◌++◌, Option, Some, None, option_map, Bool, true, false, cond, ◌||◌, bytes_eq, length, take, drop, get_or, map, ◌≡◌, refl, ap, sym, ◌∙◌, arith, rules, ◌⊎◌, inl, inr, IsTrue, Result, Ok, Err, MatchResult, is_ok}
 use Rattle.std.specs.Map.{update}
 use Rattle.std.proofs.lemmas.Slice.Eq.{bytes_eq-Decides}
 use Rattle.std.proofs.lemmas.Bool.{false≢true}
-use Rattle.std.proofs.Math.Bool.{or-false, or-true}
 use Rattle.acceptance.specs.Json.{is_in}
 use Rattle.schema_core.specs.Meaning.{IsDistinct}
 use Rattle.syntax.specs.declared.written.Ident.{Ident}
 use Rattle.compose.specs.Derived.{place_in}
-use Rattle.compose.specs.Faults.{texts, Repeats}
+use Rattle.compose.specs.Faults.{texts}
 
 bool_cases : (b : Bool) → (b ≡ true) ⊎ (b ≡ false)
 bool_cases true = inl refl

@@ -1,5 +1,5 @@
 -- Structs at their places, and the schemas of members.
-use Rattle.std.proofs.Common.{ℕ, zero, suc, ◌+◌, ◌<◌, ◌≤◌, List, [], ◌∷◌, ◌++◌, Option, Some, None, Bool, true, false, cond, length, take, drop, get_or, map, ◌≡◌, refl, ap, sym, subst, ◌∙◌, arith, rules}
+use Rattle.std.proofs.Common.{ℕ, zero, suc, ◌+◌, ◌<◌, List, [], ◌∷◌, ◌++◌, Bool, true, false, cond, length, take, get_or, map, ◌≡◌, refl, ap, sym, ◌∙◌, arith, rules}
 use Rattle.std.proofs.lemmas.List.{take_more, map_push}
 use Rattle.schema_core.specs.declared.tree.RefLeaf.{RefLeaf}
 use Rattle.schema_core.specs.declared.tree.Tree.{the_lemmas as tree_lemmas}
@@ -8,9 +8,9 @@ use Rattle.schema_core.specs.Schema.{schema_view, SchemaOf, leaf, bind, bind_pro
 use Rattle.schema_core.specs.Schema as tree
 use Rattle.compose.specs.declared.structs.Member.{Member}
 use Rattle.compose.specs.declared.structs.Struct.{Struct}
-use Rattle.compose.specs.declared.open_type.OpenType.{OpenType, the_lemmas}
+use Rattle.compose.specs.declared.open_type.OpenType.{the_lemmas}
 use Rattle.compose.specs.declared.open_type.OpenType.TheVariants as variant
-use Rattle.compose.specs.Types.{Resolved, named, MemberOf, StructOf, struct_at, is_required, type_view, member_view, struct_view}
+use Rattle.compose.specs.Types.{named, MemberOf, StructOf, struct_at, is_required, type_view, member_view, struct_view}
 use Rattle.compose.specs.Derived.{IsWithinType, MembersWithin, AreWithin}
 use Rattle.compose.specs.Terms.{or_null, place, reference_to, properties_of, required_names}
 

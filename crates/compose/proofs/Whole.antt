@@ -1,5 +1,5 @@
 -- What the resolved structs of all declarations say: their names, that each place is within them, and that no condition of a refusal holds.
-use Rattle.std.proofs.Common.{ℕ, zero, suc, ◌+◌, ◌<◌, ◌≤◌, List, [], ◌∷◌, ◌++◌, Option, Some, None, option_map, option_and_then, Bool, true, false, cond, ◌||◌, bytes_eq, length, map, ◌≡◌, refl, ap, sym, subst, ◌∙◌, arith, ◌⊎◌, inl, inr, IsTrue, codes}
+use Rattle.std.proofs.Common.{ℕ, ◌<◌, List, [], ◌∷◌, ◌++◌, Option, Some, None, option_map, option_and_then, Bool, true, false, cond, ◌||◌, bytes_eq, length, map, ◌≡◌, refl, ap, sym, subst, ◌∙◌, ◌⊎◌, inl, inr, IsTrue, codes}
 use Rattle.std.proofs.Math.Path.{fun_ext}
 use Rattle.std.proofs.lemmas.Bool.{false≢true}
 use Rattle.std.proofs.lemmas.Option.{none-some}
@@ -14,14 +14,12 @@ use Rattle.syntax.specs.declared.written.Declaration.{Declaration}
 use Rattle.syntax.specs.Declarations.{Written, named, applied, FieldItem, DeclaredStruct, declaration_view}
 use Rattle.compose.specs.declared.leaf.Leaf.{Leaf}
 use Rattle.compose.specs.Leaves.{leaf_of}
+use Rattle.compose.proofs.Growing.{some_same}
 use Rattle.compose.specs.Types.{Resolved, leaf, items, option, MemberOf, StructOf, member_names, struct_names}
 use Rattle.compose.specs.Types as types
 use Rattle.compose.specs.Derived.{all_of, or_declared, is_kept_back, name_resolved, container, resolved, member_of, struct_of, structs_of, declared_names, place_in, MembersDiffer, IsApart, IsWithinType, MembersWithin, AreWithin}
 use Rattle.compose.proofs.Entered.{placed}
-use Rattle.compose.specs.Faults.{Somewhere, texts, field_idents, declared_idents, Repeats, IsUnknownField, IsFaultyStruct, IsDuplicate, IsUnknown, IsFaulty, AreClear, inner_name, duplicate_message, unknown_message}
-
-some_same : {A : Type 0} (a b : A) → Some a ≡ Some b → a ≡ b
-some_same a b e = grind arith
+use Rattle.compose.specs.Faults.{Somewhere, texts, field_idents, declared_idents, Repeats, IsUnknownField, IsFaultyStruct, AreClear, inner_name, duplicate_message, unknown_message}
 
 -- ---- what stands behind a `Some`
 

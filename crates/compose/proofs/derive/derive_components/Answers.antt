@@ -1,18 +1,17 @@
-use Rattle.std.proofs.Common.{◌≡◌, ◌<◌, ◌⊎◌, ℕ, List, length, map, ap, sym, ◌∙◌, subst, inl, inr, Some, None, Option}
+use Rattle.std.proofs.Common.{◌≡◌, ℕ, List, length, map, ap, sym, ◌∙◌, subst, inl, inr}
 use Rattle.std.proofs.lemmas.List.{length-map}
 use Rattle.std.proofs.lemmas.Result.{err_from_is_err_and}
 use Rattle.std.specs.BTreeMap.{get_by_text}
 use Rattle.diag.specs.Refusal.{IsRefusal}
 use Rattle.diag.specs.declared.kind.Kind.TheVariants.{DuplicateName}
 use Rattle.schema_core.specs.Meaning.{IsDistinct}
-use Rattle.schema_core.specs.Document.{document}
 use Rattle.syntax.specs.declared.written.Ident.{Ident}
 use Rattle.syntax.specs.declared.written.Declaration.{Declaration}
 use Rattle.syntax.specs.Declarations.{declaration_view}
 use Rattle.compose.specs.declared.structs.Struct.{Struct}
 use Rattle.compose.specs.Types.{struct_view, struct_names}
-use Rattle.compose.specs.Derived.{all_of, struct_of, structs_of, place_in, declared_names, AreWithin, AreComponents, IsApart, Describes}
-use Rattle.compose.specs.Faults.{Repeats, Somewhere, IsFaultyStruct, IsRefused, IsDerived, AreClear, IsFaulty, declared_idents, texts, duplicate_message}
+use Rattle.compose.specs.Derived.{place_in, declared_names, AreWithin, AreComponents}
+use Rattle.compose.specs.Faults.{Repeats, Somewhere, IsFaultyStruct, IsDerived, declared_idents, texts, duplicate_message}
 use Rattle.compose.proofs.Growing.{declared_idents-are}
 use Rattle.compose.proofs.Whole.{declared_names-are, faulty_in, place_of-is, structs_of-is, settled}
 use Rattle.compose.proofs.derive.derive_components.Goals as goal
