@@ -3,3 +3,21 @@ pub mod Numbers
 pub mod Owed
 pub mod Refusals
 pub mod Words
+pub use Rattle.acceptance.specs.Acceptance
+pub use Rattle.acceptance.specs.Json
+pub use Rattle.acceptance.specs.References
+pub use Rattle.compose.specs.Derived
+pub use Rattle.compose.specs.Faults
+pub use Rattle.compose.specs.Plain
+pub use Rattle.compose.specs.Shape
+pub use Rattle.compose.specs.Types
+pub use Rattle.diag.specs.Diagnostics
+pub use Rattle.diag.specs.Kind
+pub use Rattle.diag.specs.Refusal
+pub use Rattle.diag.specs.Span
+pub use Rattle.schema_core.specs.Document
+pub use Rattle.streams.specs.Faults as StreamFaults
+pub use Rattle.streams.specs.Memory
+pub use Rattle.streams.specs.Told
+pub use Rattle.syntax.specs.Declarations
+pub use Rattle.syntax.specs.Source

@@ -25,9 +25,8 @@ pub(crate) fn deliver<O: Sink, E: Sink>(
 {
     write_all(err, report)?;
     write_all(out, document)?;
-    err.flush()?;
     if !document.is_empty() {
         out.flush()?;
     }
-    Ok(())
+    err.flush()
 }

@@ -23,8 +23,8 @@ use streams::{Failed, Sink, Source};
 /// to `out`. What it has to say beside goes to `err`, a line each: of a refusal the kind, the span in bytes and the
 /// message; of other words how to use them; of a fault of reading that there was one.
 ///
-/// Nothing is written before all is made, and writing takes no memory. So `out` gets the whole document or, but after
-/// a fault of writing, nothing.
+/// Nothing is written before all is made, and writing takes no memory. So `out` gets the whole document or nothing,
+/// except after a fault of writing, when it has a front of what it was to get.
 #[tactic(auto, using(crate::proofs::Consequences::done_owed, crate::proofs::Consequences::usage_owed, crate::proofs::Consequences::fault_owed, crate::proofs::Consequences::other_words))]
 pub fn run<S: Source, O: Sink, E: Sink>(
     alloc: Global,
