@@ -37,6 +37,10 @@ fn writes_documents(rt: HostRuntime) -> Result<(), Fail> {
         (PET, PET_DOCUMENT),
         ("", EMPTY_DOCUMENT),
         (
+            "// a pet\npub struct Pet { pub id: u64, name: Option<String>, } // its end",
+            PET_DOCUMENT,
+        ),
+        (
             "struct S { a: i128, b: usize, c: char }",
             "{\"components\":{\"schemas\":{\"S\":{\"properties\":{\"a\":{\"type\":\"integer\"},\"b\":{\"minimum\":0,\"type\":\"integer\"},\"c\":{\"type\":\"string\"}},\"required\":[\"a\",\"b\",\"c\"],\"type\":\"object\"}}}}\n",
         ),
