@@ -9,12 +9,13 @@ use Rattle.schema_core.specs.Schema.{Facts, SchemaOf, object, array, one_of, Sch
 use Rattle.schema_core.specs.Schema as tree
 use Rattle.schema_core.specs.Form.{array_word}
 use Rattle.schema_core.specs.Meaning.{word_accepts, minimum_accepts, required_accepts, tree_accepts, some_accepts, properties_accept}
-use Rattle.compose.specs.Leaves.{Reading, reading_of, word_of, minimum_of, format_of}
-use Rattle.compose.specs.Leaves as reading
+use Rattle.leaves.specs.declared.leaf.LeafKind.{LeafKind}
+use Rattle.leaves.specs.declared.leaf.LeafKind.TheVariants as kinds
+use Rattle.leaves.specs.Leaves.{kind_of, format_of}
 use Rattle.compose.specs.Types.{Resolved, leaf, items, option, named, MemberOf, StructOf, is_required}
 use Rattle.compose.specs.Shape.{is_null, is_list, is_map, reads, type_shape, member_fits, struct_shape}
 use Rattle.compose.specs.Plain.{StandsIn, StandsAmong, IsFloatless, AreFloatless}
-use Rattle.compose.specs.Terms.{type_word, only_word, place, properties_of, required_names, term}
+use Rattle.compose.specs.Terms.{word_of, minimum_of, type_word, only_word, place, properties_of, required_names, term}
 
 -- ---- a schema with others put at its leaves
 module _ {X Y : Type 0} (r : Y → Json → Bool) (f : X → SchemaOf Y) where
@@ -40,7 +41,7 @@ module _ {X Y : Type 0} (r : Y → Json → Bool) (f : X → SchemaOf Y) where
 -- ---- leaves
 
 module _ (r : ℕ → Json → Bool) where
-  text-accepts : (n : Bool) (v : Json) → (word_accepts (type_word n word.String) v && (on_map v (λ es. true) && (required_accepts [] v && true))) ≡ ((n && is_null v) || reads reading.text v)
+  text-accepts : (n : Bool) (v : Json) → (word_accepts (type_word n word.String) v && (on_map v (λ es. true) && (required_accepts [] v && true))) ≡ ((n && is_null v) || reads kinds.Text v)
   text-accepts false null = refl
   text-accepts false (boolean b) = refl
   text-accepts false (number m) = refl
@@ -54,7 +55,7 @@ module _ (r : ℕ → Json → Bool) where
   text-accepts true (list xs) = refl
   text-accepts true (map ms) = refl
 
-  boolean-accepts : (n : Bool) (v : Json) → (word_accepts (type_word n word.Boolean) v && (on_map v (λ es. true) && (required_accepts [] v && true))) ≡ ((n && is_null v) || reads reading.boolean v)
+  boolean-accepts : (n : Bool) (v : Json) → (word_accepts (type_word n word.Boolean) v && (on_map v (λ es. true) && (required_accepts [] v && true))) ≡ ((n && is_null v) || reads kinds.Boolean v)
   boolean-accepts false null = refl
   boolean-accepts false (boolean b) = refl
   boolean-accepts false (number m) = refl
@@ -68,7 +69,7 @@ module _ (r : ℕ → Json → Bool) where
   boolean-accepts true (list xs) = refl
   boolean-accepts true (map ms) = refl
 
-  signed-accepts : (n : Bool) (v : Json) → (word_accepts (type_word n word.Integer) v && (on_map v (λ es. true) && (required_accepts [] v && true))) ≡ ((n && is_null v) || reads reading.signed v)
+  signed-accepts : (n : Bool) (v : Json) → (word_accepts (type_word n word.Integer) v && (on_map v (λ es. true) && (required_accepts [] v && true))) ≡ ((n && is_null v) || reads kinds.Signed v)
   signed-accepts false null = refl
   signed-accepts false (boolean b) = refl
   signed-accepts false (number m) = refl
@@ -83,7 +84,7 @@ module _ (r : ℕ → Json → Bool) where
   signed-accepts true (map ms) = refl
 
   unsigned-accepts : (n : Bool) (v : Json) →
-      (word_accepts (type_word n word.Integer) v && (on_map v (λ es. true) && (required_accepts [] v && minimum_accepts (Some (pos 0)) v))) ≡ ((n && is_null v) || reads reading.unsigned v)
+      (word_accepts (type_word n word.Integer) v && (on_map v (λ es. true) && (required_accepts [] v && minimum_accepts (Some (pos 0)) v))) ≡ ((n && is_null v) || reads kinds.Unsigned v)
   unsigned-accepts false null = refl
   unsigned-accepts false (boolean b) = refl
   unsigned-accepts false (number m) = refl
@@ -97,13 +98,13 @@ module _ (r : ℕ → Json → Bool) where
   unsigned-accepts true (list xs) = refl
   unsigned-accepts true (map ms) = refl
 
-  reading-accepts : (n : Bool) (x : Reading) (v : Json) → x ≢ reading.float →
+  kind-accepts : (n : Bool) (x : LeafKind) (v : Json) → x ≢ kinds.Float →
       (word_accepts (type_word n (word_of x)) v && (on_map v (λ es. true) && (required_accepts [] v && minimum_accepts (minimum_of x) v))) ≡ ((n && is_null v) || reads x v)
-  reading-accepts n reading.text v h = text-accepts n v
-  reading-accepts n reading.boolean v h = boolean-accepts n v
-  reading-accepts n reading.signed v h = signed-accepts n v
-  reading-accepts n reading.unsigned v h = unsigned-accepts n v
-  reading-accepts n reading.float v h = absurd (h refl)
+  kind-accepts n kinds.Text v h = text-accepts n v
+  kind-accepts n kinds.Boolean v h = boolean-accepts n v
+  kind-accepts n kinds.Signed v h = signed-accepts n v
+  kind-accepts n kinds.Unsigned v h = unsigned-accepts n v
+  kind-accepts n kinds.Float v h = absurd (h refl)
 
   -- ---- places
 
@@ -141,7 +142,7 @@ module _ (r : ℕ → Json → Bool) where
   list-accepts true (map ms) p q e = refl
 
   pub place-accepts : (n : Bool) (t : Resolved) → IsFloatless t → (v : Json) → tree_accepts r (place n t) v ≡ ((n && is_null v) || type_shape r t v)
-  place-accepts n (leaf x) h v = reading-accepts n (reading_of x) v h
+  place-accepts n (leaf x) h v = kind-accepts n (kind_of x) v h
   place-accepts n (items t) h v = list-accepts n v (tree_accepts r (place false t)) (type_shape r t) (fun_ext (place-accepts false t h))
   place-accepts n (option t) h v = place-accepts true t h v ∙ or-twice n (is_null v) (type_shape r t v)
   place-accepts false (named d) h v = refl

@@ -20,6 +20,7 @@ use Rattle.compose.specs.Terms.{struct_schema}
 use Rattle.compose.specs.Derived.{place_in, AreComponents}
 use Rattle.acceptance.specs.Json.{is_in}
 use Rattle.schema_core.specs.Meaning.{IsDistinct}
+use Rattle.compose.proofs.Growing.{some_same}
 
 -- each component is of a struct, under its name, and they are in order
 pub record AreKnown (ss : List StructOf) (components : List Entry) : Type 0 where
@@ -35,9 +36,6 @@ abbrev pub AreLeft : {Y : Type 0} → (List ℕ → Option ℕ) → List (String
 AreLeft place_of entries components = (name : List ℕ) → IsTrue (is_some (place_of name)) → IsTrue (is_some (find name components)) ⊎ IsTrue (is_some (at_text name entries))
 
 -- ---- places
-
-some_same : {A : Type 0} (a b : A) → Some a ≡ Some b → a ≡ b
-some_same a b e = grind arith
 
 pub placed : (ss : List StructOf) (k : List ℕ) (p : ℕ) → place_in k (struct_names ss) ≡ Some p → (p < length ss) × (k ≡ (struct_at ss p).name)
 placed [] k p e = absurd (none-some p e)

@@ -2,17 +2,21 @@
 use Rattle.std.proofs.Common.{ℕ, zero, suc, ◌+◌, ◌<◌, List, [], ◌∷◌, ◌++◌, Option, Some, None, option_map, option_and_then, length, take, get_or, map, ◌≡◌, refl, ap, sym, subst, ◌∙◌, arith, inl, inr}
 use Rattle.std.proofs.lemmas.List.{take_more, map_push}
 use Rattle.std.proofs.lemmas.Option.{none-some}
+use Rattle.std.specs.List.{AllByRecursion}
 use Rattle.schema_core.specs.Meaning.{IsDistinct}
-use Rattle.syntax.specs.declared.written.Field.{Field}
-use Rattle.syntax.specs.declared.written.Declaration.{Declaration}
-use Rattle.syntax.specs.Declarations.{field_view, declaration_view}
-use Rattle.compose.specs.Types.{Resolved, StructOf, MemberOf, member_names}
-use Rattle.compose.specs.Derived.{all_of, member_of, resolved, MembersDiffer}
-use Rattle.compose.specs.Faults.{Somewhere, texts, field_idents, declared_idents}
+use Rattle.written_types.specs.declared.written.Ident.{Ident}
+use Rattle.syntax.specs.declared.item.Declaration.{Declaration}
+use Rattle.syntax.specs.declared.item.Field.{Field}
+use Rattle.syntax.specs.Items.{FieldItem, field_view, declaration_view}
+use Rattle.resolving.specs.Resolved.{Somewhere}
+use Rattle.compose.specs.declared.structs.Member.{Member}
+use Rattle.compose.specs.Types.{StructOf, member_names, member_view}
+use Rattle.compose.specs.Derived.{all_of, MembersDiffer}
+use Rattle.compose.specs.Faults.{texts, with_ident, field_idents, declared_idents}
 
 -- ---- one more
 
-some_same : {A : Type 0} (a b : A) → Some a ≡ Some b → a ≡ b
+pub some_same : {A : Type 0} (a b : A) → Some a ≡ Some b → a ≡ b
 some_same a b e = grind arith
 
 grown : {B : Type 0} (y : B) (ys : List B) (o : Option B) (p q : Option (List B)) → ((ws : List B) → p ≡ Some ws → q ≡ Some (ws ++ y ∷ [])) →
@@ -43,27 +47,43 @@ somewhere {I = I} P u items i item l is p = by items i l (subst (λ x. P (u x)) 
     by (x ∷ xs) zero h q = inl q
     by (x ∷ xs) (suc j) h q = inr (by xs j (omega arith) q)
 
+-- a fact of all so far, and of one more
+all-push : {A : Type 0} (P : A → Type 0) (xs : List A) (x : A) → AllByRecursion P xs → P x → AllByRecursion P (xs ++ x ∷ [])
+all-push P [] x h p = (p, tt)
+all-push P (y ∷ ys) x h p = (h.0, all-push P ys x h.1 p)
+
+pub facts_more : {A I : Type 0} (P : A → Type 0) (u : I → A) (items : List I) (i : ℕ) (item : I) → i < length items → item ≡ get_or items i item → AllByRecursion P (map u (take i items)) → P (u item) → AllByRecursion P (map u (take (i + 1) items))
+facts_more P u items i item l is h p =
+    subst (AllByRecursion P) (sym (ap (map u) (take_more items i item l) ∙ map_push u (take i items) (get_or items i item)))
+    (all-push P (map u (take i items)) (u (get_or items i item)) h (subst (λ x. P (u x)) is p))
+
 -- ---- names
 
 pub differ-push : (ss : List StructOf) (s : StructOf) → MembersDiffer ss → IsDistinct (member_names s.members) → MembersDiffer (ss ++ s ∷ [])
 differ-push [] s d h = (h, tt)
 differ-push (t ∷ ss) s d h = (d.0, differ-push ss s d.1 h)
 
--- the members have the names of the fields
-pub member_names-are : (place_of : List ℕ → Option ℕ) (fields : List Field) (ms : List MemberOf) → all_of (member_of place_of) (map field_view fields) ≡ Some ms → member_names ms ≡ texts (map (λ f. f.ident) fields)
-member_names-are place_of [] ms e = ap member_names (sym (some_same [] ms e))
-member_names-are place_of (f ∷ fields) ms e = by (resolved place_of (field_view f).ty) (all_of (member_of place_of) (map field_view fields)) e (member_names-are place_of fields)
+-- the identifiers of the fields so far, and one more
+field_idents-push : (fs : List FieldItem) (f : FieldItem) (x : Ident) → f.ident ≡ Some x → field_idents (fs ++ f ∷ []) ≡ field_idents fs ++ x ∷ []
+field_idents-push [] f x e = ap (λ o. with_ident o []) e
+field_idents-push (g ∷ fs) f x e = ap (with_ident g.ident) (field_idents-push fs f x e) ∙ moved g.ident (field_idents fs)
   where
-    by : (t : Option Resolved) (p : Option (List MemberOf)) →
-        option_and_then (λ w. option_map (λ ws. w ∷ ws) p) (option_map (λ of. let m : MemberOf = record { name = f.ident.text; of = of } in m) t) ≡ Some ms →
-        ((ws : List MemberOf) → p ≡ Some ws → member_names ws ≡ texts (map (λ g. g.ident) fields)) → member_names ms ≡ f.ident.text ∷ texts (map (λ g. g.ident) fields)
-    by None p h all = absurd (none-some ms h)
-    by (Some t) None h all = absurd (none-some ms h)
-    by (Some t) (Some ws) h all = ap member_names (sym (some_same _ ms h)) ∙ ap (λ ns. f.ident.text ∷ ns) (all ws refl)
+    moved : (o : Option Ident) (xs : List Ident) → with_ident o (xs ++ x ∷ []) ≡ with_ident o xs ++ x ∷ []
+    moved None xs = refl
+    moved (Some y) xs = refl
 
-pub field_idents-are : (fields : List Field) → map (λ f. f.ident) fields ≡ field_idents (map field_view fields)
-field_idents-are [] = refl
-field_idents-are (f ∷ fields) = ap (λ xs. f.ident ∷ xs) (field_idents-are fields)
+pub idents_more : (fields : List Field) (i : ℕ) (field : Field) (ms : List Member) (m : Member) → i < length fields → field ≡ get_or fields i field → field_idents (map field_view (take i fields)) ≡ map (λ (n : Member). n.ident) ms
+    → field.ident ≡ Some m.ident → field_idents (map field_view (take (i + 1) fields)) ≡ map (λ (n : Member). n.ident) (ms ++ m ∷ [])
+idents_more fields i field ms m l is e g =
+    ap (λ xs. field_idents (map field_view xs)) (take_more fields i field l)
+    ∙ ap field_idents (map_push field_view (take i fields) (get_or fields i field))
+    ∙ field_idents-push (map field_view (take i fields)) (field_view (get_or fields i field)) m.ident (ap (λ (f : Field). f.ident) (sym is) ∙ g)
+    ∙ ap (λ xs. xs ++ m.ident ∷ []) e
+    ∙ sym (map_push (λ (n : Member). n.ident) ms m)
+
+pub member_names-are : (ms : List Member) → member_names (map member_view ms) ≡ texts (map (λ (m : Member). m.ident) ms)
+member_names-are [] = refl
+member_names-are (m ∷ ms) = ap (λ ns. m.ident.text ∷ ns) (member_names-are ms)
 
 pub declared_idents-are : (ds : List Declaration) → map (λ d. d.ident) ds ≡ declared_idents (map declaration_view ds)
 declared_idents-are [] = refl

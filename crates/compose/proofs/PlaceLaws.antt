@@ -5,7 +5,7 @@ use Rattle.std.proofs.lemmas.Slice.Eq.{bytes_eq-Decides}
 use Rattle.std.proofs.lemmas.Bool.{false≢true}
 use Rattle.acceptance.specs.Json.{is_in}
 use Rattle.schema_core.specs.Meaning.{IsDistinct}
-use Rattle.syntax.specs.declared.written.Ident.{Ident}
+use Rattle.written_types.specs.declared.written.Ident.{Ident}
 use Rattle.compose.specs.Derived.{place_in}
 use Rattle.compose.specs.Faults.{texts}
 

@@ -1,6 +1,9 @@
 -- Structs at their places, and the schemas of members.
-use Rattle.std.proofs.Common.{ℕ, zero, suc, ◌+◌, ◌<◌, List, [], ◌∷◌, ◌++◌, Bool, true, false, cond, length, take, get_or, map, ◌≡◌, refl, ap, sym, ◌∙◌, arith, rules}
+use Rattle.std.proofs.Common.{ℕ, zero, suc, ◌+◌, ◌<◌, List, [], ◌∷◌, ◌++◌, Bool, true, false, cond, length, take, get_or, map, ◌≡◌, refl, ap, sym, ◌∙◌, arith, rules, None, ◌==◌}
+use Rattle.std.proofs.lemmas.Bool.{false≢true}
 use Rattle.std.proofs.lemmas.List.{take_more, map_push}
+use Rattle.open_types.specs.declared.open_type.OpenType.{OpenType}
+use Rattle.open_types.specs.Open.{opens_view}
 use Rattle.schema_core.specs.declared.tree.RefLeaf.{RefLeaf}
 use Rattle.schema_core.specs.declared.tree.Tree.{the_lemmas as tree_lemmas}
 use Rattle.schema_core.specs.declared.tree.Tree.TheVariants as variants
@@ -8,10 +11,10 @@ use Rattle.schema_core.specs.Schema.{schema_view, SchemaOf, leaf, bind, bind_pro
 use Rattle.schema_core.specs.Schema as tree
 use Rattle.compose.specs.declared.structs.Member.{Member}
 use Rattle.compose.specs.declared.structs.Struct.{Struct}
-use Rattle.compose.specs.declared.open_type.OpenType.{the_lemmas}
-use Rattle.compose.specs.declared.open_type.OpenType.TheVariants as variant
+use Rattle.compose.specs.declared.place_type.PlaceType.{the_lemmas}
+use Rattle.compose.specs.declared.place_type.PlaceType.TheVariants as variant
 use Rattle.compose.specs.Types.{named, MemberOf, StructOf, struct_at, is_required, type_view, member_view, struct_view}
-use Rattle.compose.specs.Derived.{IsWithinType, MembersWithin, AreWithin}
+use Rattle.compose.specs.Derived.{declared, IsWithinType, MembersWithin, AreWithin}
 use Rattle.compose.specs.Terms.{or_null, place, reference_to, properties_of, required_names}
 
 -- ---- structs
@@ -23,6 +26,11 @@ pub struct_at-view : (structs : List Struct) (d : ℕ) (x : Struct) → d < leng
 struct_at-view [] d x l = absurd (omega arith)
 struct_at-view (s ∷ structs) zero x l = refl
 struct_at-view (s ∷ structs) (suc d) x l = struct_at-view structs d x (omega arith)
+
+-- a declaration with arguments is not built
+pub declared-none : (d : ℕ) (us : List OpenType) → false ≡ (length us == 0) → None ≡ declared d (opens_view us)
+declared-none d [] h = absurd (false≢true h)
+declared-none d (u ∷ us) h = refl
 
 bind-or_null : {X Y : Type 0} (f : X → SchemaOf Y) (b : Bool) (s : SchemaOf X) → bind f (or_null b s) ≡ or_null b (bind f s)
 bind-or_null f false s = refl
@@ -52,11 +60,11 @@ members_at n (s ∷ structs) (suc i) d h l = members_at n structs i d h.1 (omega
 
 -- a member's property
 abbrev pub property_of : List StructOf → Member → List ℕ × SchemaOf RefLeaf
-property_of ss m = (m.name, bind (reference_to ss) (place false (type_view m.ty)))
+property_of ss m = (m.ident.text, bind (reference_to ss) (place false (type_view m.ty)))
 
 pub properties_are : (ss : List StructOf) (ms : List Member) → tree.properties_of (map (property_of ss) ms) ≡ bind_properties (reference_to ss) (properties_of (map member_view ms))
 properties_are ss [] = refl
-properties_are ss (m ∷ ms) = ap (tree.property m.name (bind (reference_to ss) (place false (type_view m.ty)))) (properties_are ss ms)
+properties_are ss (m ∷ ms) = ap (tree.property m.ident.text (bind (reference_to ss) (place false (type_view m.ty)))) (properties_are ss ms)
 
 required-push : (ms : List MemberOf) (m : MemberOf) → required_names (ms ++ m ∷ []) ≡ required_names ms ++ cond (is_required m) (m.name ∷ []) []
 required-push [] m = refl
@@ -69,10 +77,10 @@ required-push (n ∷ ms) m = by (is_required n) (required-push ms m)
 
 -- the names that must be there so far, and one more member
 pub required_more : (members : List Member) (i : ℕ) (m : Member) (names after : List (List ℕ)) → i < length members → m ≡ get_or members i m → names ≡ required_names (map member_view (take i members)) →
-    after ≡ names ++ cond (is_required (member_view m)) (m.name ∷ []) [] → after ≡ required_names (map member_view (take (i + 1) members))
+    after ≡ names ++ cond (is_required (member_view m)) (m.ident.text ∷ []) [] → after ≡ required_names (map member_view (take (i + 1) members))
 required_more members i m names after l is before e =
     e
-    ∙ ap (λ ns. ns ++ cond (is_required (member_view m)) (m.name ∷ []) []) before
+    ∙ ap (λ ns. ns ++ cond (is_required (member_view m)) (m.ident.text ∷ []) []) before
     ∙ sym (required-push (map member_view (take i members)) (member_view m))
     ∙ ap (λ (x : Member). required_names (map member_view (take i members) ++ member_view x ∷ [])) is
     ∙ sym (ap required_names (map_push member_view (take i members) (get_or members i m)))

@@ -1,15 +1,20 @@
 -- What a source's declarations are resolved to, the components of it, and what their document says.
-use Rattle.std.specs.Prelude.{◌≡◌, ◌<◌, ◌↔◌, ℕ, suc, List, [], ◌∷◌, length, Bool, true, Option, Some, None, option_map, option_and_then, is_some, IsTrue, bytes_eq, cond, codes}
+use Rattle.std.specs.Prelude.{◌≡◌, ◌<◌, ◌↔◌, ℕ, suc, List, [], ◌∷◌, length, Bool, true, false, Option, Some, None, option_map, option_and_then, is_some, IsTrue, bytes_eq, cond}
 use Rattle.acceptance.specs.Json.{Json}
 use Rattle.acceptance.specs.Acceptance.{component_schema, Accepts}
 use Rattle.acceptance.specs.References.{EachReference}
 use Rattle.schema_core.specs.Document.{Entry, document}
 use Rattle.schema_core.specs.Entries.{find, names_of, IsInOrder}
 use Rattle.schema_core.specs.Meaning.{IsDistinct}
-use Rattle.syntax.specs.Declarations.{Written, FieldItem, DeclaredStruct}
-use Rattle.syntax.specs.Declarations as written
-use Rattle.compose.specs.Types.{Resolved, leaf, items, option, named, MemberOf, StructOf, struct_at, struct_names, member_names}
-use Rattle.compose.specs.Leaves.{leaf_of}
+use Rattle.written_types.specs.declared.written.Ident.{Ident}
+use Rattle.syntax.specs.Items.{FieldItem, FieldItems, named, unnamed, unit, BodyItem, struct_body, DeclaredItem}
+use Rattle.open_types.specs.declared.open_type.ListHead.{ListHead}
+use Rattle.open_types.specs.declared.open_type.ListHead.TheVariants as lists
+use Rattle.open_types.specs.Open.{Open, Opens}
+use Rattle.open_types.specs.Open as open_types
+use Rattle.resolving.specs.Resolved.{type_of}
+use Rattle.compose.specs.Types.{Resolved, leaf, items, option, MemberOf, StructOf, struct_at, struct_names, member_names}
+use Rattle.compose.specs.Types as types
 use Rattle.compose.specs.Shape.{HasShape}
 use Rattle.compose.specs.Plain.{IsPlain}
 use Rattle.compose.specs.Terms.{struct_schema}
@@ -26,38 +31,70 @@ abbrev pub place_in : List ℕ → List (List ℕ) → Option ℕ
 place_in k [] = None
 place_in k (n ∷ ns) = cond (bytes_eq k n) (Some 0) (option_map suc (place_in k ns))
 
-abbrev pub declared_names : List DeclaredStruct → List (List ℕ)
+abbrev pub declared_names : List DeclaredItem → List (List ℕ)
 declared_names [] = []
 declared_names (d ∷ ds) = d.ident.text ∷ declared_names ds
 
--- `Value` and `Object` are names that no declaration is reached by
-abbrev pub is_kept_back : List ℕ → Bool
-is_kept_back name = cond (bytes_eq name (codes "Value")) true (bytes_eq name (codes "Object"))
+abbrev pub place_among : List DeclaredItem → List ℕ → Option ℕ
+place_among ds name = place_in name (declared_names ds)
 
-abbrev pub or_declared : Option Resolved → Option Resolved → Option Resolved
-or_declared (Some t) declared = Some t
-or_declared None declared = declared
+-- a declaration without arguments
+abbrev pub declared : ℕ → Opens → Option Resolved
+declared d open_types.no_types = Some (types.named d)
+declared d (open_types.more_types t ts) = None
 
--- A name is a leaf, or else a declaration, where `place_of` says at which place.
-abbrev pub name_resolved : (List ℕ → Option ℕ) → List ℕ → Option Resolved
-name_resolved place_of name = or_declared (option_map leaf (leaf_of name)) (cond (is_kept_back name) None (option_map named (place_of name)))
+-- The types whose schemas are built: built-in names, `Vec`, `Option` and declarations.
+abbrev pub built : Open → Option Resolved
+built (open_types.leaf x) = Some (leaf x)
+built open_types.any_value = None
+built open_types.free_object = None
+built open_types.unit = None
+built (open_types.tuple ts) = None
+built (open_types.items lists.Vec t) = option_map items (built t)
+built (open_types.items lists.LinkedList t) = None
+built (open_types.items lists.SmallVec t) = None
+built (open_types.items lists.Array t) = None
+built (open_types.set h t) = None
+built (open_types.map_of h k t) = None
+built (open_types.option t) = option_map option (built t)
+built (open_types.through h t) = None
+built (open_types.param i) = None
+built (open_types.named d ts) = declared d ts
 
-abbrev pub container : List ℕ → Resolved → Resolved
-container head t = cond (bytes_eq head (codes "Option")) (option t) (items t)
+-- a field with its name and the type that its written type stands for
+abbrev pub member_as : Option Ident → Option Resolved → Option MemberOf
+member_as None t = None
+member_as (Some x) t = option_map (λ of. record { name = x.text; of = of }) t
 
-abbrev pub resolved : (List ℕ → Option ℕ) → Written → Option Resolved
-resolved place_of (written.named x) = name_resolved place_of x.text
-resolved place_of (written.applied x t s) = option_map (container x.text) (resolved place_of t)
+abbrev pub field_type : (List ℕ → Option ℕ) → FieldItem → Option Resolved
+field_type place_of f = option_and_then built (type_of place_of f.ty)
 
 abbrev pub member_of : (List ℕ → Option ℕ) → FieldItem → Option MemberOf
-member_of place_of f = option_map (λ t. record { name = f.ident.text; of = t }) (resolved place_of f.ty)
+member_of place_of f = member_as f.ident (field_type place_of f)
 
-abbrev pub struct_of : (List ℕ → Option ℕ) → DeclaredStruct → Option StructOf
-struct_of place_of d = option_map (λ ms. record { name = d.ident.text; members = ms }) (all_of (member_of place_of) d.fields)
+abbrev pub fields_in : FieldItems → List FieldItem
+fields_in (named fs) = fs
+fields_in (unnamed fs) = []
+fields_in unit = []
 
--- the structs of all declarations, where each name is known
-abbrev pub structs_of : List DeclaredStruct → Option (List StructOf)
-structs_of ds = all_of (struct_of (λ name. place_in name (declared_names ds))) ds
+-- the fields with names, and whether the declaration has another form
+abbrev pub body_fields : BodyItem → List FieldItem
+body_fields (struct_body fs) = fields_in fs
+
+abbrev pub has_names : FieldItems → Bool
+has_names (named fs) = true
+has_names (unnamed fs) = false
+has_names unit = false
+
+abbrev pub is_named_struct : BodyItem → Bool
+is_named_struct (struct_body fs) = has_names fs
+
+abbrev pub struct_of : (List ℕ → Option ℕ) → DeclaredItem → Option StructOf
+struct_of place_of d = cond (is_named_struct d.body) (option_map (λ ms. record { name = d.ident.text; members = ms }) (all_of (member_of place_of) (body_fields d.body))) None
+
+-- the structs of all declarations, where each type stands for one that is built
+abbrev pub structs_of : List DeclaredItem → Option (List StructOf)
+structs_of ds = all_of (struct_of (place_among ds)) ds
 
 -- ---- components
 
@@ -91,7 +128,7 @@ abbrev pub IsWithinType : ℕ → Resolved → Type 0
 IsWithinType n (leaf x) = Unit {0}
 IsWithinType n (items t) = IsWithinType n t
 IsWithinType n (option t) = IsWithinType n t
-IsWithinType n (named d) = d < n
+IsWithinType n (types.named d) = d < n
 
 abbrev pub MembersWithin : ℕ → List MemberOf → Type 0
 MembersWithin n [] = Unit {0}

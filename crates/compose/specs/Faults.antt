@@ -1,28 +1,30 @@
--- Why declarations have no components: a name given twice, or a name that is not known.
-use Rattle.std.specs.Prelude.{◌≡◌, ◌⊎◌, ℕ, List, [], ◌∷◌, ◌++◌, Option, Some, None, IsTrue, codes}
+-- Why declarations have no components: a name given twice, a type that stands for nothing, or a form that is not built yet.
+use Rattle.std.specs.Prelude.{◌≡◌, ◌⊎◌, ℕ, List, [], ◌∷◌, ◌++◌, Bool, false, Option, Some, None, IsTrue, codes}
 use Rattle.acceptance.specs.Json.{is_in}
 use Rattle.diag.specs.Refusal.{IsRefusal}
 use Rattle.diag.specs.declared.error.DeriveError.{DeriveError}
-use Rattle.diag.specs.declared.kind.Kind.TheVariants.{DuplicateName, UnknownType}
+use Rattle.diag.specs.declared.kind.Kind.TheVariants.{DuplicateName, Syntax}
+use Rattle.diag.specs.declared.span.Span.{Span}
 use Rattle.schema_core.specs.Document.{Entry}
-use Rattle.syntax.specs.declared.written.Ident.{Ident}
-use Rattle.syntax.specs.Declarations.{Written, named, applied, FieldItem, DeclaredStruct}
-use Rattle.syntax.specs.Source.{Reads, IsUnreadable}
+use Rattle.written_types.specs.declared.written.Ident.{Ident}
+use Rattle.syntax.specs.Items.{FieldItem, DeclaredItem}
+use Rattle.syntax.specs.Source.{Reads, IsUnreadable, IsTooDeep, NestsTooDeep}
+use Rattle.open_types.specs.Open.{Open}
+use Rattle.resolving.specs.Resolved.{type_of, Fault, IsFault, IsRefusedFor, Somewhere}
 use Rattle.compose.specs.Types.{StructOf}
-use Rattle.compose.specs.Derived.{name_resolved, place_in, declared_names, structs_of, IsApart, AreComponents}
+use Rattle.compose.specs.Derived.{place_among, built, body_fields, is_named_struct, structs_of, IsApart, AreComponents}
 
--- the fact holds of some item
-abbrev pub Somewhere : {A : Type 0} → (A → Type 0) → List A → Type 0
-Somewhere P [] = ⊥
-Somewhere P (x ∷ xs) = P x ⊎ Somewhere P xs
-
-abbrev pub declared_idents : List DeclaredStruct → List Ident
+abbrev pub declared_idents : List DeclaredItem → List Ident
 declared_idents [] = []
 declared_idents (d ∷ ds) = d.ident ∷ declared_idents ds
 
+abbrev pub with_ident : Option Ident → List Ident → List Ident
+with_ident None xs = xs
+with_ident (Some x) xs = x ∷ xs
+
 abbrev pub field_idents : List FieldItem → List Ident
 field_idents [] = []
-field_idents (f ∷ fs) = f.ident ∷ field_idents fs
+field_idents (f ∷ fs) = with_ident f.ident (field_idents fs)
 
 abbrev pub texts : List Ident → List (List ℕ)
 texts [] = []
@@ -32,57 +34,65 @@ texts (x ∷ xs) = x.text ∷ texts xs
 abbrev pub Repeats : List Ident → Ident → Type 0
 Repeats xs x = (before : List Ident) × (behind : List Ident) × (xs ≡ before ++ x ∷ behind) × IsTrue (is_in x.text (texts before))
 
--- the name that a written type comes down to
-abbrev pub inner_name : Written → Ident
-inner_name (named x) = x
-inner_name (applied x t s) = inner_name t
-
 -- ---- the conditions
 
 -- two declarations, or two fields of one declaration, have one name; the identifier is that of the second
-abbrev pub IsDuplicate : List DeclaredStruct → Ident → Type 0
-IsDuplicate ds x = Repeats (declared_idents ds) x ⊎ Somewhere (λ d. Repeats (field_idents d.fields) x) ds
+abbrev pub IsDuplicate : List DeclaredItem → Ident → Type 0
+IsDuplicate ds x = Repeats (declared_idents ds) x ⊎ Somewhere (λ d. Repeats (field_idents (body_fields d.body)) x) ds
 
--- a name in a type is no leaf and no declaration, or is kept back
-abbrev pub IsUnknown : List DeclaredStruct → Ident → Type 0
-IsUnknown ds x = Somewhere (λ d. Somewhere (λ f. (x ≡ inner_name f.ty) × (name_resolved (λ name. place_in name (declared_names ds)) x.text ≡ None)) d.fields) ds
+-- a field's type has a name that is not known or has other type arguments than it takes, or is too large
+abbrev pub IsFaultOf : List DeclaredItem → Fault → Type 0
+IsFaultOf ds fault = Somewhere (λ d. Somewhere (λ f. IsFault (place_among ds) f.ty fault) (body_fields d.body)) ds
+
+-- a field has no name, or its type stands for one that is not built yet
+abbrev pub IsUnbuiltField : (List ℕ → Option ℕ) → FieldItem → Type 0
+IsUnbuiltField place_of f = (f.ident ≡ None) ⊎ ((t : Open) × (type_of place_of f.ty ≡ Some t) × (built t ≡ None))
+
+-- a declaration or a field of a form that is not built yet has these bytes
+abbrev pub IsUnbuilt : List DeclaredItem → Span → Type 0
+IsUnbuilt ds span =
+    Somewhere (λ d. ((is_named_struct d.body ≡ false) × (span ≡ d.span)) ⊎ Somewhere (λ f. IsUnbuiltField (place_among ds) f × (span ≡ f.span)) (body_fields d.body)) ds
 
 -- ---- the answers
 
 abbrev pub duplicate_message : List ℕ → List ℕ
 duplicate_message name = codes "name " ++ (name ++ codes " is given twice")
 
-abbrev pub unknown_message : List ℕ → List ℕ
-unknown_message name = codes "unknown type " ++ name
+abbrev pub unbuilt_message : List ℕ
+unbuilt_message = codes "unexpected text in a declaration"
 
--- the error refuses the field, whose type comes down to a name that is not known; or the declaration, for that or a name given twice
-abbrev pub IsUnknownField : (List ℕ → Option ℕ) → FieldItem → DeriveError → Type 0
-IsUnknownField place_of f e =
-    (name_resolved place_of (inner_name f.ty).text ≡ None) × IsRefusal UnknownType (inner_name f.ty).span (unknown_message (inner_name f.ty).text) e
+-- the error refuses the field, for its type or its form; or the declaration, for these, a name given twice or its form
+abbrev pub IsFaultyField : (List ℕ → Option ℕ) → FieldItem → DeriveError → Type 0
+IsFaultyField place_of f e = ((fault : Fault) × IsFault place_of f.ty fault × IsRefusedFor fault e) ⊎ (IsUnbuiltField place_of f × IsRefusal Syntax f.span unbuilt_message e)
 
-abbrev pub IsFaultyStruct : (List ℕ → Option ℕ) → DeclaredStruct → DeriveError → Type 0
-IsFaultyStruct place_of d e =
-    ((x : Ident) × Repeats (field_idents d.fields) x × IsRefusal DuplicateName x.span (duplicate_message x.text) e) ⊎ Somewhere (λ f. IsUnknownField place_of f e) d.fields
+abbrev pub IsFaultyItem : (List ℕ → Option ℕ) → DeclaredItem → DeriveError → Type 0
+IsFaultyItem place_of d e =
+    ((x : Ident) × Repeats (field_idents (body_fields d.body)) x × IsRefusal DuplicateName x.span (duplicate_message x.text) e)
+    ⊎ Somewhere (λ f. IsFaultyField place_of f e) (body_fields d.body)
+    ⊎ ((is_named_struct d.body ≡ false) × IsRefusal Syntax d.span unbuilt_message e)
 
--- the error refuses the declarations for one of the conditions, at the identifier
-abbrev pub IsFaulty : List DeclaredStruct → DeriveError → Type 0
+-- the error refuses the declarations for one of the conditions, at its bytes
+abbrev pub IsFaulty : List DeclaredItem → DeriveError → Type 0
 IsFaulty ds e =
     ((x : Ident) × IsDuplicate ds x × IsRefusal DuplicateName x.span (duplicate_message x.text) e)
-    ⊎ ((x : Ident) × IsUnknown ds x × IsRefusal UnknownType x.span (unknown_message x.text) e)
+    ⊎ ((fault : Fault) × IsFaultOf ds fault × IsRefusedFor fault e)
+    ⊎ ((span : Span) × IsUnbuilt ds span × IsRefusal Syntax span unbuilt_message e)
 
--- the error refuses the source: it has no reading, or its declarations are at fault
+-- the error refuses the source: it nests too deep, it has no reading, or its declarations are at fault
 abbrev pub IsRefused : List ℕ → DeriveError → Type 0
-IsRefused source e = IsUnreadable source e ⊎ ((ds : List DeclaredStruct) × Reads source ds × IsFaulty ds e)
+IsRefused source e = IsTooDeep source e ⊎ IsUnreadable source e ⊎ ((ds : List DeclaredItem) × Reads source ds × IsFaulty ds e)
 
 -- no condition holds of the declarations
-pub record AreClear (ds : List DeclaredStruct) : Type 0 where
+pub record AreClear (ds : List DeclaredItem) : Type 0 where
   pub distinct : (x : Ident) → ¬ IsDuplicate ds x
-  pub known : (x : Ident) → ¬ IsUnknown ds x
+  pub resolved : (fault : Fault) → ¬ IsFaultOf ds fault
+  pub built : (span : Span) → ¬ IsUnbuilt ds span
 
 -- The components are those of the structs that the source declares, and no condition of a refusal holds.
 pub record IsDerived (source : List ℕ) (components : List Entry) : Type 0 where
-  pub declarations : List DeclaredStruct
+  pub declarations : List DeclaredItem
   pub read : Reads source declarations
+  pub shallow : (span : Span) → ¬ NestsTooDeep source span
   pub clear : AreClear declarations
   pub structs : List StructOf
   pub resolved : structs_of declarations ≡ Some structs

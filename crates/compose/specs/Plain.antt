@@ -1,8 +1,8 @@
 -- Declarations whose values are all of the JSON with whole numbers: no float stands in a place that they reach.
 use Rattle.std.specs.Prelude.{◌≡◌, ◌≢◌, ◌⊎◌, ℕ, List, [], ◌∷◌}
 use Rattle.compose.specs.Types.{Resolved, leaf, items, option, named, MemberOf, StructOf, struct_at}
-use Rattle.compose.specs.Leaves.{reading_of}
-use Rattle.compose.specs.Leaves as reading
+use Rattle.leaves.specs.Leaves.{kind_of}
+use Rattle.leaves.specs.declared.leaf.LeafKind.TheVariants as kinds
 
 -- the declaration stands in the type
 abbrev pub StandsIn : ℕ → Resolved → Type 0
@@ -17,7 +17,7 @@ StandsAmong e [] = ⊥
 StandsAmong e (m ∷ ms) = StandsIn e m.of ⊎ StandsAmong e ms
 
 abbrev pub IsFloatless : Resolved → Type 0
-IsFloatless (leaf x) = reading_of x ≢ reading.float
+IsFloatless (leaf x) = kind_of x ≢ kinds.Float
 IsFloatless (items t) = IsFloatless t
 IsFloatless (option t) = IsFloatless t
 IsFloatless (named d) = Unit {0}

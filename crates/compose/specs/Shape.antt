@@ -3,8 +3,9 @@ use Rattle.std.specs.Prelude.{ℕ, zero, suc, ◌≤◌, ℤ, pos, List, Bool, t
 use Rattle.std.specs.List.{list_all}
 use Rattle.acceptance.specs.Json.{Json, null, boolean, number, text, list, map, elements, entries, names, is_in, look, if_there}
 use Rattle.compose.specs.Types.{Resolved, leaf, items, option, named, MemberOf, StructOf, is_required, struct_at}
-use Rattle.compose.specs.Leaves.{Reading, reading_of}
-use Rattle.compose.specs.Leaves as reading
+use Rattle.leaves.specs.Leaves.{kind_of}
+use Rattle.leaves.specs.declared.leaf.LeafKind.{LeafKind}
+use Rattle.leaves.specs.declared.leaf.LeafKind.TheVariants as kinds
 
 abbrev pub is_null : Json → Bool
 is_null null = true
@@ -32,16 +33,16 @@ is_map (map ms) p = p (entries ms)
 is_map _ p = false
 
 -- Texts, truth values, whole numbers, whole numbers not below 0. The values of a float are not all of this JSON, so none has its shape.
-abbrev pub reads : Reading → Json → Bool
-reads reading.text v = is_text v
-reads reading.boolean v = is_boolean v
-reads reading.signed v = is_number v (λ n. true)
-reads reading.unsigned v = is_number v (λ n. int_le (pos 0) n)
-reads reading.float v = false
+abbrev pub reads : LeafKind → Json → Bool
+reads kinds.Text v = is_text v
+reads kinds.Boolean v = is_boolean v
+reads kinds.Signed v = is_number v (λ n. true)
+reads kinds.Unsigned v = is_number v (λ n. int_le (pos 0) n)
+reads kinds.Float v = false
 
 -- The value has the shape of the type, where `instance` says what has the shape of a declaration.
 abbrev pub type_shape : (ℕ → Json → Bool) → Resolved → Json → Bool
-type_shape instance (leaf x) v = reads (reading_of x) v
+type_shape instance (leaf x) v = reads (kind_of x) v
 type_shape instance (items t) v = is_list v (list_all (type_shape instance t))
 type_shape instance (option t) v = is_null v || type_shape instance t v
 type_shape instance (named d) v = instance d v

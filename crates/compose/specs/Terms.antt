@@ -1,5 +1,5 @@
 -- The schema of a declaration, over the places of the declarations that it names.
-use Rattle.std.specs.Prelude.{ℕ, List, [], ◌∷◌, Bool, true, false, cond, None}
+use Rattle.std.specs.Prelude.{ℕ, List, [], ◌∷◌, Bool, true, false, cond, ℤ, pos, Option, Some, None}
 use Rattle.schema_core.specs.declared.tree.RefLeaf.{RefLeaf}
 use Rattle.schema_core.specs.declared.tree.SchemaTypeInner.{SchemaTypeInner}
 use Rattle.schema_core.specs.declared.tree.SchemaTypeInner.TheVariants as word
@@ -8,8 +8,25 @@ use Rattle.schema_core.specs.declared.tree.TypeWord.TheVariants.{One, Nullable}
 use Rattle.schema_core.specs.Schema.{Facts, SchemaOf, object, array, one_of, SchemasOf, no_schemas, schema, PropertiesOf, no_properties, property, bind}
 use Rattle.schema_core.specs.Schema as tree
 use Rattle.compose.specs.Types.{Resolved, leaf, items, option, named, MemberOf, StructOf, is_required, struct_at}
-use Rattle.compose.specs.declared.leaf.Leaf.{Leaf}
-use Rattle.compose.specs.Leaves.{reading_of, word_of, minimum_of, format_of}
+use Rattle.leaves.specs.declared.leaf.Leaf.{Leaf}
+use Rattle.leaves.specs.declared.leaf.LeafKind.{LeafKind}
+use Rattle.leaves.specs.declared.leaf.LeafKind.TheVariants as kinds
+use Rattle.leaves.specs.Leaves.{kind_of, format_of}
+
+-- the word of `type` for a kind, and the least number
+abbrev pub word_of : LeafKind → SchemaTypeInner
+word_of kinds.Text = word.String
+word_of kinds.Boolean = word.Boolean
+word_of kinds.Signed = word.Integer
+word_of kinds.Unsigned = word.Integer
+word_of kinds.Float = word.Number
+
+abbrev pub minimum_of : LeafKind → Option ℤ
+minimum_of kinds.Text = None
+minimum_of kinds.Boolean = None
+minimum_of kinds.Signed = None
+minimum_of kinds.Unsigned = Some (pos 0)
+minimum_of kinds.Float = None
 
 abbrev pub type_word : Bool → SchemaTypeInner → TypeWord
 type_word false w = One w
@@ -25,7 +42,7 @@ or_null false s = s
 or_null true s = one_of (schema s (schema (only_word (One word.Null)) no_schemas))
 
 abbrev pub leaf_object : {X : Type 0} → Bool → Leaf → SchemaOf X
-leaf_object nullable x = object (record { type_word = type_word nullable (word_of (reading_of x)); format = format_of x; required = []; minimum = minimum_of (reading_of x) }) no_properties
+leaf_object nullable x = object (record { type_word = type_word nullable (word_of (kind_of x)); format = format_of x; required = []; minimum = minimum_of (kind_of x) }) no_properties
 
 -- The schema of a place of the type, where null may stand or not.
 abbrev pub place : Bool → Resolved → SchemaOf ℕ

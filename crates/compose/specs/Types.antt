@@ -1,8 +1,8 @@
--- Resolved types, and structs of them (the serde data model; The Rust Reference, "Types").
+-- The types whose schemas are built, and structs of them (the serde data model).
 use Rattle.std.specs.Prelude.{ℕ, zero, suc, List, [], ◌∷◌, Bool, true, false, not, map, box_value}
-use Rattle.compose.specs.declared.leaf.Leaf.{Leaf}
-use Rattle.compose.specs.declared.open_type.OpenType.{OpenType, fold-OpenType}
-use Rattle.compose.specs.declared.open_type.OpenType.TheOpen.{OpenType-F}
+use Rattle.leaves.specs.declared.leaf.Leaf.{Leaf}
+use Rattle.compose.specs.declared.place_type.PlaceType.{PlaceType, fold-PlaceType}
+use Rattle.compose.specs.declared.place_type.PlaceType.TheOpen.{PlaceType-F}
 use Rattle.compose.specs.declared.structs.Member.{Member}
 use Rattle.compose.specs.declared.structs.Struct.{Struct}
 
@@ -47,17 +47,17 @@ member_names [] = []
 member_names (m ∷ ms) = m.name ∷ member_names ms
 
 -- what the program's values are
-abbrev pub type_step : OpenType-F Resolved → Resolved
-type_step (OpenType-F.Leaf x) = leaf x
-type_step (OpenType-F.Items t) = items (box_value t)
-type_step (OpenType-F.Option t) = option (box_value t)
-type_step (OpenType-F.Named d) = named d
+abbrev pub type_step : PlaceType-F Resolved → Resolved
+type_step (PlaceType-F.Leaf x) = leaf x
+type_step (PlaceType-F.Items t) = items (box_value t)
+type_step (PlaceType-F.Option t) = option (box_value t)
+type_step (PlaceType-F.Named d) = named d
 
-abbrev pub type_view : OpenType → Resolved
-type_view = fold-OpenType Resolved type_step
+abbrev pub type_view : PlaceType → Resolved
+type_view = fold-PlaceType Resolved type_step
 
 abbrev pub member_view : Member → MemberOf
-member_view m = record { name = m.name; of = type_view m.ty }
+member_view m = record { name = m.ident.text; of = type_view m.ty }
 
 abbrev pub struct_view : Struct → StructOf
 struct_view s = record { name = s.name; members = map member_view s.members }

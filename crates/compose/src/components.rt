@@ -5,15 +5,15 @@ ghost use Rattle.std.specs.BTreeMap.{get_by_text};
 ghost use Rattle.schema_core.specs.Meaning.{IsDistinct};
 ghost use Rattle.schema_core.specs.Schema.{schema_view, object_view, named_views, bind, bind_properties};
 ghost use Rattle.compose.specs.Derived.{place_in, IsWithinType, MembersWithin, AreWithin, AreComponents};
-ghost use Rattle.compose.specs.Terms.{type_word, only_word, or_null, leaf_object, place, properties_of, required_names, reference_to, struct_schema};
+ghost use Rattle.compose.specs.Terms.{word_of, minimum_of, type_word, only_word, or_null, leaf_object, place, properties_of, required_names, reference_to, struct_schema};
 ghost use Rattle.compose.specs.Types.{type_view, member_view, struct_view, struct_names};
 
-use crate::leaf::Leaf;
-use crate::open_type::OpenType;
+use crate::place_type::PlaceType;
 use crate::structs::{Member, Struct};
 use diag::{List, Text};
+use leaves::{Leaf, LeafKind};
 use schema_core::{
-    Array, Components, Object, OneOfSchema, RefLeaf, Schema, SchemaTypeInner, Tree, TypeWord,
+    Array, Bound, Components, Object, OneOfSchema, RefLeaf, Schema, SchemaTypeInner, Tree, TypeWord,
 };
 use std::alloc::{AllocError, Global};
 use std::collections::BTreeMap;
@@ -46,16 +46,37 @@ fn boxed(alloc: Global, object: Object<RefLeaf>) -> Result<Schema, AllocError>
     Ok(Tree::Object(Box::new(alloc, object)?))
 }
 
+fn word_of(kind: LeafKind) -> SchemaTypeInner
+    ensures { result ≡ word_of kind }
+{
+    match kind {
+        LeafKind::Text => SchemaTypeInner::String,
+        LeafKind::Boolean => SchemaTypeInner::Boolean,
+        LeafKind::Signed | LeafKind::Unsigned => SchemaTypeInner::Integer,
+        LeafKind::Float => SchemaTypeInner::Number,
+    }
+}
+
+/// The least number: 0 for an unsigned integer.
+fn minimum_of(kind: LeafKind) -> Option<Bound>
+    ensures { result ≡ minimum_of kind }
+{
+    match kind {
+        LeafKind::Unsigned => Some(Bound::zero()),
+        LeafKind::Text | LeafKind::Boolean | LeafKind::Signed | LeafKind::Float => None,
+    }
+}
+
 /// The schema of a built-in name.
 fn leaf_schema(alloc: Global, leaf: Leaf, nullable: bool) -> Result<Schema, AllocError>
     ensures { IfOk result (λ s. schema_view s ≡ leaf_object nullable leaf) }
 {
-    let mut object = object(alloc, type_word(nullable, leaf.type_word()));
+    let mut object = object(alloc, type_word(nullable, word_of(leaf.kind())));
     object.format = match leaf.format() {
         Some(name) => Some(Text::new(alloc, name)?),
         None => None,
     };
-    object.minimum = leaf.minimum();
+    object.minimum = minimum_of(leaf.kind());
     boxed(alloc, object)
 }
 
@@ -76,20 +97,20 @@ fn or_null(alloc: Global, nullable: bool, schema: Schema) -> Result<Schema, Allo
 fn place_schema(
     alloc: Global,
     structs: &[Struct],
-    ty: &OpenType,
+    ty: &PlaceType,
     nullable: bool,
 ) -> Result<Schema, AllocError>
     requires { IsWithinType (length structs.now) (type_view ty.now) }
     ensures { IfOk result (λ s. schema_view s ≡ bind (reference_to (map struct_view structs.now)) (place nullable (type_view ty.now))) }
 {
     match ty {
-        OpenType::Leaf(leaf) => leaf_schema(alloc, *leaf, nullable),
-        OpenType::Items(ty) => {
+        PlaceType::Leaf(leaf) => leaf_schema(alloc, *leaf, nullable),
+        PlaceType::Items(ty) => {
             let items = place_schema(alloc, structs, ty, false)?;
             Ok(Tree::Array(Box::new(alloc, Array { nullable, items })?))
         }
-        OpenType::Option(ty) => place_schema(alloc, structs, ty, true),
-        OpenType::Named(place) => {
+        PlaceType::Option(ty) => place_schema(alloc, structs, ty, true),
+        PlaceType::Named(place) => {
             let name = structs[*place].name.copy(alloc)?;
             or_null(alloc, nullable, Tree::Leaf(RefLeaf { name }))
         }
@@ -119,7 +140,7 @@ fn properties_of(
     let mut properties = List::new(alloc);
     for member in members {
         let schema = place_schema(alloc, structs, &member.ty, false)?;
-        properties.push((member.name.copy(alloc)?, schema))?;
+        properties.push((member.ident.text.copy(alloc)?, schema))?;
     }
     Ok(properties)
 }
@@ -131,7 +152,7 @@ fn required_of(alloc: Global, members: &[Member]) -> Result<List<Text>, AllocErr
     let mut required = List::new(alloc);
     for member in members {
         if !member.ty.is_option() {
-            required.push(member.name.copy(alloc)?)?;
+            required.push(member.ident.text.copy(alloc)?)?;
         }
     }
     Ok(required)

@@ -4,9 +4,8 @@
 mod components;
 mod derive;
 mod law;
-mod leaf;
 mod names;
-mod open_type;
+mod place_type;
 mod resolve;
 mod structs;
 #[cfg(test)]
@@ -14,6 +13,5 @@ mod tests;
 
 pub use derive::{Derived, derive_components};
 pub use law::{components_describe, shapes_deepen};
-pub use leaf::Leaf;
-pub use open_type::OpenType;
+pub use place_type::PlaceType;
 pub use structs::{Member, Struct};

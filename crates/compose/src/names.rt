@@ -5,14 +5,15 @@ ghost use Rattle.std.specs.BTreeMap.{get_by_text};
 ghost use Rattle.diag.specs.Refusal.{IsRefusal};
 ghost use Rattle.diag.specs.Diagnostics.{diagnostic};
 ghost use Rattle.schema_core.specs.Meaning.{IsDistinct};
-ghost use Rattle.syntax.specs.declared.written.Ident.{Ident as AnyIdent};
+ghost use Rattle.written_types.specs.declared.written.Ident.{Ident as AnyIdent};
 ghost use Rattle.compose.specs.Derived.{place_in};
-ghost use Rattle.compose.specs.Faults.{Repeats, texts, duplicate_message, unknown_message};
+ghost use Rattle.compose.specs.Faults.{Repeats, texts, duplicate_message};
 
+use crate::structs::Member;
 use diag::{DeriveError, Diagnostics, Kind};
 use std::alloc::{AllocError, Global};
 use std::collections::BTreeMap;
-use syntax::{Declaration, Field, Ident};
+use syntax::{Declaration, Ident};
 
 /// What is declared under an identifier.
 pub(crate) trait Named {
@@ -30,8 +31,8 @@ impl Named for Declaration {
     }
 }
 
-impl Named for Field {
-    ghost ident_of = { λ field. field.ident };
+impl Named for Member {
+    ghost ident_of = { λ member. member.ident };
 
     fn ident(&self) -> &Ident {
         &self.ident

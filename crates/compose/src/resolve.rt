@@ -1,93 +1,38 @@
-//! Written types resolved.
+//! Declarations with resolved types.
 
-ghost use Rattle.std.specs.Prelude.{◌≡◌, ◌⊎◌, ℕ, List, map, IfOk, IfErr, Some, None, option_map};
+ghost use Rattle.std.specs.Prelude.{◌≡◌, ◌⊎◌, ℕ, List as Items, map, IfOk, IfErr, IfSome, is_some, Some, None, option_map, option_and_then};
 ghost use Rattle.std.specs.BTreeMap.{get_by_text};
 ghost use Rattle.diag.specs.Refusal.{IsRefusal};
-ghost use Rattle.syntax.specs.declared.written.Ident.{Ident as AnyIdent};
-ghost use Rattle.syntax.specs.Declarations.{written_view, field_view, declaration_view};
+ghost use Rattle.written_types.specs.declared.written.Ident.{Ident as AnyIdent};
+ghost use Rattle.syntax.specs.Items.{field_view, body_view, declaration_view};
 ghost use Rattle.schema_core.specs.Meaning.{IsDistinct};
-ghost use Rattle.compose.specs.Derived.{all_of, name_resolved, resolved, member_of, struct_of, is_kept_back, container, MembersDiffer};
-ghost use Rattle.compose.specs.Faults.{Somewhere, IsUnknownField, IsFaultyStruct, inner_name, unknown_message};
-ghost use Rattle.compose.specs.Types.{type_view, member_view, struct_view, member_names};
+ghost use Rattle.resolving.specs.Resolved.{Somewhere};
+ghost use Rattle.compose.specs.Derived.{all_of, body_fields, is_named_struct, member_of, struct_of, MembersDiffer};
+ghost use Rattle.compose.specs.Faults.{IsFaultyField, IsFaultyItem, field_idents, unbuilt_message};
+ghost use Rattle.compose.specs.Settled.{IsSmall, HasSmall};
+ghost use Rattle.std.specs.List.{AllByRecursion};
+ghost use Rattle.compose.specs.Types.{member_view, struct_view, member_names};
 
-use crate::leaf::Leaf;
 use crate::names::places_of;
-use crate::open_type::OpenType;
+use crate::place_type::built;
 use crate::structs::{Member, Struct};
-use diag::{DeriveError, Diagnostics, Kind, List};
+use diag::{DeriveError, Diagnostics, Kind, List, Span};
+use resolving::resolve_type;
 use std::alloc::{AllocError, Global};
 use std::collections::BTreeMap;
-use syntax::{Declaration, Field, Ident, WrittenType};
+use syntax::{Body, Declaration, Field, Fields};
 
-/// The refusal of a name that is not known.
-fn unknown(alloc: Global, ident: &Ident) -> Result<DeriveError, AllocError>
-    ensures { IfOk result (λ e. IsRefusal Kind.UnknownType ident.now.span (unknown_message ident.now.text) e) }
+/// The refusal of a form that is not built yet.
+fn unbuilt(alloc: Global, span: Span) -> Result<DeriveError, AllocError>
+    ensures { IfOk result (λ e. IsRefusal Kind.Syntax span unbuilt_message e) }
 {
-    let message = format!(in alloc; "unknown type {}", ident.text.as_str())?;
     let diagnostics = Diagnostics::with_span(
         alloc,
-        Kind::UnknownType,
-        ident.span,
-        message.as_str(),
+        Kind::Syntax,
+        span,
+        "unexpected text in a declaration",
     )?;
     Ok(DeriveError::Refused(diagnostics))
-}
-
-/// Whether no declaration is reached by the name.
-fn is_kept_back(name: &str) -> bool
-    ensures { result ≡ is_kept_back name.now }
-{
-    name == "Value" || name == "Object"
-}
-
-/// The leaf or the declaration of the name.
-fn resolve_name(places: &BTreeMap<String, usize>, name: &str) -> Option<OpenType>
-    ensures { option_map type_view result ≡ name_resolved (get_by_text places.now) name.now }
-{
-    if let Some(leaf) = Leaf::from_name(name) {
-        return Some(OpenType::Leaf(leaf));
-    }
-    if is_kept_back(name) {
-        return None;
-    }
-    match places.get(name) {
-        Some(place) => Some(OpenType::Named(*place)),
-        None => None,
-    }
-}
-
-/// What the written type stands for, where `places` has the places of the declarations.
-fn resolve(
-    alloc: Global,
-    places: &BTreeMap<String, usize>,
-    ty: &WrittenType,
-) -> Result<OpenType, DeriveError>
-    ensures resolved { IfOk result (λ t. resolved (get_by_text places.now) (written_view ty.now) ≡ Some (type_view t)) }
-    ensures refused { IfErr result (λ e. (e ≡ DeriveError.Memory) ⊎ ((name_resolved (get_by_text places.now) (inner_name (written_view ty.now)).text ≡ None)
-        × IsRefusal Kind.UnknownType (inner_name (written_view ty.now)).span (unknown_message (inner_name (written_view ty.now)).text) e)) }
-{
-    match ty {
-        WrittenType::Named(ident) => match resolve_name(places, ident.text.as_str()) {
-            Some(ty) => Ok(ty),
-            None => Err(unknown(alloc, ident)?),
-        },
-        WrittenType::Applied(head, argument, _) => {
-            let argument = resolve(alloc, places, argument)?;
-            Ok(contained(alloc, head, argument)?)
-        }
-    }
-}
-
-/// The option or the list of the type.
-fn contained(alloc: Global, head: &Ident, argument: OpenType) -> Result<OpenType, AllocError>
-    ensures { IfOk result (λ t. type_view t ≡ container head.now.text (type_view argument)) }
-{
-    let argument = Box::new(alloc, argument)?;
-    if head.text.as_str() == "Option" {
-        Ok(OpenType::Option(argument))
-    } else {
-        Ok(OpenType::Items(argument))
-    }
 }
 
 fn resolve_field(
@@ -96,12 +41,22 @@ fn resolve_field(
     field: &Field,
 ) -> Result<Member, DeriveError>
     ensures member { IfOk result (λ m. member_of (get_by_text places.now) (field_view field.now) ≡ Some (member_view m)) }
-    ensures refused { IfErr result (λ e. (e ≡ DeriveError.Memory) ⊎ IsUnknownField (get_by_text places.now) (field_view field.now) e) }
+    ensures ident { IfOk result (λ m. field.now.ident ≡ Some m.ident) }
+    ensures small { IfOk result (λ _. IsSmall (field_view field.now)) }
+    ensures refused { IfErr result (λ e. (e ≡ DeriveError.Memory) ⊎ IsFaultyField (get_by_text places.now) (field_view field.now) e) }
 {
-    Ok(Member {
-        name: field.ident.text.copy(alloc)?,
-        ty: resolve(alloc, places, &field.ty)?,
-    })
+    let ident = match &field.ident {
+        Some(ident) => ident,
+        None => return Err(unbuilt(alloc, field.span)?),
+    };
+    let ty = resolve_type(alloc, places, &field.ty)?;
+    match built(alloc, &ty)? {
+        Some(ty) => Ok(Member {
+            ident: ident.copy(alloc)?,
+            ty,
+        }),
+        None => Err(unbuilt(alloc, field.span)?),
+    }
 }
 
 fn resolve_fields(
@@ -110,13 +65,27 @@ fn resolve_fields(
     fields: &[Field],
 ) -> Result<List<Member>, DeriveError>
     ensures members { IfOk result (λ ms. all_of (member_of (get_by_text places.now)) (map field_view fields.now) ≡ Some (map member_view ms)) }
-    ensures refused { IfErr result (λ e. (e ≡ DeriveError.Memory) ⊎ Somewhere (λ f. IsUnknownField (get_by_text places.now) f e) (map field_view fields.now)) }
+    ensures idents { IfOk result (λ ms. field_idents (map field_view fields.now) ≡ map (λ m. m.ident) ms) }
+    ensures small { IfOk result (λ _. AllByRecursion IsSmall (map field_view fields.now)) }
+    ensures refused { IfErr result (λ e. (e ≡ DeriveError.Memory) ⊎ Somewhere (λ f. IsFaultyField (get_by_text places.now) f e) (map field_view fields.now)) }
 {
     let mut members = List::new(alloc);
     for field in fields {
         members.push(resolve_field(alloc, places, field)?)?;
     }
     Ok(members)
+}
+
+/// The fields of a struct with named fields.
+fn named_fields(body: &Body) -> Option<&[Field]>
+    ensures named { is_some result ≡ is_named_struct (body_view body.now) }
+    ensures fields { IfSome result (λ fields. map field_view fields.now ≡ body_fields (body_view body.now)) }
+{
+    match body {
+        Body::Struct(Fields::Named(fields)) => Some(fields.as_slice()),
+        Body::Struct(Fields::Unnamed(_)) => None,
+        Body::Struct(Fields::Unit) => None,
+    }
 }
 
 /// The struct of the declaration, whose fields have names of their own.
@@ -127,13 +96,18 @@ fn resolve_declaration(
 ) -> Result<Struct, DeriveError>
     ensures structs { IfOk result (λ s. struct_of (get_by_text places.now) (declaration_view declaration.now) ≡ Some (struct_view s)) }
     ensures distinct { IfOk result (λ s. IsDistinct (member_names (struct_view s).members)) }
-    ensures refused { IfErr result (λ e. (e ≡ DeriveError.Memory) ⊎ IsFaultyStruct (get_by_text places.now) (declaration_view declaration.now) e) }
+    ensures small { IfOk result (λ _. HasSmall (declaration_view declaration.now)) }
+    ensures refused { IfErr result (λ e. (e ≡ DeriveError.Memory) ⊎ IsFaultyItem (get_by_text places.now) (declaration_view declaration.now) e) }
 {
-    let fields = declaration.fields.as_slice();
-    let _ = places_of(alloc, fields)?;
+    let fields = match named_fields(&declaration.body) {
+        Some(fields) => fields,
+        None => return Err(unbuilt(alloc, declaration.span)?),
+    };
+    let members = resolve_fields(alloc, places, fields)?;
+    let _ = places_of(alloc, members.as_slice())?;
     Ok(Struct {
         name: declaration.ident.text.copy(alloc)?,
-        members: resolve_fields(alloc, places, fields)?,
+        members,
     })
 }
 
@@ -145,7 +119,8 @@ pub(crate) fn structs_of(
 ) -> Result<List<Struct>, DeriveError>
     ensures structs { IfOk result (λ ss. all_of (struct_of (get_by_text places.now)) (map declaration_view declarations.now) ≡ Some (map struct_view ss)) }
     ensures distinct { IfOk result (λ ss. MembersDiffer (map struct_view ss)) }
-    ensures refused { IfErr result (λ e. (e ≡ DeriveError.Memory) ⊎ Somewhere (λ d. IsFaultyStruct (get_by_text places.now) d e) (map declaration_view declarations.now)) }
+    ensures small { IfOk result (λ _. AllByRecursion HasSmall (map declaration_view declarations.now)) }
+    ensures refused { IfErr result (λ e. (e ≡ DeriveError.Memory) ⊎ Somewhere (λ d. IsFaultyItem (get_by_text places.now) d e) (map declaration_view declarations.now)) }
 {
     let mut structs = List::new(alloc);
     for declaration in declarations {

@@ -1,13 +1,14 @@
 //! Structs with resolved types.
 
-use crate::open_type::OpenType;
+use crate::place_type::PlaceType;
 use diag::{List, Text};
+use written_types::Ident;
 
-/// A field by its name and type.
+/// A field by its identifier and type.
 #[derive(Debug, Drop)]
 pub struct Member {
-    pub name: Text,
-    pub ty: OpenType,
+    pub ident: Ident,
+    pub ty: PlaceType,
 }
 
 /// A declared struct by its name and fields.

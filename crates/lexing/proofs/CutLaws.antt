@@ -1,8 +1,7 @@
 -- A text cut piece by piece.
 use Rattle.std.proofs.Common.{◌≡◌, ℕ, ◌+◌, ◌<◌, ◌≤◌, List, [], ◌∷◌, ◌++◌, length, refl, ap, sym, subst, ◌∙◌, arith, Option, Some, None, true, length-append, append_assoc}
-use Rattle.std.proofs.lemmas.Str.{len_utf8_bounds, length-encode, encodes-chars, encodes-append, scalars-chars, IsCharBoundary-at_seam}
+use Rattle.std.proofs.lemmas.Str.{encodes-chars, encodes-append, scalars-chars, IsCharBoundary-at_seam}
 use Rattle.std.specs.Str.{chars, IsUtf8, IsCharBoundary, encode_utf8_all, all_scalars}
-use Rattle.std.specs.Prelude.{encode_utf8}
 use Rattle.std.specs.Coded.{le_prop}
 use Rattle.diag.specs.declared.span.Span.{Span}
 use Rattle.lexing.specs.declared.piece.Piece.{Piece}
@@ -10,10 +9,8 @@ use Rattle.lexing.specs.declared.piece.PieceKind.{PieceKind}
 use Rattle.lexing.specs.Pieces.{Cuts}
 use Rattle.lexing.specs.Scanning.{piece_at}
 use Rattle.lexing.specs.Reading.{EndFrom, LieIn}
-use Rattle.lexing.proofs.PieceLaws.{finds_longest, longest_found, same_parts, and_true}
-
-pub encode_utf8_nonempty : (c : ℕ) → 0 < length (encode_utf8 c)
-encode_utf8_nonempty c = let bounds = len_utf8_bounds c in omega (arith, length-encode c)
+use Rattle.lexing.proofs.PieceLaws.{finds_longest, longest_found, none_begins}
+use Rattle.lexing.proofs.TextLaws.{same_parts, and_true}
 
 -- spans with the same ends are the same
 span_from : (t : Span) (a b : ℕ) (h : a ≤ b) → a ≡ t.start → b ≡ t.end → (let s : Span = record { start = a; end = b; ordered = h } in s) ≡ t
@@ -42,7 +39,7 @@ cuts_pushed p found new at stop whole text rest e f s t h kept ps c = rw e (rw a
 -- what is left, where the front is a piece
 pub cuts_left : (all : List Piece) (at stop : ℕ) (text rest : List ℕ) (k : PieceKind) → piece_at text ≡ Some (k, rest)
     → ((front : List ℕ) → text ≡ front ++ rest → stop ≡ at + length (encode_utf8_all front)) → Cuts all at text → (ps : List Piece) × Cuts ps stop rest
-cuts_left [] at stop text rest k e h c = let none : piece_at text ≡ None = ap piece_at c in cc
+cuts_left [] at stop text rest k e h c = absurd (none_begins text k rest c e)
 cuts_left (p ∷ ps) at stop text rest k e h c =
     let here : ◌≡◌ {A = Option (PieceKind × List ℕ)} (Some (p.kind, c.1)) (Some (k, rest)) = sym (longest_found p.kind c.0 c.1 c.3) ∙ ap piece_at (sym c.2) ∙ e in
     let pairs : ◌≡◌ {A = PieceKind × List ℕ} (p.kind, c.1) (k, rest) = cc in
@@ -72,8 +69,8 @@ chars_nonempty text u h = nonempty text (chars text) (encodes-chars text u) h
 -- a text has one cut
 pub same_pieces : (ps qs : List Piece) (at : ℕ) (text : List ℕ) → Cuts ps at text → Cuts qs at text → ps ≡ qs
 same_pieces [] [] at text c d = refl
-same_pieces [] (q ∷ qs) at text c d = let none : piece_at text ≡ None = ap piece_at c in let some : piece_at text ≡ Some (q.kind, d.1) = ap piece_at d.2 ∙ longest_found q.kind d.0 d.1 d.3 in cc
-same_pieces (p ∷ ps) [] at text c d = let none : piece_at text ≡ None = ap piece_at d in let some : piece_at text ≡ Some (p.kind, c.1) = ap piece_at c.2 ∙ longest_found p.kind c.0 c.1 c.3 in cc
+same_pieces [] (q ∷ qs) at text c d = absurd (none_begins text q.kind d.1 c (ap piece_at d.2 ∙ longest_found q.kind d.0 d.1 d.3))
+same_pieces (p ∷ ps) [] at text c d = absurd (none_begins text p.kind c.1 d (ap piece_at c.2 ∙ longest_found p.kind c.0 c.1 c.3))
 same_pieces (p ∷ ps) (q ∷ qs) at text c d =
     let here : ◌≡◌ {A = Option (PieceKind × List ℕ)} (Some (p.kind, c.1)) (Some (q.kind, d.1)) = sym (ap piece_at c.2 ∙ longest_found p.kind c.0 c.1 c.3) ∙ ap piece_at d.2 ∙ longest_found q.kind d.0 d.1 d.3 in
     let pairs : ◌≡◌ {A = PieceKind × List ℕ} (p.kind, c.1) (q.kind, d.1) = cc in

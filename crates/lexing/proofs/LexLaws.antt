@@ -1,11 +1,11 @@
--- A source that is cut in vain has no token trees.
+-- A source that is cut in vain has no token trees, or opens too many brackets.
 use Rattle.std.proofs.Common.{ℕ, List, [], subst}
 use Rattle.std.specs.Str.{chars}
+use Rattle.tokens.specs.Trees.{Trees}
 use Rattle.lexing.specs.declared.nest.TheConstants.{MAX_DEPTH}
 use Rattle.lexing.specs.declared.piece.LexError.{LexError}
-use Rattle.lexing.specs.declared.piece.LexError.TheVariants.{Memory, Stopped}
+use Rattle.lexing.specs.declared.piece.LexError.TheVariants.{Memory, TooDeep, Stopped}
 use Rattle.lexing.specs.declared.piece.Piece.{Piece}
-use Rattle.lexing.specs.Trees.{Trees}
 use Rattle.lexing.specs.Pieces.{Cuts}
 use Rattle.lexing.specs.Nesting.{IsTrees}
 use Rattle.lexing.specs.Reading.{IsUnnested}
@@ -18,4 +18,5 @@ trees_of_pieces source pieces trees c cut = subst (λ v. IsTrees source v trees 
 
 pub unread_from_unnested : (source : List ℕ) (pieces : List Piece) (e : LexError) → Cuts pieces 0 (chars source) → IsUnnested source MAX_DEPTH pieces e → IsUnread source e
 unread_from_unnested source pieces Memory c h = tt
-unread_from_unnested source pieces (Stopped span) c h = (h.0, λ trees cut. h.1 trees [] (trees_of_pieces source pieces trees c cut) tt cut.3)
+unread_from_unnested source pieces (TooDeep span) c h = (pieces, c, h)
+unread_from_unnested source pieces (Stopped span) c h = (h.0, λ trees cut. h.1 trees [] (trees_of_pieces source pieces trees c cut) tt)

@@ -1,5 +1,10 @@
+pub mod TextLaws
+pub mod CommentLaws
 pub mod Classes
+pub mod WordLaws
+pub mod LiteralLaws
 pub mod PieceLaws
 pub mod CutLaws
 pub mod NestLaws
 pub mod LexLaws
+pub mod RawLaws

@@ -1,18 +1,18 @@
 -- Trees, read from the left, are one reading.
 use Rattle.std.proofs.Common.{◌≡◌, ℕ, suc, ◌-◌, ◌≤◌, arith, ◌⊎◌, inl, inr, List, [], ◌∷◌, ◌++◌, length, refl, ap, sym, subst, ◌∙◌, rules}
 use Rattle.diag.specs.declared.span.Span.{Span}
-use Rattle.lexing.specs.declared.token.Bracket.{Bracket}
-use Rattle.lexing.specs.declared.token.TokenKind.{TokenKind}
-use Rattle.lexing.specs.declared.token.Group.{Group}
-use Rattle.lexing.specs.declared.token.TokenTree.{TokenTree, the_lemmas}
-use Rattle.lexing.specs.declared.token.TokenTree.TheVariants as tree
+use Rattle.tokens.specs.declared.token.Bracket.{Bracket}
+use Rattle.tokens.specs.declared.token.TokenKind.{TokenKind}
+use Rattle.tokens.specs.declared.token.Group.{Group}
+use Rattle.tokens.specs.declared.token.TokenTree.{TokenTree, the_lemmas}
+use Rattle.tokens.specs.declared.token.TokenTree.TheVariants as tree
 use Rattle.lexing.specs.declared.piece.LexError.{LexError}
-use Rattle.lexing.specs.declared.piece.LexError.TheVariants.{Memory, Stopped}
+use Rattle.lexing.specs.declared.piece.LexError.TheVariants.{Memory, TooDeep, Stopped}
 use Rattle.lexing.specs.declared.piece.Piece.{Piece}
 use Rattle.lexing.specs.declared.piece.PieceKind.{PieceKind}
 use Rattle.lexing.specs.declared.piece.PieceKind.TheVariants.{Space, Comment, Token, Open, Close}
-use Rattle.lexing.specs.Trees.{Tree, Trees, token, group, end, ◌▸◌, tree_view, trees_view, depth, depth_of}
-use Rattle.lexing.specs.Nesting.{token_of, IsTrees, none, blank, lone, grouped}
+use Rattle.tokens.specs.Trees.{Tree, Trees, token, group, end, ◌▸◌, tree_view, trees_view, depth, depth_of}
+use Rattle.lexing.specs.Nesting.{token_of, IsTrees, none, blank, lone, grouped, Opens, here, inside, later}
 use Rattle.lexing.specs.Reading.{EndFrom, LieIn, Stops, IsUnnested, IsGroup}
 use Rattle.lexing.proofs.CutLaws.{span_same}
 
@@ -116,42 +116,25 @@ module _ (source : List ℕ) where
   -- the error of what comes after is that of the whole
   pub unnested_later : (left : ℕ) (ps mid : List Piece) (ts : Trees) (e : LexError) → IsTrees source ps ts mid → IsUnnested source left mid e → IsUnnested source left ps e
   unnested_later left ps mid ts Memory r h = tt
-  unnested_later left ps mid ts (Stopped span) r h = (
-    h.0,
-    λ us rest s stops d.
-        let more = cancel r s stops in
-        let deep = depth_later ts more.0 in
-        let whole : depth us ≡ depth (joined ts more.0) = ap depth more.1 in
-        h.1 more.0 rest more.2 stops (omega arith),
-  )
+  unnested_later left ps mid ts (TooDeep span) r h = later r h
+  unnested_later left ps mid ts (Stopped span) r h = (h.0, λ us rest s stops. let more = cancel r s stops in h.1 more.0 rest more.2 stops)
 
   -- the error of what stands in a group
   pub unnested_inside : (left m : ℕ) (b : Bracket) (p : Piece) (ps : List Piece) (e : LexError) → left ≡ suc m → p.kind ≡ Open b → IsUnnested source m ps e → IsUnnested source left (p ∷ ps) e
   unnested_inside left m b p ps Memory l k h = tt
-  unnested_inside left m b p ps (Stopped span) l k h = (
-    h.0,
-    λ ts rest s stops d.
-        let r = ruled s stops (Open b) k in
-        let whole : depth ts ≡ depth (group b r.0 r.4 ▸ r.3) = ap depth r.9 in
-        h.1 r.0 (r.1 ∷ r.2) r.5 (b, r.6) (omega arith),
-  )
+  unnested_inside left m b p ps (TooDeep span) l k h = subst (λ v. Opens source v (p ∷ ps) span) (sym l) (inside k h)
+  unnested_inside left m b p ps (Stopped span) l k h = (h.0, λ ts rest s stops. let r = ruled s stops (Open b) k in h.1 r.0 (r.1 ∷ r.2) r.5 (b, r.6))
 
   -- no group fits into no levels
-  pub unnested_deep : (left : ℕ) (b : Bracket) (p : Piece) (ps : List Piece) (span : Span) → left ≡ 0 → span.end ≤ length source → p.kind ≡ Open b → IsUnnested source left (p ∷ ps) (Stopped span)
-  unnested_deep left b p ps span l w k = (
-    w,
-    λ ts rest s stops d.
-        let r = ruled s stops (Open b) k in
-        let whole : depth ts ≡ depth (group b r.0 r.4 ▸ r.3) = ap depth r.9 in
-        absurd (omega arith),
-  )
+  pub unnested_deep : (left : ℕ) (b : Bracket) (p : Piece) (ps : List Piece) → left ≡ 0 → p.kind ≡ Open b → IsUnnested source left (p ∷ ps) (TooDeep p.span)
+  unnested_deep left b p ps l k = subst (λ v. Opens source v (p ∷ ps) p.span) (sym l) (here k)
 
   -- what follows the trees in a group is not its closing bracket
   pub unnested_open : (left : ℕ) (b : Bracket) (p : Piece) (ps closing : List Piece) (ts : Trees) (span : Span) → span.end ≤ length source → p.kind ≡ Open b → IsTrees source ps ts closing → Stops closing
       → ((q : Piece) (mid : List Piece) → closing ≡ q ∷ mid → q.kind ≡ Close b → ⊥) → IsUnnested source left (p ∷ ps) (Stopped span)
   unnested_open left b p ps closing ts span w k r c never = (
     w,
-    λ us rest s stops d.
+    λ us rest s stops.
         let h = ruled s stops (Open b) k in
         let within = cancel r h.5 (b, h.6) in
         never h.1 h.2 (stopped within.2 c (b, h.6)) h.6,

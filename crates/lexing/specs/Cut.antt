@@ -2,29 +2,38 @@
 use Rattle.std.specs.Prelude.{ℕ, ◌≤◌, List, [], length, chars, codes}
 use Rattle.diag.specs.Refusal.{IsRefusal}
 use Rattle.diag.specs.declared.error.DeriveError.{DeriveError}
-use Rattle.diag.specs.declared.kind.Kind.TheVariants.{Syntax}
+use Rattle.diag.specs.declared.kind.Kind.TheVariants as kinds
 use Rattle.diag.specs.declared.span.Span.{Span}
+use Rattle.tokens.specs.Trees.{Trees}
 use Rattle.lexing.specs.declared.nest.TheConstants.{MAX_DEPTH}
 use Rattle.lexing.specs.declared.piece.LexError.{LexError}
-use Rattle.lexing.specs.declared.piece.LexError.TheVariants.{Memory, Stopped}
+use Rattle.lexing.specs.declared.piece.LexError.TheVariants.{Memory, TooDeep, Stopped}
 use Rattle.lexing.specs.declared.piece.Piece.{Piece}
-use Rattle.lexing.specs.Trees.{Trees, depth}
 use Rattle.lexing.specs.Pieces.{Cuts}
-use Rattle.lexing.specs.Nesting.{IsTrees}
+use Rattle.lexing.specs.Nesting.{IsTrees, Opens}
 
--- The source's pieces nest as these trees, and no deeper than brackets may.
+-- the source's pieces nest as these trees
 abbrev pub IsCut : List ℕ → Trees → Type 0
-IsCut source trees = (pieces : List Piece) × Cuts pieces 0 (chars source) × IsTrees source pieces trees [] × (depth trees ≤ MAX_DEPTH)
+IsCut source trees = (pieces : List Piece) × Cuts pieces 0 (chars source) × IsTrees source pieces trees []
+
+-- among the source's pieces, the bracket of the span opens inside as many as may be open
+abbrev pub OpensTooDeep : List ℕ → Span → Type 0
+OpensTooDeep source span = (pieces : List Piece) × Cuts pieces 0 (chars source) × Opens source MAX_DEPTH pieces span
 
 -- the span lies in the source, which has no token trees
 abbrev pub StopsAt : List ℕ → Span → Type 0
 StopsAt source span = (span.end ≤ length source) × ((trees : Trees) → ¬ (IsCut source trees))
 
+-- the error refuses a source at a bracket that opens too deep
+abbrev pub IsDepthError : List ℕ → DeriveError → Type 0
+IsDepthError source e = (span : Span) × IsRefusal kinds.TooDeep span (codes "nesting is deeper than 64") e × OpensTooDeep source span
+
 -- the error refuses a source that has no token trees, at a span of it
 abbrev pub IsSyntaxError : List ℕ → DeriveError → Type 0
-IsSyntaxError source e = (span : Span) × IsRefusal Syntax span (codes "unexpected text in a declaration") e × StopsAt source span
+IsSyntaxError source e = (span : Span) × IsRefusal kinds.Syntax span (codes "unexpected text in a declaration") e × StopsAt source span
 
--- where reading stopped, in a source that has no token trees
+-- why a source is not read: its span is that of such a bracket, or of where reading stopped
 abbrev pub IsUnread : List ℕ → LexError → Type 0
 IsUnread source Memory = Unit {0}
+IsUnread source (TooDeep span) = OpensTooDeep source span
 IsUnread source (Stopped span) = StopsAt source span

@@ -1,6 +1,6 @@
 pub mod Cut
 pub mod Nesting
 pub mod Pieces
+pub mod RawStrings
 pub mod Reading
 pub mod Scanning
-pub mod Trees

@@ -3,14 +3,14 @@ use Rattle.std.specs.Prelude.{◌≡◌, ℕ, ◌≤◌, List, [], ◌∷◌, le
 use Rattle.std.specs.Borrow.{Bor}
 use Rattle.std.specs.Str.{IsCharBoundary}
 use Rattle.diag.specs.declared.span.Span.{Span}
-use Rattle.lexing.specs.declared.token.Bracket.{Bracket}
-use Rattle.lexing.specs.declared.token.TokenTree.{TokenTree}
+use Rattle.tokens.specs.declared.token.Bracket.{Bracket}
+use Rattle.tokens.specs.declared.token.TokenTree.{TokenTree}
 use Rattle.lexing.specs.declared.piece.LexError.{LexError}
-use Rattle.lexing.specs.declared.piece.LexError.TheVariants.{Memory, Stopped}
+use Rattle.lexing.specs.declared.piece.LexError.TheVariants.{Memory, TooDeep, Stopped}
 use Rattle.lexing.specs.declared.piece.Piece.{Piece}
 use Rattle.lexing.specs.declared.piece.PieceKind.TheVariants.{Open, Close}
-use Rattle.lexing.specs.Trees.{Tree, Trees, group, tree_view, trees_view, depth, depth_of}
-use Rattle.lexing.specs.Nesting.{IsTrees}
+use Rattle.tokens.specs.Trees.{Tree, Trees, group, tree_view, trees_view, depth, depth_of}
+use Rattle.lexing.specs.Nesting.{IsTrees, Opens}
 
 -- every piece ends at the offset or later
 abbrev pub EndFrom : ℕ → List Piece → Type 0
@@ -27,10 +27,11 @@ abbrev pub Stops : List Piece → Type 0
 Stops [] = Unit {0}
 Stops (q ∷ ps) = (b : Bracket) × (q.kind ≡ Close b)
 
--- where reading stopped, in pieces that do not begin with trees of at most that depth
+-- the bracket that opens too deep, or where reading stopped, in pieces that do not begin with trees
 abbrev pub IsUnnested : List ℕ → ℕ → List Piece → LexError → Type 0
 IsUnnested source left ps Memory = Unit {0}
-IsUnnested source left ps (Stopped span) = (span.end ≤ length source) × ((ts : Trees) (rest : List Piece) → IsTrees source ps ts rest → Stops rest → depth ts ≤ left → ⊥)
+IsUnnested source left ps (TooDeep span) = Opens source left ps span
+IsUnnested source left ps (Stopped span) = (span.end ≤ length source) × ((ts : Trees) (rest : List Piece) → IsTrees source ps ts rest → Stops rest → ⊥)
 
 abbrev pub Nests : List ℕ → ℕ → List Piece → Result (List TokenTree × Bor (List Piece)) LexError → Type 0
 Nests source left ps (Ok p) = IsTrees source ps (trees_view p.0) p.1.now × Stops p.1.now × (depth (trees_view p.0) ≤ left)

@@ -1,7 +1,7 @@
 //! Laws of the definitions that contracts cite.
 
 ghost use Rattle.std.specs.Prelude.{◌≡◌, ℕ, List};
-ghost use Rattle.lexing.specs.Trees.{Trees};
+ghost use Rattle.tokens.specs.Trees.{Trees};
 ghost use Rattle.lexing.specs.Cut.{IsCut};
 
 /// A source has at most one list of token trees.

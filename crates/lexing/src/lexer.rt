@@ -1,28 +1,40 @@
 //! From a source to its token trees.
 
-ghost use Rattle.std.specs.Prelude.{◌≡◌, ◌⊎◌, IfOk, IfErr};
-ghost use Rattle.lexing.specs.Trees.{trees_view};
-ghost use Rattle.lexing.specs.Cut.{IsCut, IsSyntaxError, IsUnread};
+ghost use Rattle.std.specs.Prelude.{◌≡◌, ◌≤◌, ◌⊎◌, IfOk, IfErr};
+ghost use Rattle.tokens.specs.Trees.{trees_view, depth};
+ghost use Rattle.lexing.specs.declared.nest.TheConstants.{MAX_DEPTH};
+ghost use Rattle.lexing.specs.Cut.{IsCut, IsDepthError, IsSyntaxError, IsUnread};
 
 use crate::nest::{self, MAX_DEPTH};
 use crate::piece::LexError;
 use crate::scan;
-use crate::token::TokenTree;
 use diag::{DeriveError, Diagnostics, Kind, List};
 use std::alloc::Global;
+use tokens::TokenTree;
 
-/// The token trees of the source, whose pieces are cut and nested with white space and comments dropped.
+/// The token trees of the source, whose pieces are cut and nested with white space and comments dropped. Brackets
+/// nest at most `MAX_DEPTH` deep.
 ///
-/// A refusal is of kind `Syntax`, with the span where reading stopped: a character that begins no piece, a closing
-/// bracket that matches nothing or the wrong bracket, the first bracket past `MAX_DEPTH` levels, or the end of the
-/// source where a bracket is never closed.
+/// A refusal of kind `Syntax` has the span where reading stopped: a character that begins no piece, a closing bracket
+/// that matches nothing or the wrong bracket, or the end of the source where a bracket is never closed. One of kind
+/// `TooDeep` has the span of the first bracket past `MAX_DEPTH` levels.
 pub fn lex(alloc: Global, source: &str) -> Result<List<TokenTree>, DeriveError>
     ensures found { IfOk result (λ trees. IsCut source.now (trees_view trees)) }
-    ensures refused { IfErr result (λ e. (e ≡ DeriveError.Memory) ⊎ IsSyntaxError source.now e) }
+    ensures shallow { IfOk result (λ trees. depth (trees_view trees) ≤ MAX_DEPTH) }
+    ensures refused { IfErr result (λ e. (e ≡ DeriveError.Memory) ⊎ IsDepthError source.now e ⊎ IsSyntaxError source.now e) }
 {
     match token_trees(alloc, source) {
         Ok(trees) => Ok(trees),
         Err(LexError::Memory) => Err(DeriveError::Memory),
+        Err(LexError::TooDeep(span)) => {
+            let diagnostics = Diagnostics::with_span(
+                alloc,
+                Kind::TooDeep,
+                span,
+                "nesting is deeper than 64",
+            )?;
+            Err(DeriveError::Refused(diagnostics))
+        }
         Err(LexError::Stopped(span)) => {
             let diagnostics = Diagnostics::with_span(
                 alloc,
@@ -37,6 +49,7 @@ pub fn lex(alloc: Global, source: &str) -> Result<List<TokenTree>, DeriveError>
 
 pub fn token_trees(alloc: Global, source: &str) -> Result<List<TokenTree>, LexError>
     ensures found { IfOk result (λ trees. IsCut source.now (trees_view trees)) }
+    ensures shallow { IfOk result (λ trees. depth (trees_view trees) ≤ MAX_DEPTH) }
     ensures refused { IfErr result (λ e. IsUnread source.now e) }
 {
     let pieces = scan::cut(alloc, source)?;

@@ -1,16 +1,19 @@
-//! Cutting: from a source's text to its token trees, by Rust's lexical rules in this project's profile.
+//! Cutting: from a source's text to its token trees (The Rust Reference, "Lexical structure").
 #![tactic(auto)]
 
+mod comment;
 mod laws;
 mod lexer;
 mod nest;
 mod piece;
+mod raw;
 mod scan;
 #[cfg(test)]
 mod tests;
-mod token;
+mod text;
+mod word;
 
 pub use laws::one_cut;
 pub use lexer::lex;
 pub use nest::MAX_DEPTH;
-pub use token::{Bracket, Group, Token, TokenKind, TokenTree};
+pub use tokens::{Bracket, Cursor, Group, Token, TokenKind, TokenTree, copy_trees};

@@ -2,14 +2,14 @@
 
 ghost use Rattle.std.specs.Prelude.{◌≡◌, ◌≤◌, ◌∷◌, [], length, IfOk, MatchOption};
 ghost use Rattle.std.specs.Str.{IsCharBoundary};
-ghost use Rattle.lexing.specs.Trees.{token, tree_view};
+ghost use Rattle.tokens.specs.Trees.{token, tree_view};
 ghost use Rattle.lexing.specs.Nesting.{token_of};
 ghost use Rattle.lexing.specs.Reading.{LieIn, EndFrom, Nests, NestsGroup};
 
 use crate::piece::{LexError, Piece, PieceKind};
-use crate::token::{Bracket, Group, Token, TokenKind, TokenTree};
 use diag::{List, Span, Text};
 use std::alloc::{AllocError, Global};
+use tokens::{Bracket, Group, Token, TokenKind, TokenTree};
 
 /// How deep brackets may nest.
 pub const MAX_DEPTH: usize = 64;
@@ -100,7 +100,7 @@ fn group_at<'p>(
     ensures shorter { IfOk result (λ p. length p.1.now ≤ length pieces.now) }
 {
     if left == 0 {
-        return Err(LexError::Stopped(opening.span));
+        return Err(LexError::TooDeep(opening.span));
     }
     let (trees, rest) = trees_at(alloc, source, pieces, left - 1)?;
     match split_first_piece(rest) {

@@ -1,11 +1,11 @@
-use crate::token::{Bracket, TokenKind};
 use diag::Span;
 use std::alloc::AllocError;
+use tokens::{Bracket, TokenKind};
 
 /// What a piece of a source is.
 #[derive(Clone, Copy, Debug, PartialEq, Eq)]
 pub enum PieceKind {
-    /// A run of white space.
+    /// White space.
     Space,
     /// A comment that is no doc comment.
     Comment,
@@ -25,6 +25,8 @@ pub struct Piece {
 #[derive(Drop)]
 pub enum LexError {
     Memory,
+    /// The bracket of the span stands too deep.
+    TooDeep(Span),
     /// Reading stopped at the span.
     Stopped(Span),
 }

@@ -1,64 +1,61 @@
 //! Cutting a source into pieces.
 
-ghost use Rattle.std.specs.Prelude.{◌≡◌, ◌<◌, ◌≤◌, ◌∷◌, [], length, chars, MatchOption, IfOk, IfErr, Some, None};
+ghost use Rattle.std.specs.Prelude.{◌≡◌, ◌<◌, ◌≤◌, ◌∷◌, [], length, chars, Some, IfOk, IfErr};
 ghost use Rattle.std.specs.Str.{IsUtf8};
-ghost use Rattle.lexing.specs.Pieces.{is_white, is_sign, starts_name, is_doc, begins_with, Cuts};
-ghost use Rattle.lexing.specs.Scanning.{bracket_class, class_of, continues, skip, comment_at, piece_at, IsUncut};
+ghost use Rattle.lexing.specs.Pieces.{is_sign, may_end, Cuts};
+ghost use Rattle.lexing.specs.RawStrings.{NoneCloses};
+ghost use Rattle.lexing.specs.Scanning.{bracket_class, class_of, after_colon, or_sign, comment_at, plain_piece_at, longest_at, piece_at, FindsPiece, IsUncut};
 
+use crate::comment::comment;
 use crate::piece::{LexError, Piece, PieceKind};
-use crate::token::{Bracket, TokenKind};
+use crate::raw::{MORE_HASHES, is_never_closed, unclosed_after};
+use crate::text::{Run, after_run, begins_with, is_white, split_first_char};
+use crate::word::{after_identifier, starts_name};
 use diag::{List, Span};
+use literals::after_literal;
 use std::alloc::Global;
+use tokens::{Bracket, TokenKind};
 
-/// What a character may begin.
+/// What a character may begin, other than a literal.
 #[derive(Clone, Copy)]
 pub enum Class {
     White,
     Slash,
+    Colon,
     Sign,
+    Quote,
     NameStart,
     Opens(Bracket),
     Closes(Bracket),
     Other,
 }
 
-/// What a run of characters is part of.
-#[derive(Clone, Copy)]
-pub enum Run {
-    White,
-    Name,
-    Line,
-}
-
-fn split_first_char(text: &str) -> Option<(char, &str)>
-    ensures { MatchOption result (chars text.now ≡ []) (λ p. (chars text.now ≡ p.0 ∷ chars p.1.now) × (length p.1.now < length text.now) × IsUtf8 p.1.now) }
-{
-    let mut chars = text.chars();
-    match chars.next() {
-        Some(c) => Some((c, chars.as_str())),
-        None => None,
-    }
-}
-
-fn is_white(c: char) -> bool
-    ensures { result ≡ is_white c }
-{
-    matches!(
-        c,
-        '\u{9}'..='\u{d}' | ' ' | '\u{85}' | '\u{200e}' | '\u{200f}' | '\u{2028}' | '\u{2029}'
-    )
-}
-
 fn is_sign(c: char) -> bool
     ensures { result ≡ is_sign c }
 {
-    matches!(c, '<' | '>' | ',' | ':')
-}
-
-fn starts_name(c: char) -> bool
-    ensures { result ≡ starts_name c }
-{
-    (c == '_') | unicode_ident::is_xid_start(c)
+    matches!(
+        c,
+        '!' | '#'
+            | '$'
+            | '%'
+            | '&'
+            | '*'
+            | '+'
+            | ','
+            | '-'
+            | '.'
+            | '/'
+            | ':'
+            | ';'
+            | '<'
+            | '='
+            | '>'
+            | '?'
+            | '@'
+            | '^'
+            | '|'
+            | '~'
+    )
 }
 
 fn bracket_class(c: char) -> Class
@@ -85,6 +82,10 @@ fn class_of(c: char) -> Class
         Class::NameStart
     } else if c == '/' {
         Class::Slash
+    } else if c == ':' {
+        Class::Colon
+    } else if c == '\'' {
+        Class::Quote
     } else if is_sign(c) {
         Class::Sign
     } else {
@@ -92,85 +93,90 @@ fn class_of(c: char) -> Class
     }
 }
 
-fn continues(run: Run, c: char) -> bool
-    ensures { result ≡ continues run c }
-{
-    match run {
-        Run::White => is_white(c),
-        Run::Name => unicode_ident::is_xid_continue(c),
-        Run::Line => c != '\n',
-    }
-}
-
-/// What follows the characters at the front that continue the run.
-fn after_run(run: Run, text: &str) -> &str
-    ensures value { chars result.now ≡ skip (continues run) (chars text.now) }
+/// What follows a sign that begins with a colon, which stands before the text.
+fn after_colon(text: &str) -> &str
+    ensures value { chars result.now ≡ after_colon (chars text.now) }
     ensures shorter { length result.now ≤ length text.now }
     ensures utf8 { IsUtf8 result.now }
 {
-    let mut rest = text;
-    'run: loop {
-        match split_first_char(rest) {
-            Some((c, after)) if continues(run, c) => rest = after,
-            _ => return rest,
-        }
-    }
-}
-
-fn begins_with_slash(text: &str) -> bool
-    ensures { result ≡ begins_with 47 (chars text.now) }
-{
     match split_first_char(text) {
-        Some((c, _)) => c == '/',
-        None => false,
+        Some((c, rest)) if c == ':' => rest,
+        _ => text,
     }
 }
 
-/// Whether a comment is a doc comment, by what follows its two slashes.
-fn is_doc(text: &str) -> bool
-    ensures { result ≡ is_doc (chars text.now) }
+/// The comment or the sign whose first slash stands before the text, and what follows it.
+fn after_slash(text: &str) -> (PieceKind, &str)
+    ensures value { or_sign (chars text.now) (comment_at (chars text.now)) ≡ Some (result.0, chars result.1.now) }
+    ensures shorter { length result.1.now ≤ length text.now }
+    ensures utf8 { IsUtf8 result.1.now }
 {
-    match split_first_char(text) {
-        Some((c, rest)) => c == '!' || (c == '/' && !begins_with_slash(rest)),
-        None => false,
+    match comment(text) {
+        Some(found) => found,
+        None => (PieceKind::Token(TokenKind::Punct), text),
     }
 }
 
-/// The comment at the front, by what follows its first slash, and what follows the comment.
-fn comment(text: &str) -> Option<(PieceKind, &str)>
-    ensures { MatchOption result (comment_at (chars text.now) ≡ None) (λ p. (comment_at (chars text.now) ≡ Some (p.0, chars p.1.now)) × (length p.1.now < length text.now) × IsUtf8 p.1.now) }
-{
-    match split_first_char(text) {
-        Some((c, body)) if c == '/' => {
-            let kind = if is_doc(body) {
-                PieceKind::Token(TokenKind::Doc)
-            } else {
-                PieceKind::Comment
-            };
-            Some((kind, after_run(Run::Line, body)))
-        }
-        _ => None,
-    }
-}
-
-/// The piece at the front, and what follows it.
-fn first_piece(text: &str) -> Option<(PieceKind, &str)>
-    ensures { MatchOption result (piece_at (chars text.now) ≡ None) (λ p. (piece_at (chars text.now) ≡ Some (p.0, chars p.1.now)) × (length p.1.now < length text.now) × IsUtf8 p.1.now) }
+/// The longest piece at the front that is no literal, and what follows it.
+fn plain_piece(text: &str) -> Option<(PieceKind, &str)>
+    ensures { FindsPiece (plain_piece_at (chars text.now)) text.now result }
 {
     match split_first_char(text) {
         None => None,
         Some((c, rest)) => match class_of(c) {
             Class::White => Some((PieceKind::Space, after_run(Run::White, rest))),
-            Class::Slash => comment(rest),
+            Class::Slash => Some(after_slash(rest)),
+            Class::Colon => Some((PieceKind::Token(TokenKind::Punct), after_colon(rest))),
             Class::Sign => Some((PieceKind::Token(TokenKind::Punct), rest)),
-            Class::NameStart => Some((
-                PieceKind::Token(TokenKind::Ident),
-                after_run(Run::Name, rest),
-            )),
+            Class::Quote => match after_identifier(rest) {
+                Some(after) => Some((PieceKind::Token(TokenKind::Lifetime), after)),
+                None => None,
+            },
+            Class::NameStart => match after_identifier(text) {
+                Some(after) => Some((PieceKind::Token(TokenKind::Ident), after)),
+                None => None,
+            },
             Class::Opens(bracket) => Some((PieceKind::Open(bracket), rest)),
             Class::Closes(bracket) => Some((PieceKind::Close(bracket), rest)),
             Class::Other => None,
         },
+    }
+}
+
+/// The longest piece at the front, whatever follows it. No raw string in the text with `unclosed` signs `#` or more is
+/// closed.
+fn longest_piece(text: &str, unclosed: usize) -> Option<(PieceKind, &str)>
+    requires { NoneCloses unclosed (chars text.now) }
+    ensures { FindsPiece (longest_at (chars text.now)) text.now result }
+{
+    if is_never_closed(unclosed, text) {
+        return plain_piece(text);
+    }
+    match after_literal(text) {
+        Some(rest) => Some((PieceKind::Token(TokenKind::Literal), rest)),
+        None => plain_piece(text),
+    }
+}
+
+/// Whether what follows the piece at the front of the text may follow it.
+fn may_end(kind: PieceKind, text: &str, rest: &str) -> bool
+    ensures { result ≡ may_end kind (chars text.now) (chars rest.now) }
+{
+    match kind {
+        PieceKind::Token(TokenKind::Lifetime) => !begins_with('\'', rest),
+        PieceKind::Token(TokenKind::Punct) => !(begins_with('/', text) && begins_with('*', rest)),
+        _ => true,
+    }
+}
+
+/// The piece at the front, and what follows it.
+fn first_piece(text: &str, unclosed: usize) -> Option<(PieceKind, &str)>
+    requires { NoneCloses unclosed (chars text.now) }
+    ensures { FindsPiece (piece_at (chars text.now)) text.now result }
+{
+    match longest_piece(text, unclosed) {
+        Some((kind, rest)) if may_end(kind, text, rest) => Some((kind, rest)),
+        _ => None,
     }
 }
 
@@ -196,8 +202,9 @@ pub fn cut(alloc: Global, source: &str) -> Result<List<Piece>, LexError>
 {
     let mut found = List::new(alloc);
     let mut rest = source;
+    let mut unclosed = MORE_HASHES;
     'pieces: while !rest.is_empty() {
-        match first_piece(rest) {
+        match first_piece(rest, unclosed) {
             None => return Err(LexError::Stopped(first_char_span(source, rest))),
             Some((kind, after)) => {
                 let span = Span {
@@ -205,6 +212,7 @@ pub fn cut(alloc: Global, source: &str) -> Result<List<Piece>, LexError>
                     end: source.len() - after.len(),
                 };
                 found.push(Piece { kind, span })?;
+                unclosed = unclosed_after(kind, rest, unclosed);
                 rest = after;
             }
         }

@@ -19,5 +19,7 @@ pub use Rattle.schema_core.specs.Document
 pub use Rattle.streams.specs.Faults as StreamFaults
 pub use Rattle.streams.specs.Memory
 pub use Rattle.streams.specs.Told
-pub use Rattle.syntax.specs.Declarations
+pub use Rattle.resolving.specs.Names as Resolving
+pub use Rattle.resolving.specs.Resolved
+pub use Rattle.syntax.specs.Items
 pub use Rattle.syntax.specs.Source

@@ -12,8 +12,8 @@ use Rattle.diag.specs.declared.error.DeriveError.TheVariants as error
 use Rattle.diag.specs.declared.kind.Kind.{Kind}
 use Rattle.diag.specs.declared.kind.Kind.TheVariants.{TooLong, Syntax}
 use Rattle.diag.specs.declared.span.Span.{Span}
-use Rattle.syntax.specs.Declarations.{DeclaredStruct}
-use Rattle.syntax.specs.Source.{Reads}
+use Rattle.syntax.specs.Items.{DeclaredItem}
+use Rattle.syntax.specs.Source.{Reads, NestsTooDeep}
 use Rattle.compose.specs.Faults.{IsRefused, AreClear}
 
 -- the most bytes of a source
@@ -48,8 +48,9 @@ IsRefusedSource bytes e = IsTooLong bytes e ⊎ (IsNoText bytes e ⊎ (IsText by
 -- No condition of a refusal holds of the bytes: they are a text that has a reading, and nothing in it is at fault.
 pub record IsSound (bytes : List ℕ) : Type 0 where
   pub text : IsText bytes
-  pub declarations : List DeclaredStruct
+  pub declarations : List DeclaredItem
   pub read : Reads bytes declarations
+  pub shallow : (span : Span) → ¬ NestsTooDeep bytes span
   pub clear : AreClear declarations
 
 -- ---- the report

@@ -1,45 +1,116 @@
--- What the public reader ensures, from what it read.
-use Rattle.std.proofs.Common.{◌≡◌, ◌≢◌, ℕ, ◌⊎◌, inl, inr, List, length, refl, subst, Option, Some, None}
+-- What the public readers ensure, from what was read.
+use Rattle.std.proofs.Common.{◌≡◌, ◌∙◌, ℕ, ◌≤◌, ◌⊎◌, inl, inr, List, length, codes, sym, subst, Result, Ok, Err}
+use Rattle.diag.specs.declared.span.Span.{Span}
+use Rattle.diag.specs.Refusal.{IsRefusal}
+use Rattle.diag.specs.declared.kind.Kind.TheVariants.{Syntax}
 use Rattle.diag.specs.declared.error.DeriveError.{DeriveError}
 use Rattle.diag.specs.declared.error.DeriveError.TheVariants as errors
-use Rattle.lexing.specs.Trees.{Trees}
-use Rattle.lexing.specs.Cut.{IsCut, IsSyntaxError}
-use Rattle.syntax.specs.declared.words.Stop.{Stop}
-use Rattle.syntax.specs.declared.words.Stop.TheVariants as stop
-use Rattle.syntax.specs.Declarations.{DeclaredStruct}
-use Rattle.syntax.specs.Words.{words_of}
-use Rattle.syntax.specs.Reading.{Fails, many_of, declaration_at, IsRefusalOf}
-use Rattle.syntax.specs.Grammar.{IsSource}
-use Rattle.syntax.specs.Source.{Reads, IsUnreadable}
-use Rattle.syntax.proofs.Read.{source_sound}
-use Rattle.syntax.proofs.Complete.{source_complete, one_source}
+use Rattle.tokens.specs.Trees.{Trees, depth}
+use Rattle.lexing.specs.Cut.{IsCut, IsDepthError, IsSyntaxError}
+use Rattle.written_types.specs.Written.{Written}
+use Rattle.words.specs.declared.stopping.Stop.{Stop}
+use Rattle.words.specs.declared.stopping.Stop.TheVariants as stop
+use Rattle.words.specs.Words.{Word, words_of}
+use Rattle.words.specs.Reading.{Fault, deep, wrong, Read, Fails}
+use Rattle.type_grammar.specs.Starts.{Stops}
+use Rattle.type_grammar.specs.Grammar.{IsType}
+use Rattle.type_grammar.specs.Opening.{OpensType}
+use Rattle.type_grammar.specs.Reading.{type_at}
+use Rattle.syntax.specs.Items.{DeclaredItem}
+use Rattle.syntax.specs.ItemDepth.{most_levels, OpensSource}
+use Rattle.syntax.specs.ItemGrammar.{IsSource}
+use Rattle.syntax.specs.ItemReading.{source_at, IsRefusalOf, IsPlaced}
+use Rattle.syntax.specs.Source.{Reads, NestsTooDeep, IsUnreadable, IsTooDeep}
+use Rattle.syntax.proofs.Types.{type_sound, type_complete, opens_deep, deep_enough}
+use Rattle.syntax.proofs.Openings.{cut_shallow}
+use Rattle.syntax.proofs.Sound.{source_sound}
+use Rattle.syntax.proofs.Deep.{source_deep}
+use Rattle.syntax.proofs.Complete as complete
 
 -- a source has at most one list of trees
 abbrev OneCut : Type 0
 OneCut = (source : List ℕ) (ts us : Trees) → IsCut source ts → IsCut source us → ts ≡ us
 
-pub found : (source : List ℕ) (ts : Trees) (ds : List DeclaredStruct) → IsCut source ts → many_of declaration_at (words_of ts) ≡ Some ds → Reads source ds
-found source ts ds cut e = let h = source_sound (words_of ts) ds e in (ts, cut, h.0, h.1)
+abbrev ty : List Word → Read Written
+ty = type_at most_levels
 
+type_found : (n : ℕ) (ws rest : List Word) (t : Written) → IsType ws t rest → Stops rest → complete.Finds (type_at n) (type_at n ws) (t, rest)
+type_found n ws rest t r stops = elim (type_complete r stops n) [
+  | inl e ↦ inl e
+  | inr d ↦ inr (d.0, d.1, (ws, d.1))
+]
+
+opens_found : (ws : List Word) (at : Span) → OpensType most_levels ws at → complete.IsDeep ty (ty ws)
+opens_found ws at o = let d = opens_deep o in (d.0, d.1, (ws, d.1))
+
+-- ---- one source
+-- a reader of types that finds nothing too deep
+unbounded : List Word → Read Written
+unbounded ws = type_at (deep_enough ws).0 ws
+
+unbounded_sound : (ws : List Word) (t : Written) (rest : List Word) → unbounded ws ≡ Ok (t, rest) → IsType ws t rest
+unfolding unbounded
+unbounded_sound ws t rest e = type_sound (deep_enough ws).0 ws t rest e
+
+unbounded_found : (ws rest : List Word) (t : Written) → IsType ws t rest → Stops rest → complete.Finds unbounded (unbounded ws) (t, rest)
+unfolding unbounded
+unbounded_found ws rest t r stops = elim (type_complete r stops (deep_enough ws).0) [
+  | inl e ↦ inl e
+  | inr d ↦ absurd ((deep_enough ws).1 d.0 d.1)
+]
+
+unbounded_shallow : (ws : List Word) (at : Span) → unbounded ws ≡ Err (deep at) → ⊥
+unfolding unbounded
+unbounded_shallow ws at e = (deep_enough ws).1 at e
+
+read_unbounded : {ws : List Word} {ds : List DeclaredItem} → IsSource ws ds → source_at unbounded ws ≡ Ok ds
+read_unbounded r = elim (complete.source_complete unbounded unbounded_sound unbounded_found r) [
+  | inl e ↦ e
+  | inr d ↦ absurd (unbounded_shallow d.2.0 d.0 d.2.1)
+]
+
+one_source : {ws : List Word} {ds es : List DeclaredItem} → IsSource ws ds → IsSource ws es → ds ≡ es
+one_source {ds = ds} {es = es} r s = let same : ◌≡◌ {A = Result (List DeclaredItem) Fault} (Ok ds) (Ok es) = sym (read_unbounded r) ∙ read_unbounded s in cc
+
+pub one : OneCut → (source : List ℕ) (ds es : List DeclaredItem) → Reads source ds → Reads source es → ds ≡ es
+one unique source ds es r s = one_source (subst (λ v. IsSource (words_of v) ds) (unique source r.0 s.0 r.1 s.1) r.2) s.2
+
+-- ---- what was read
+pub found : (source : List ℕ) (ts : Trees) (ds : List DeclaredItem) → IsCut source ts → source_at ty (words_of ts) ≡ Ok ds → Reads source ds
+found source ts ds cut e = (ts, cut, source_sound ty (type_sound most_levels) (words_of ts) ds e)
+
+no_opening : (ws : List Word) (ds : List DeclaredItem) (at : Span) → source_at ty ws ≡ Ok ds → OpensSource ws at → ⊥
+no_opening ws ds at e o = let d = complete.source_opens ty (type_sound most_levels) (type_found most_levels) opens_found o in let both : ◌≡◌ {A = Result (List DeclaredItem) Fault} (Ok ds) (Err (deep d.0)) = sym e ∙ d.1 in cc
+
+pub shallow : OneCut → (source : List ℕ) (ts : Trees) (ds : List DeclaredItem) (at : Span) → IsCut source ts → depth ts ≤ 64 → source_at ty (words_of ts) ≡ Ok ds → NestsTooDeep source at → ⊥
+shallow unique source ts ds at cut low e (inl o) = cut_shallow source ts at cut low o
+shallow unique source ts ds at cut low e (inr h) = no_opening (words_of ts) ds at e (subst (λ v. OpensSource (words_of v) at) (unique source h.0 ts h.1 cut) h.2)
+
+-- ---- what was not read
 -- where the source has no trees, it has no reading
-pub passed_on : (source : List ℕ) (e : DeriveError) → (e ≡ errors.Memory) ⊎ IsSyntaxError source e → (e ≡ errors.Memory) ⊎ IsUnreadable source e
+pub passed_on : (source : List ℕ) (e : DeriveError) → (e ≡ errors.Memory) ⊎ IsDepthError source e ⊎ IsSyntaxError source e → (e ≡ errors.Memory) ⊎ IsTooDeep source e ⊎ IsUnreadable source e
 passed_on source e (inl h) = inl h
-passed_on source e (inr h) = inr (h.0, h.1, h.2.0, λ ds r. h.2.1 r.0 r.1)
+passed_on source e (inr (inl h)) = inr (inl (h.0, h.1, inl h.2))
+passed_on source e (inr (inr h)) = inr (inr (h.0, h.1, h.2.0, λ ds r. h.2.1 r.0 r.1))
 
-no_reading : OneCut → (source : List ℕ) (ts : Trees) → IsCut source ts → many_of declaration_at (words_of ts) ≡ None → (ds : List DeclaredStruct) → Reads source ds → ⊥
-no_reading one source ts cut e ds r =
-    let same : r.0 ≡ ts = one source r.0 ts r.1 cut in
-    let read : many_of declaration_at (words_of ts) ≡ Some ds = source_complete (subst (λ v. IsSource (words_of v) ds) same r.2) r.3 in
-    cc
+no_reading : OneCut → (source : List ℕ) (ts : Trees) → IsCut source ts → source_at ty (words_of ts) ≡ Err wrong → (ds : List DeclaredItem) → Reads source ds → ⊥
+no_reading unique source ts cut e ds r =
+    let read = complete.source_complete ty (type_sound most_levels) (type_found most_levels) (subst (λ v. IsSource (words_of v) ds) (unique source r.0 ts r.1 cut) r.2) in
+    elim read [
+      | inl is ↦ let both : ◌≡◌ {A = Result (List DeclaredItem) Fault} (Ok ds) (Err wrong) = sym is ∙ e in cc
+      | inr d ↦ let both : ◌≡◌ {A = Result (List DeclaredItem) Fault} (Err (deep d.0)) (Err wrong) = sym d.1 ∙ e in cc
+    ]
 
-failed : {A : Type 0} (s : Stop) (r : Option A) → s ≢ stop.Memory → Fails s r → r ≡ None
-failed stop.Memory r h f = absurd (h refl)
-failed stop.Ended r h f = f
-failed (stop.Unexpected at) r h f = f
+pub unread : OneCut → (source : List ℕ) (ts : Trees) (s : Stop) (e : DeriveError) → IsCut source ts → Fails s (source_at ty (words_of ts)) → IsRefusalOf s (length source) e → (e ≡ errors.Memory) ⊎ IsTooDeep source e ⊎ IsUnreadable source e
+unread unique source ts stop.Memory e cut f h = inl h
+unread unique source ts stop.Ended e cut f (inl h) = inl h
+unread unique source ts stop.Ended e cut f (inr h) = inr (inr (h.0, h.1, h.2, no_reading unique source ts cut f))
+unread unique source ts (stop.Unexpected at) e cut f (inl h) = inl h
+unread unique source ts (stop.Unexpected at) e cut f (inr h) = inr (inr (h.0, h.1, h.2, no_reading unique source ts cut f))
+unread unique source ts (stop.Deep at) e cut f (inl h) = inl h
+unread unique source ts (stop.Deep at) e cut f (inr h) = inr (inl (at, h, inr (ts, cut, source_deep (words_of ts) at f)))
 
-pub unread : OneCut → (source : List ℕ) (ts : Trees) (s : Stop) (e : DeriveError) → IsCut source ts → Fails s (many_of declaration_at (words_of ts)) → IsRefusalOf s (length source) e → (e ≡ errors.Memory) ⊎ IsUnreadable source e
-unread one source ts s e cut f (inl h) = inl h
-unread one source ts s e cut f (inr h) = inr (h.1.0, h.1.1, h.1.2, no_reading one source ts cut (failed s (many_of declaration_at (words_of ts)) h.0 f))
-
-pub one : OneCut → (source : List ℕ) (ds es : List DeclaredStruct) → Reads source ds → Reads source es → ds ≡ es
-one unique source ds es r s = one_source (subst (λ v. IsSource (words_of v) ds) (unique source r.0 s.0 r.1 s.1) r.2) r.3 s.2 s.3
+-- an error at a span within the text
+pub placed : (bytes : ℕ) (e : DeriveError) (span : Span) → (e ≡ errors.Memory) ⊎ IsRefusal Syntax span (codes "unexpected text in a declaration") e → span.end ≤ bytes → (e ≡ errors.Memory) ⊎ IsPlaced bytes e
+placed bytes e span (inl h) within = inl h
+placed bytes e span (inr h) within = inr (span, h, within)

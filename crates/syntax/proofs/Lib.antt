@@ -1,6 +1,15 @@
-pub mod Lengths
-pub mod Turns
-pub mod Many
-pub mod Read
-pub mod Complete
-pub mod Answered
+mod Margins
+mod Turns
+mod Read
+mod Stands
+mod Inner
+mod Many
+mod Types
+mod Fronts
+mod Sound
+mod Shortening
+mod Deep
+mod Complete
+mod Answered
+mod Openings
+mod TypeText

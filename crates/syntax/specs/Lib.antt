@@ -1,5 +1,7 @@
-pub mod Declarations
-pub mod Words
-pub mod Reading
-pub mod Grammar
+pub mod Items
+pub mod ItemWords
+pub mod ItemGrammar
+pub mod ItemDepth
+pub mod ItemReading
 pub mod Source
+pub mod Comments

@@ -1,20 +1,47 @@
--- A source and its structs.
-use Rattle.std.specs.Prelude.{ℕ, ◌≤◌, List, length, codes}
-use Rattle.std.specs.List.{AllByRecursion}
+-- A source and its declarations, and the text of a type.
+use Rattle.std.specs.Prelude.{ℕ, ◌≤◌, ◌⊎◌, List, [], length, codes}
 use Rattle.diag.specs.Refusal.{IsRefusal}
 use Rattle.diag.specs.declared.error.DeriveError.{DeriveError}
-use Rattle.diag.specs.declared.kind.Kind.TheVariants.{Syntax}
+use Rattle.diag.specs.declared.kind.Kind.TheVariants.{Syntax, TooDeep}
 use Rattle.diag.specs.declared.span.Span.{Span}
-use Rattle.lexing.specs.Trees.{Trees}
-use Rattle.lexing.specs.Cut.{IsCut}
-use Rattle.syntax.specs.Declarations.{DeclaredStruct}
-use Rattle.syntax.specs.Words.{words_of}
-use Rattle.syntax.specs.Grammar.{IsSource, IsShallow}
+use Rattle.tokens.specs.Trees.{Trees}
+use Rattle.words.specs.Words.{words_of}
+use Rattle.lexing.specs.Cut.{IsCut, OpensTooDeep}
+use Rattle.syntax.specs.Items.{DeclaredItem}
+use Rattle.syntax.specs.ItemGrammar.{IsSource}
+use Rattle.syntax.specs.ItemDepth.{most_levels, OpensSource}
+use Rattle.written_types.specs.Written.{Written}
+use Rattle.type_grammar.specs.Grammar.{IsType}
+use Rattle.type_grammar.specs.Opening.{OpensType}
 
--- The source is cut into trees, these are a source of the grammar, and each type in it nests at most 64 levels.
-abbrev pub Reads : List ℕ → List DeclaredStruct → Type 0
-Reads source ds = (trees : Trees) × IsCut source trees × IsSource (words_of trees) ds × AllByRecursion IsShallow ds
+-- the source is cut into trees, and these are a source of the grammar
+abbrev pub Reads : List ℕ → List DeclaredItem → Type 0
+Reads source ds = (trees : Trees) × IsCut source trees × IsSource (words_of trees) ds
+
+-- brackets or types nest deeper than 64 levels at the span
+abbrev pub NestsTooDeep : List ℕ → Span → Type 0
+NestsTooDeep source span = OpensTooDeep source span ⊎ ((trees : Trees) × IsCut source trees × OpensSource (words_of trees) span)
 
 -- the error refuses a source that has no reading, at a span of it
 abbrev pub IsUnreadable : List ℕ → DeriveError → Type 0
-IsUnreadable source e = (span : Span) × IsRefusal Syntax span (codes "unexpected text in a declaration") e × (span.end ≤ length source) × ((ds : List DeclaredStruct) → ¬ (Reads source ds))
+IsUnreadable source e = (span : Span) × IsRefusal Syntax span (codes "unexpected text in a declaration") e × (span.end ≤ length source) × ((ds : List DeclaredItem) → ¬ (Reads source ds))
+
+-- the error refuses a source that nests too deep, where it does
+abbrev pub IsTooDeep : List ℕ → DeriveError → Type 0
+IsTooDeep source e = (span : Span) × IsRefusal TooDeep span (codes "nesting is deeper than 64") e × NestsTooDeep source span
+
+-- the text is cut into trees, and these are one type
+abbrev pub ReadsType : List ℕ → Written → Type 0
+ReadsType text t = (trees : Trees) × IsCut text trees × IsType (words_of trees) t []
+
+-- brackets or parts of the type nest deeper than 64 levels at the span
+abbrev pub TypeNestsTooDeep : List ℕ → Span → Type 0
+TypeNestsTooDeep text span = OpensTooDeep text span ⊎ ((trees : Trees) × IsCut text trees × OpensType most_levels (words_of trees) span)
+
+-- the error refuses a text that is no type, at a span of it
+abbrev pub IsNoType : List ℕ → DeriveError → Type 0
+IsNoType text e = (span : Span) × IsRefusal Syntax span (codes "unexpected text in a declaration") e × (span.end ≤ length text) × ((t : Written) → ¬ (ReadsType text t))
+
+-- the error refuses a text of a type that nests too deep, where it does
+abbrev pub IsDeepType : List ℕ → DeriveError → Type 0
+IsDeepType text e = (span : Span) × IsRefusal TooDeep span (codes "nesting is deeper than 64") e × TypeNestsTooDeep text span

@@ -1,96 +1,231 @@
-//! Fields and structs.
+//! Fields and items.
 
-ghost use Rattle.std.specs.Prelude.{◌≡◌, ◌<◌, length, map, IfOk};
-ghost use Rattle.lexing.specs.Trees.{trees_view};
-ghost use Rattle.syntax.specs.Declarations.{field_view, declaration_view};
-ghost use Rattle.syntax.specs.Words.{words_of, words_view};
-ghost use Rattle.syntax.specs.Reading.{Gives, field_at, field_turn, declaration_at, many_of};
+ghost use Rattle.std.specs.Prelude.{◌≡◌, ◌<◌, ◌≤◌, length, map, IfOk};
+ghost use Rattle.std.specs.Option.{option_map};
+ghost use Rattle.tokens.specs.Trees.{trees_view};
+ghost use Rattle.words.specs.Words.{words_of, words_view};
+ghost use Rattle.words.specs.Reading.{Gives};
+ghost use Rattle.type_grammar.specs.Reading.{type_at};
+ghost use Rattle.syntax.specs.Items.{field_view, fields_view, declaration_view};
+ghost use Rattle.syntax.specs.ItemDepth.{most_levels};
+ghost use Rattle.syntax.specs.ItemReading.{named_field_at, unnamed_field_at, after_comma, turn_at, list_of, fields_at, struct_at, item_at, items_at};
 
-use crate::types::{ident_of, type_at};
-use crate::words::{
-    Sign, Stop, after_comma, braces_at, covering, name_at, sign_at, struct_at, visibility,
-};
-use crate::written::{Declaration, Field};
+use crate::docs::docs_at;
+use crate::item::{Attribute, Body, Declaration, Field, Fields};
+use crate::scope::{after_semicolon, after_visibility, spanning};
 use diag::List;
-use lexing::TokenTree;
 use std::alloc::Global;
+use tokens::{Bracket, Group, TokenTree};
+use type_grammar::{MAX_LEVELS, type_at};
+use words::{
+    Keyword, Sign, Stop, ident_of, keyword_at, name_at, optional_keyword, optional_sign, sign_at,
+    stop_at,
+};
 
-/// How many levels a type may nest.
-const MOST_LEVELS: usize = 64;
-
-#[tactic(auto, unfolding(crate::specs::Reading::field_at))]
-fn field_at(alloc: Global, trees: &[TokenTree]) -> Result<(Field, &[TokenTree]), Stop>
-    ensures value { Gives (λ p. (field_view p.0, words_view p.1.now)) result (field_at (words_view trees.now)) }
+#[tactic(auto, unfolding(crate::specs::ItemReading::named_field_at))]
+fn named_field_at(alloc: Global, trees: &[TokenTree]) -> Result<(Field, &[TokenTree]), Stop>
+    ensures value { Gives (λ p. (field_view p.0, words_view p.1.now)) result (named_field_at (type_at most_levels) (words_view trees.now)) }
     ensures shorter { IfOk result (λ p. length p.1.now < length trees.now) }
 {
-    let (public, rest) = visibility(trees);
-    let (name, rest) = name_at(rest)?;
+    let (attrs, start) = docs_at(alloc, trees)?;
+    let (name, rest) = name_at(after_visibility(start, false))?;
     let (_, rest) = sign_at(rest, Sign::Colon)?;
-    let (ty, rest) = type_at(alloc, rest, MOST_LEVELS)?;
-    let span = covering(public.unwrap_or(name.span), ty.span());
-    let ident = ident_of(alloc, name)?;
-    Ok((Field { ident, ty, span }, rest))
-}
-
-/// A field, and the comma behind it.
-#[tactic(auto, unfolding(crate::specs::Reading::field_turn))]
-fn field_turn(alloc: Global, trees: &[TokenTree]) -> Result<(Field, &[TokenTree]), Stop>
-    ensures value { Gives (λ p. (field_view p.0, words_view p.1.now)) result (field_turn (words_view trees.now)) }
-    ensures shorter { IfOk result (λ p. length p.1.now < length trees.now) }
-{
-    let (field, rest) = field_at(alloc, trees)?;
-    let rest = after_comma(rest)?;
-    Ok((field, rest))
-}
-
-/// All of the trees, as a list of fields.
-fn fields_of(alloc: Global, trees: &[TokenTree]) -> Result<List<Field>, Stop>
-    ensures { Gives (λ fields. map field_view fields) result (many_of field_turn (words_view trees.now)) }
-{
-    let mut fields = List::new(alloc);
-    let mut rest = trees;
-    'fields: while !rest.is_empty() {
-        let (field, after) = field_turn(alloc, rest)?;
-        fields.push(field)?;
-        rest = after;
-    }
-    Ok(fields)
-}
-
-#[tactic(auto, unfolding(crate::specs::Reading::declaration_at))]
-fn declaration_at(alloc: Global, trees: &[TokenTree]) -> Result<(Declaration, &[TokenTree]), Stop>
-    ensures value { Gives (λ p. (declaration_view p.0, words_view p.1.now)) result (declaration_at (words_view trees.now)) }
-    ensures shorter { IfOk result (λ p. length p.1.now < length trees.now) }
-{
-    let (public, rest) = visibility(trees);
-    let (word, rest) = struct_at(rest)?;
-    let (name, rest) = name_at(rest)?;
-    let (group, rest) = braces_at(rest)?;
-    let fields = match fields_of(alloc, group.trees.as_slice()) {
-        Ok(fields) => fields,
-        Err(stop) => return Err(stop.inside(group)),
-    };
-    let span = covering(public.unwrap_or(word), group.span);
-    let ident = ident_of(alloc, name)?;
+    let (ty, rest) = type_at(alloc, rest, MAX_LEVELS)?;
+    let span = spanning(start, rest);
+    let ident = Some(ident_of(alloc, name)?);
     Ok((
-        Declaration {
+        Field {
+            attrs,
             ident,
-            fields,
+            ty,
             span,
         },
         rest,
     ))
 }
 
-/// All of the trees, as structs.
-pub(crate) fn declarations_of(alloc: Global, trees: &[TokenTree]) -> Result<List<Declaration>, Stop>
-    ensures { Gives (λ items. map declaration_view items) result (many_of declaration_at (words_view trees.now)) }
+#[tactic(auto, unfolding(crate::specs::ItemReading::unnamed_field_at))]
+fn unnamed_field_at(alloc: Global, trees: &[TokenTree]) -> Result<(Field, &[TokenTree]), Stop>
+    ensures value { Gives (λ p. (field_view p.0, words_view p.1.now)) result (unnamed_field_at (type_at most_levels) (words_view trees.now)) }
+    ensures shorter { IfOk result (λ p. length p.1.now < length trees.now) }
+{
+    let (attrs, start) = docs_at(alloc, trees)?;
+    let (ty, rest) = type_at(alloc, after_visibility(start, true), MAX_LEVELS)?;
+    let span = spanning(start, rest);
+    Ok((
+        Field {
+            attrs,
+            ident: None,
+            ty,
+            span,
+        },
+        rest,
+    ))
+}
+
+/// What follows a comma, or nothing where nothing is left.
+#[tactic(auto, using(crate::proofs::Turns::comma_follows))]
+fn after_comma(trees: &[TokenTree]) -> Result<&[TokenTree], Stop>
+    ensures value { Gives (λ rest. words_view rest.now) result (after_comma (words_view trees.now)) }
+    ensures shorter { IfOk result (λ rest. length rest.now ≤ length trees.now) }
+{
+    match trees {
+        [] => Ok(trees),
+        [_, ..] => match optional_sign(trees, Sign::Comma) {
+            Some((_, rest)) => Ok(rest),
+            None => Err(stop_at(trees)),
+        },
+    }
+}
+
+#[tactic(auto, unfolding(crate::specs::ItemReading::turn_at))]
+fn named_turn(alloc: Global, trees: &[TokenTree]) -> Result<(Field, &[TokenTree]), Stop>
+    ensures value { Gives (λ p. (field_view p.0, words_view p.1.now)) result (turn_at (named_field_at (type_at most_levels)) (words_view trees.now)) }
+    ensures shorter { IfOk result (λ p. length p.1.now < length trees.now) }
+{
+    let (field, rest) = named_field_at(alloc, trees)?;
+    let rest = after_comma(rest)?;
+    Ok((field, rest))
+}
+
+#[tactic(auto, unfolding(crate::specs::ItemReading::turn_at))]
+fn unnamed_turn(alloc: Global, trees: &[TokenTree]) -> Result<(Field, &[TokenTree]), Stop>
+    ensures value { Gives (λ p. (field_view p.0, words_view p.1.now)) result (turn_at (unnamed_field_at (type_at most_levels)) (words_view trees.now)) }
+    ensures shorter { IfOk result (λ p. length p.1.now < length trees.now) }
+{
+    let (field, rest) = unnamed_field_at(alloc, trees)?;
+    let rest = after_comma(rest)?;
+    Ok((field, rest))
+}
+
+fn named_fields(alloc: Global, trees: &[TokenTree]) -> Result<List<Field>, Stop>
+    ensures { Gives (λ fields. map field_view fields) result (list_of (named_field_at (type_at most_levels)) (words_view trees.now)) }
+{
+    let mut fields = List::new(alloc);
+    let mut rest = trees;
+    'fields: while !rest.is_empty() {
+        let (field, after) = named_turn(alloc, rest)?;
+        fields.push(field)?;
+        rest = after;
+    }
+    Ok(fields)
+}
+
+fn unnamed_fields(alloc: Global, trees: &[TokenTree]) -> Result<List<Field>, Stop>
+    ensures { Gives (λ fields. map field_view fields) result (list_of (unnamed_field_at (type_at most_levels)) (words_view trees.now)) }
+{
+    let mut fields = List::new(alloc);
+    let mut rest = trees;
+    'fields: while !rest.is_empty() {
+        let (field, after) = unnamed_turn(alloc, rest)?;
+        fields.push(field)?;
+        rest = after;
+    }
+    Ok(fields)
+}
+
+/// The fields inside of the group. Where its trees ended too soon, reading stopped at its closing bracket.
+fn named_inside(alloc: Global, group: &Group) -> Result<List<Field>, Stop>
+    ensures { Gives (λ fields. map field_view fields) result (list_of (named_field_at (type_at most_levels)) (words_of (trees_view group.now.trees))) }
+{
+    match named_fields(alloc, group.trees.as_slice()) {
+        Ok(fields) => Ok(fields),
+        Err(stop) => Err(stop.inside(group)),
+    }
+}
+
+/// The fields inside of the group. Where its trees ended too soon, reading stopped at its closing bracket.
+fn unnamed_inside(alloc: Global, group: &Group) -> Result<List<Field>, Stop>
+    ensures { Gives (λ fields. map field_view fields) result (list_of (unnamed_field_at (type_at most_levels)) (words_of (trees_view group.now.trees))) }
+{
+    match unnamed_fields(alloc, group.trees.as_slice()) {
+        Ok(fields) => Ok(fields),
+        Err(stop) => Err(stop.inside(group)),
+    }
+}
+
+/// What follows the name of a struct.
+#[tactic(auto, unfolding(crate::specs::ItemReading::fields_at))]
+fn fields_at(alloc: Global, trees: &[TokenTree]) -> Result<(Fields, &[TokenTree]), Stop>
+    ensures value { Gives (λ p. (fields_view p.0, words_view p.1.now)) result (fields_at (type_at most_levels) (words_view trees.now)) }
+    ensures shorter { IfOk result (λ p. length p.1.now < length trees.now) }
+{
+    match trees {
+        [TokenTree::Group(group), rest @ ..] => match group.bracket {
+            Bracket::Curly => Ok((Fields::Named(named_inside(alloc, group)?), rest)),
+            Bracket::Round => {
+                let fields = unnamed_inside(alloc, group)?;
+                let (_, rest) = sign_at(rest, Sign::Semicolon)?;
+                Ok((Fields::Unnamed(fields), rest))
+            }
+            Bracket::Square => Err(stop_at(trees)),
+        },
+        _ => {
+            let (_, rest) = sign_at(trees, Sign::Semicolon)?;
+            Ok((Fields::Unit, rest))
+        }
+    }
+}
+
+/// A struct whose docs and visibility, from the start on, were read.
+#[tactic(auto, unfolding(crate::specs::ItemReading::struct_at))]
+fn struct_at<'t>(
+    alloc: Global,
+    attrs: List<Attribute>,
+    start: &'t [TokenTree],
+    trees: &'t [TokenTree],
+) -> Result<(Declaration, &'t [TokenTree]), Stop>
+    requires { length trees.now ≤ length start.now }
+    ensures value { Gives (λ p. (declaration_view p.0, words_view p.1.now)) result (struct_at (type_at most_levels) attrs (words_view start.now) (words_view trees.now)) }
+    ensures shorter { IfOk result (λ p. length p.1.now < length start.now) }
+{
+    let (_, rest) = keyword_at(trees, Keyword::Struct)?;
+    let (name, rest) = name_at(rest)?;
+    let (fields, rest) = fields_at(alloc, rest)?;
+    let ident = ident_of(alloc, name)?;
+    let span = spanning(start, rest);
+    Ok((
+        Declaration {
+            attrs,
+            ident,
+            body: Body::Struct(fields),
+            span,
+        },
+        rest,
+    ))
+}
+
+/// A `use` line, of which nothing is kept, or a struct.
+#[tactic(auto, unfolding(crate::specs::ItemReading::item_at))]
+fn item_at(alloc: Global, trees: &[TokenTree]) -> Result<(Option<Declaration>, &[TokenTree]), Stop>
+    ensures value { Gives (λ p. (option_map declaration_view p.0, words_view p.1.now)) result (item_at (type_at most_levels) (words_view trees.now)) }
+    ensures shorter { IfOk result (λ p. length p.1.now < length trees.now) }
+{
+    let (attrs, start) = docs_at(alloc, trees)?;
+    let rest = after_visibility(start, false);
+    match optional_keyword(rest, Keyword::Use) {
+        Some((_, line)) => match after_semicolon(line) {
+            Some(rest) => Ok((None, rest)),
+            None => Err(Stop::Ended),
+        },
+        None => {
+            let (declaration, rest) = struct_at(alloc, attrs, start, rest)?;
+            Ok((Some(declaration), rest))
+        }
+    }
+}
+
+/// All of the trees, as items.
+pub(crate) fn items_of(alloc: Global, trees: &[TokenTree]) -> Result<List<Declaration>, Stop>
+    ensures { Gives (λ items. map declaration_view items) result (items_at (type_at most_levels) (words_view trees.now)) }
 {
     let mut items = List::new(alloc);
     let mut rest = trees;
     'items: while !rest.is_empty() {
-        let (declaration, after) = declaration_at(alloc, rest)?;
-        items.push(declaration)?;
+        let (item, after) = item_at(alloc, rest)?;
+        if let Some(declaration) = item {
+            items.push(declaration)?;
+        }
         rest = after;
     }
     Ok(items)

@@ -1,26 +1,34 @@
-//! Syntax: from a source's text to the structs that it declares.
+//! Syntax: from a source's text to the structs that it declares, and from a text to a written type.
 //!
 //! ```text
-//! source = ("pub"? "struct" name "{" list of field "}")*
-//! field  = "pub"? name ":" type
-//! type   = name | ("Option" | "Vec") "<" type ">"
+//! source  = (inner-doc | "#" "!" square-group)* item*
+//! item    = outer-doc* vis? (use | struct)
+//! use     = "use" any* ";"
+//! struct  = "struct" name ("{" named "}" | "(" unnamed ")" ";" | ";")
+//! named   = list of outer-doc* vis? name ":" type
+//! unnamed = list of outer-doc* vis? type
+//! vis     = "pub" ( "(" ("crate" | "self" | "super") ")" | "(" "in" any* ")" )?
 //! ```
 //!
 //! A list has commas between its items, perhaps one at the end, and may be empty. A name is an identifier that is no
-//! keyword. A type nests at most 64 levels, where a name has one.
+//! keyword and not `_`; any is a token other than `;`, or a group. Where `pub` and a group in round brackets are all
+//! of an unnamed field, the group is its type. Brackets nest at most 64 deep, and a type at most 64 levels.
 #![tactic(auto)]
 
+mod comments;
+mod docs;
+mod item;
 mod items;
 mod laws;
 mod parse;
-mod reserved;
+mod scope;
 #[cfg(test)]
 mod tests;
-mod types;
-mod words;
-mod written;
 
-pub use laws::one_reading;
-pub use lexing::{Bracket, Group, MAX_DEPTH, Token, TokenKind, TokenTree, lex, one_cut};
-pub use parse::parse_declarations;
-pub use written::{Declaration, Declarations, Field, Ident, WrittenType};
+pub use comments::CommentAttributes;
+pub use item::{Attribute, Body, Declaration, Declarations, Field, Fields, Meta};
+pub use laws::{one_reading, one_type_reading};
+pub use lexing::{lex, one_cut};
+pub use parse::{parse_declarations, parse_type};
+pub use tokens::{Bracket, Cursor, Group, Token, TokenKind, TokenTree};
+pub use written_types::{GenericArgument, Ident, Path, PathSegment, WrittenType};

@@ -1,16 +1,28 @@
-//! From a source to its structs.
+//! From a source to its declarations, and from a text to a type.
 
-ghost use Rattle.std.specs.Prelude.{◌≡◌, ◌≢◌, ◌≤◌, ◌⊎◌, IfOk, IfErr, MatchOption};
-ghost use Rattle.syntax.specs.Declarations.{declarations_view};
-ghost use Rattle.syntax.specs.Reading.{IsRefusalOf};
-ghost use Rattle.syntax.specs.Source.{Reads, IsUnreadable};
+ghost use Rattle.std.specs.Prelude.{◌≡◌, ◌≤◌, ◌⊎◌, codes, map, IfOk, IfErr};
+ghost use Rattle.diag.specs.Refusal.{IsRefusal};
+ghost use Rattle.diag.specs.declared.kind.Kind.TheVariants.{Syntax, TooDeep};
+ghost use Rattle.diag.specs.declared.span.Span.{Span};
+ghost use Rattle.written_types.specs.Written.{written_view};
+ghost use Rattle.words.specs.Words.{words_view};
+ghost use Rattle.words.specs.Reading.{Gives};
+ghost use Rattle.type_grammar.specs.Reading.{type_at};
+ghost use Rattle.syntax.specs.Items.{declaration_view, declarations_view};
+ghost use Rattle.syntax.specs.ItemDepth.{most_levels};
+ghost use Rattle.syntax.specs.ItemReading.{source_at, IsRefusalOf};
+ghost use Rattle.syntax.specs.Source.{Reads, NestsTooDeep, IsUnreadable, IsTooDeep, ReadsType, TypeNestsTooDeep, IsNoType, IsDeepType};
 
-use crate::items::declarations_of;
-use crate::words::Stop;
-use crate::written::Declarations;
-use diag::{DeriveError, Diagnostics, Kind, Span};
+use crate::docs::after_inner;
+use crate::item::{Declaration, Declarations};
+use crate::items::items_of;
+use diag::{DeriveError, Diagnostics, Kind, List, Span};
 use lexing::{lex, one_cut};
 use std::alloc::Global;
+use tokens::TokenTree;
+use type_grammar::read_type;
+use words::Stop;
+use written_types::WrittenType;
 
 /// The span, as far as it lies in a text of that many bytes.
 fn within(span: Span, bytes: usize) -> Span
@@ -22,27 +34,9 @@ fn within(span: Span, bytes: usize) -> Span
     }
 }
 
-/// Where reading stopped, in a text of that many bytes; nothing for want of memory.
-fn place(stop: Stop, bytes: usize) -> Option<Span>
-    ensures { MatchOption result (stop ≡ Stop.Memory) (λ span. (stop ≢ Stop.Memory) × (span.end ≤ bytes)) }
+fn unexpected(alloc: Global, span: Span) -> DeriveError
+    ensures { (result ≡ DeriveError.Memory) ⊎ IsRefusal Syntax span (codes "unexpected text in a declaration") result }
 {
-    match stop {
-        Stop::Memory => None,
-        Stop::Unexpected(span) => Some(within(span, bytes)),
-        Stop::Ended => Some(Span {
-            start: bytes,
-            end: bytes,
-        }),
-    }
-}
-
-/// The error for reading that stopped in a text of that many bytes.
-fn refusal(alloc: Global, stop: Stop, bytes: usize) -> DeriveError
-    ensures { IsRefusalOf stop bytes result }
-{
-    let Some(span) = place(stop, bytes) else {
-        return DeriveError::Memory;
-    };
     match Diagnostics::with_span(
         alloc,
         Kind::Syntax,
@@ -54,19 +48,71 @@ fn refusal(alloc: Global, stop: Stop, bytes: usize) -> DeriveError
     }
 }
 
-/// The structs of the source, by the grammar of this crate.
+fn too_deep(alloc: Global, span: Span) -> DeriveError
+    ensures { (result ≡ DeriveError.Memory) ⊎ IsRefusal TooDeep span (codes "nesting is deeper than 64") result }
+{
+    match Diagnostics::with_span(alloc, Kind::TooDeep, span, "nesting is deeper than 64") {
+        Ok(diagnostics) => DeriveError::Refused(diagnostics),
+        Err(_) => DeriveError::Memory,
+    }
+}
+
+/// The error for reading that stopped in a text of that many bytes.
+fn refusal(alloc: Global, stop: Stop, bytes: usize) -> DeriveError
+    ensures { IsRefusalOf stop bytes result }
+{
+    match stop {
+        Stop::Memory => DeriveError::Memory,
+        Stop::Deep(span) => too_deep(alloc, span),
+        Stop::Unexpected(span) => unexpected(alloc, within(span, bytes)),
+        Stop::Ended => unexpected(
+            alloc,
+            Span {
+                start: bytes,
+                end: bytes,
+            },
+        ),
+    }
+}
+
+/// All of the trees, as a source.
+#[tactic(auto, unfolding(crate::specs::ItemReading::source_at))]
+fn source_of(alloc: Global, trees: &[TokenTree]) -> Result<List<Declaration>, Stop>
+    ensures { Gives (λ items. map declaration_view items) result (source_at (type_at most_levels) (words_view trees.now)) }
+{
+    items_of(alloc, after_inner(trees))
+}
+
+/// The declarations of the source, by the grammar of items.
 ///
-/// A refusal is of kind `Syntax`, at the token or opening bracket that reading could not go on with, at the closing
-/// bracket of a group that ended too soon, or at the end of the source.
+/// A refusal of kind `Syntax` has the span of the token or opening bracket that reading could not go on with, of the
+/// closing bracket of a group that ended too soon, or of the end of the source. One of kind `TooDeep` has the span of
+/// the first bracket or part of a type past 64 levels.
 pub fn parse_declarations(alloc: Global, source: &str) -> Result<Declarations, DeriveError>
-    ensures found { IfOk result (λ declarations. Reads source.now (declarations_view declarations)) }
-    ensures refused { IfErr result (λ e. (e ≡ DeriveError.Memory) ⊎ IsUnreadable source.now e) }
+    ensures found { IfOk result (λ ds. Reads source.now (declarations_view ds)) }
+    ensures shallow { IfOk result (λ _. (span : Span) → ¬ (NestsTooDeep source.now span)) }
+    ensures refused { IfErr result (λ e. (e ≡ DeriveError.Memory) ⊎ IsTooDeep source.now e ⊎ IsUnreadable source.now e) }
 {
     let trees = lex(alloc, source)?;
     // The source has no other trees, so what cannot be read of these cannot be read at all.
     one_cut();
-    match declarations_of(alloc, trees.as_slice()) {
+    match source_of(alloc, trees.as_slice()) {
         Ok(items) => Ok(Declarations { items }),
         Err(stop) => Err(refusal(alloc, stop, source.len())),
+    }
+}
+
+/// The type that the whole text is, by the grammar of types. It refuses as `parse_declarations` does.
+pub fn parse_type(alloc: Global, text: &str) -> Result<WrittenType, DeriveError>
+    ensures found { IfOk result (λ t. ReadsType text.now (written_view t)) }
+    ensures shallow { IfOk result (λ _. (span : Span) → ¬ (TypeNestsTooDeep text.now span)) }
+    ensures refused { IfErr result (λ e. (e ≡ DeriveError.Memory) ⊎ IsDeepType text.now e ⊎ IsNoType text.now e) }
+{
+    let trees = lex(alloc, text)?;
+    // The text has no other trees.
+    one_cut();
+    match read_type(alloc, trees.as_slice()) {
+        Ok(ty) => Ok(ty),
+        Err(stop) => Err(refusal(alloc, stop, text.len())),
     }
 }

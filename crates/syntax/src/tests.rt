@@ -1,109 +1,153 @@
-use crate::{Declaration, Field, WrittenType, one_reading, parse_declarations};
-use diag::Span;
+use crate::{
+    Attribute, Body, CommentAttributes, Declaration, Field, Fields, Meta, one_reading,
+    one_type_reading, parse_declarations, parse_type,
+};
+use diag::{DeriveError, Kind, List, Span};
 use std::alloc::Global;
 use std::test::Fail;
 
 const KEYWORDS: &str =
-    "as break const continue crate else enum extern false fn for if impl in let loop match mod move mut pub ref return self Self static struct super trait true type unsafe use where while async await dyn abstract become box do final macro override priv typeof unsized virtual yield try _";
+    "as break const continue crate else enum extern false fn for if impl in let loop match mod move mut pub ref return self Self static struct super trait true type unsafe use where while async await dyn abstract become box do final macro override priv typeof unsized virtual yield try";
 
-fn type_text(alloc: Global, ty: &WrittenType) -> Result<String, Fail> {
-    let span = ty.span();
-    let name = ty.name().text.as_str();
-    match ty {
-        WrittenType::Named(_) => Ok(format!(in alloc; "{name}@{}..{}", span.start, span.end)?),
-        WrittenType::Applied(_, argument, _) => {
-            let inside = type_text(alloc, argument)?;
-            Ok(format!(in alloc; "{name}<{inside}>@{}..{}", span.start, span.end)?)
+fn push_docs(text: &mut String, attributes: &List<Attribute>) -> Result<(), Fail> {
+    for attribute in attributes.as_slice() {
+        match &attribute.meta {
+            Meta::Doc(doc) => {
+                text.push('[')?;
+                text.push_str(doc.as_str())?;
+                text.push(']')?;
+            }
         }
     }
+    Ok(())
 }
 
-fn field_text(alloc: Global, field: &Field) -> Result<String, Fail> {
-    let name = field.ident.text.as_str();
-    let at = field.ident.span;
-    let ty = type_text(alloc, &field.ty)?;
-    let (start, end) = (field.span.start, field.span.end);
-    Ok(format!(in alloc; " {start}..{end} {name}@{}..{}: {ty}", at.start, at.end)?)
+fn push_fields(alloc: Global, text: &mut String, fields: &List<Field>) -> Result<(), Fail> {
+    for field in fields.as_slice() {
+        push_docs(text, &field.attrs)?;
+        let name = match &field.ident {
+            Some(ident) => ident.text.as_str(),
+            None => "_",
+        };
+        let (start, end) = (field.span.start, field.span.end);
+        text.push_str(format!(in alloc; " {start}..{end} {name}")?.as_str())?;
+    }
+    Ok(())
 }
 
-fn declaration_text(alloc: Global, declaration: &Declaration) -> Result<String, Fail> {
+fn push_declaration(
+    alloc: Global,
+    text: &mut String,
+    declaration: &Declaration,
+) -> Result<(), Fail> {
+    push_docs(text, &declaration.attrs)?;
     let name = declaration.ident.text.as_str();
-    let span = declaration.span;
-    let mut text = format!(in alloc; "{}..{} {name}", span.start, span.end)?;
-    for field in declaration.fields.as_slice() {
-        text.push_str(field_text(alloc, field)?.as_str())?;
-    }
-    Ok(text)
-}
-
-/// Each struct of the source on a line, with all of its spans.
-fn source_text(alloc: Global, source: &str) -> Result<String, Fail> {
-    let declarations = parse_declarations(alloc, source)?;
-    let mut text = String::new(alloc);
-    for declaration in declarations.items.as_slice() {
-        text.push_str(declaration_text(alloc, declaration)?.as_str())?;
-        text.push('\n')?;
-    }
-    Ok(text)
-}
-
-/// Whether the source is refused at the span.
-fn is_refused_at(alloc: Global, source: &str, span: Span) -> Result<bool, Fail> {
-    match parse_declarations(alloc, source) {
-        Ok(_) => Ok(false),
-        Err(error) => {
-            let entry = format!(in alloc; "{error:?}")?;
-            let place = format!(in alloc; "span: {span:?}, kind: Syntax")?;
-            Ok(entry.as_str().find(place.as_str()).is_some())
+    let (start, end) = (declaration.span.start, declaration.span.end);
+    text.push_str(format!(in alloc; "{start}..{end} {name}")?.as_str())?;
+    match &declaration.body {
+        Body::Struct(Fields::Named(fields)) => {
+            text.push('{')?;
+            push_fields(alloc, text, fields)?;
+            text.push('}')?;
         }
+        Body::Struct(Fields::Unnamed(fields)) => {
+            text.push('(')?;
+            push_fields(alloc, text, fields)?;
+            text.push(')')?;
+        }
+        Body::Struct(Fields::Unit) => text.push(';')?,
+    }
+    Ok(())
+}
+
+/// The declarations of the source, with docs, names and spans.
+fn source_text(alloc: Global, source: &str) -> Result<String, Fail> {
+    let mut text = String::new(alloc);
+    for declaration in parse_declarations(alloc, source)?.items.as_slice() {
+        push_declaration(alloc, &mut text, declaration)?;
+    }
+    Ok(text)
+}
+
+fn is_refusal(error: &DeriveError, kind: Kind, span: Span) -> bool {
+    match error {
+        DeriveError::Refused(diagnostics) => {
+            diagnostics.kind() == kind && diagnostics.span() == span
+        }
+        DeriveError::Memory => false,
     }
 }
 
-/// A struct with a field whose type nests that many levels.
-fn nested(alloc: Global, levels: usize) -> Result<String, Fail> {
-    let mut source = String::from_str(alloc, "struct S { a: ")?;
-    for _ in 1..levels {
-        source.push_str("Vec<")?;
+fn is_refused(alloc: Global, source: &str, kind: Kind, span: Span) -> bool {
+    match parse_declarations(alloc, source) {
+        Ok(_) => false,
+        Err(error) => is_refusal(&error, kind, span),
     }
-    source.push_str("u8")?;
-    for _ in 1..levels {
-        source.push('>')?;
+}
+
+fn is_no_type(alloc: Global, text: &str, kind: Kind, span: Span) -> bool {
+    match parse_type(alloc, text) {
+        Ok(_) => false,
+        Err(error) => is_refusal(&error, kind, span),
     }
-    source.push_str(" }")?;
-    Ok(source)
+}
+
+/// The text between as many opening and closing texts.
+fn nested(
+    alloc: Global,
+    open: &str,
+    times: usize,
+    inside: &str,
+    close: &str,
+) -> Result<String, Fail> {
+    let mut text = String::new(alloc);
+    for _ in 0..times {
+        text.push_str(open)?;
+    }
+    text.push_str(inside)?;
+    for _ in 0..times {
+        text.push_str(close)?;
+    }
+    Ok(text)
 }
 
 #[test]
-fn reads_structs(rt: HostRuntime) -> Result<(), Fail> {
+fn reads_declarations(rt: HostRuntime) -> Result<(), Fail> {
     let alloc = rt.alloc();
     let cases = [
         ("", ""),
-        ("// nothing\n", ""),
-        ("struct A {}", "0..11 A\n"),
+        ("struct A;", "0..9 A;"),
+        ("struct A();", "0..11 A()"),
+        ("struct A(u8,);", "0..14 A( 9..11 _)"),
+        ("struct A(u8, u8);", "0..17 A( 9..11 _ 13..15 _)"),
+        ("struct A { x: u8 }", "0..18 A{ 11..16 x}"),
+        ("struct A { x: u8, }", "0..19 A{ 11..16 x}"),
+        ("struct A {}", "0..11 A{}"),
         (
-            "struct Pet { id: u64, name: Option<String> }",
-            "0..44 Pet 13..20 id@13..15: u64@17..20 22..42 name@22..26: Option<String@35..41>@28..42\n",
+            "pub(in a::b) struct A { pub(crate) x: u8 }",
+            "0..42 A{ 24..40 x}",
         ),
         (
-            "pub struct A { pub b: Vec<Option<u8>>, }",
-            "0..40 A 15..37 b@19..20: Vec<Option<u8@33..35>@26..36>@22..37\n",
+            "pub(self) struct A(pub(super) &'a mut [u8], pub (u8));",
+            "0..54 A( 19..42 _ 44..52 _)",
+        ),
+        ("struct S(pub (crate));", "0..22 S( 9..20 _)"),
+        ("struct S(pub (crate),);", "0..23 S( 9..20 _)"),
+        ("use a::{b, c as d};", ""),
+        ("pub use a; struct A;", "11..20 A;"),
+        ("#![allow(x)] //! d\nstruct A;", "19..28 A;"),
+        ("/*! d */#![a]#![b(c)]", ""),
+        (
+            "/* a /* b */ */ struct r#type { r#fn: u8 }",
+            "16..42 type{ 32..40 fn}",
         ),
         (
-            "struct A {} // first\npub struct B { c: A }",
-            "0..11 A\n21..42 B 36..40 c@36..37: A@39..40\n",
-        ),
-        (
-            "struct A{b:Option,c:Vec}",
-            "0..24 A 9..17 b@9..10: Option@11..17 18..23 c@18..19: Vec@20..23\n",
-        ),
-        (
-            "struct A { b: Vec // an array\n < u8 > }",
-            "0..39 A 11..37 b@11..12: Vec<u8@33..35>@14..37\n",
+            "/// a\npub struct S { /** b */ /// c\n x: u8, y: u8, }\n/// d\n/// e\nstruct T(/// f\n u8);",
+            "[ a]6..52 S{[ b ][ c] 37..42 x 44..49 y}[ d][ e]65..85 T([ f] 81..83 _)",
         ),
     ];
     for (source, expected) in cases {
-        let text = source_text(alloc, source)?;
-        assert_eq!(rt; text.as_str(), expected, "{source}");
+        assert_eq!(rt; source_text(alloc, source)?.as_str(), expected, "{source}");
     }
     one_reading();
     Ok(())
@@ -114,30 +158,34 @@ fn refuses_other_text(rt: HostRuntime) -> Result<(), Fail> {
     let alloc = rt.alloc();
     let cases = [
         ("struct S { x: bo", 16, 16),
-        ("struct S { x: Foo<u8> }", 17, 18),
-        ("struct Self {}", 7, 11),
-        ("struct _ {}", 7, 8),
-        ("struct S { a b }", 13, 14),
-        ("struct S;", 8, 9),
         ("struct S", 8, 8),
-        ("struct S(u8)", 8, 9),
-        ("/// doc\nstruct S {}", 0, 7),
-        ("struct S { a: Vec<> }", 18, 19),
-        ("struct S { a: Vec<u8 }", 21, 22),
-        ("struct S { a: Vec<u8, u8> }", 20, 21),
-        ("struct S { a: (u8) }", 14, 15),
-        ("struct S { a: }", 14, 15),
-        ("struct S { , }", 11, 12),
+        ("struct S(u8)", 12, 12),
+        ("struct S {} ;", 12, 13),
+        ("struct S { a b }", 13, 14),
         ("struct S { a: u8,, }", 17, 18),
-        ("struct S { fn: u8 }", 11, 13),
-        ("struct S { a: Option::u8 }", 20, 21),
-        ("pub pub struct S {}", 4, 7),
-        ("struct S {} x", 12, 13),
+        ("struct S { , }", 11, 12),
+        ("struct S(,);", 9, 10),
+        ("struct S { a: }", 14, 15),
+        ("struct S { a: u8 b: u8 }", 17, 18),
+        ("pub pub struct S;", 4, 7),
+        ("struct S; x", 10, 11),
         ("enum S {}", 0, 4),
+        ("#[a] struct S;", 0, 1),
+        ("struct S { pub(crate) }", 22, 23),
+        ("struct S { pub(in a;b) x: u8 }", 14, 15),
+        ("struct S { pub(crate a) x: u8 }", 14, 15),
+        ("use a", 5, 5),
+        ("struct S; //! d", 10, 15),
+        ("struct S { /// d\n }", 18, 19),
+        ("struct S [u8];", 9, 10),
+        ("struct _;", 7, 8),
+        ("struct S { _: u8 }", 11, 12),
+        ("struct S { 'a: u8 }", 11, 13),
+        ("struct S { a: u8 } /// d", 24, 24),
     ];
     for (source, start, end) in cases {
         assert!(rt;
-            is_refused_at(alloc, source, Span { start, end })?,
+            is_refused(alloc, source, Kind::Syntax, Span { start, end }),
             "{source}"
         );
     }
@@ -148,59 +196,107 @@ fn refuses_other_text(rt: HostRuntime) -> Result<(), Fail> {
 fn tells_names_from_keywords(rt: HostRuntime) -> Result<(), Fail> {
     let alloc = rt.alloc();
     for word in KEYWORDS.split_whitespace() {
-        let source = format!(in alloc; "struct {word} {{}}")?;
+        let plain = format!(in alloc; "struct {word};")?;
         let span = Span {
             start: 7,
             end: 7 + word.len().min(8),
         };
-        assert!(rt; is_refused_at(alloc, source.as_str(), span)?, "{word}");
+        assert!(rt;
+            is_refused(alloc, plain.as_str(), Kind::Syntax, span),
+            "{word}"
+        );
+        let raw = format!(in alloc; "struct r#{word};")?;
+        assert_eq!(rt;
+            parse_declarations(alloc, raw.as_str())?.items.len(),
+            1,
+            "{word}"
+        );
     }
-    for name in [
-        "a",
-        "_a",
-        "Option",
-        "union",
-        "auto",
-        "raw",
-        "Structs",
-        "abstracts",
-        "\u{e9}",
-    ] {
-        let source = format!(in alloc; "struct {name} {{}}")?;
-        let declarations = parse_declarations(alloc, source.as_str())?;
-        assert_eq!(rt; declarations.items.len(), 1, "{name}");
+    Ok(())
+}
+
+#[test]
+fn reads_types(rt: HostRuntime) -> Result<(), Fail> {
+    let alloc = rt.alloc();
+    let cases = [
+        ("&str", "& str"),
+        ("Vec<Vec<u8>>", "Vec::<Vec<u8,>>"),
+        ("(dyn A + B)", "dyn A+B"),
+        ("(crate)", "crate"),
+    ];
+    for (text, other) in cases {
+        assert!(rt;
+            parse_type(alloc, text)? == parse_type(alloc, other)?,
+            "{text}"
+        );
     }
+    let refused = [
+        ("&'a mut dyn A<T> + B", 17, 18),
+        ("u8 u8", 3, 5),
+        ("", 0, 0),
+        ("(u8", 3, 3),
+    ];
+    for (text, start, end) in refused {
+        assert!(rt;
+            is_no_type(alloc, text, Kind::Syntax, Span { start, end }),
+            "{text}"
+        );
+    }
+    one_type_reading();
     Ok(())
 }
 
 #[test]
 fn nests_to_the_limit(rt: HostRuntime) -> Result<(), Fail> {
     let alloc = rt.alloc();
-    let deepest = nested(alloc, 64)?;
-    assert_eq!(rt; parse_declarations(alloc, deepest.as_str())?.items.len(), 1);
-    let deeper = nested(alloc, 65)?;
+    let cases = [("Vec<", ">"), ("[", "]")];
+    for (open, close) in cases {
+        let deepest = nested(alloc, open, 63, "u8", close)?;
+        assert!(rt; parse_type(alloc, deepest.as_str()).is_ok(), "{open}");
+        let source = format!(in alloc; "struct S {{ a: {} }}", deepest.as_str())?;
+        assert_eq!(rt;
+            parse_declarations(alloc, source.as_str())?.items.len(),
+            1,
+            "{open}"
+        );
+    }
+    let deeper = nested(alloc, "Vec<", 64, "u8", ">")?;
     let span = Span {
-        start: 270,
-        end: 272,
+        start: 256,
+        end: 258,
     };
-    assert!(rt; is_refused_at(alloc, deeper.as_str(), span)?);
+    assert!(rt; is_no_type(alloc, deeper.as_str(), Kind::TooDeep, span));
+    let field = format!(in alloc; "struct S {{ a: u8, b: {} }}", deeper.as_str())?;
+    let span = Span {
+        start: 277,
+        end: 279,
+    };
+    assert!(rt; is_refused(alloc, field.as_str(), Kind::TooDeep, span));
+    let brackets = nested(alloc, "[", 64, "u8", "]")?;
+    let source = format!(in alloc; "struct S {{ a: {} }}", brackets.as_str())?;
+    let span = Span { start: 77, end: 78 };
+    assert!(rt; is_refused(alloc, source.as_str(), Kind::TooDeep, span));
     Ok(())
 }
 
 #[test]
-fn compares_and_copies_by_text(rt: HostRuntime) -> Result<(), Fail> {
+fn joins_doc_comments(rt: HostRuntime) -> Result<(), Fail> {
     let alloc = rt.alloc();
-    let narrow = parse_declarations(alloc, "struct A{b:Vec<u8>}")?;
-    let wide = parse_declarations(alloc, "pub struct A { pub b : Vec < u8 > , }")?;
-    let other = parse_declarations(alloc, "struct A{b:Vec<i8>}")?;
-    assert!(rt; narrow == wide);
-    assert!(rt; narrow != other);
-    for declaration in wide.items.as_slice() {
-        assert!(rt; declaration.ident.copy(alloc)? == declaration.ident);
-        for field in declaration.fields.as_slice() {
-            let copy = field.ty.copy(alloc)?;
-            assert!(rt; copy == field.ty);
-            assert_eq!(rt; copy.span(), Span { start: 23, end: 33 });
+    let cases = [
+        ("struct S;", ""),
+        ("/// a\n///\n///   b  \nstruct S;", "a\n\n  b"),
+        ("///a\n///\t b\nstruct S;", "a\n\t b"),
+        ("/** a\n  b */ struct S;", "a\n  b"),
+    ];
+    for (source, expected) in cases {
+        for declaration in parse_declarations(alloc, source)?.items.as_slice() {
+            let comments = CommentAttributes::from_attributes(alloc, declaration.attrs.as_slice())?;
+            assert_eq!(rt;
+                comments.as_formatted_string(alloc)?.as_str(),
+                expected,
+                "{source}"
+            );
+            assert_eq!(rt; comments.is_empty(), expected.is_empty(), "{source}");
         }
     }
     Ok(())

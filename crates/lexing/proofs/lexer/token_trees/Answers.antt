@@ -1,6 +1,6 @@
 use Rattle.std.proofs.Common.{◌∷◌, subst}
 use Rattle.std.proofs.lemmas.Result.{err_from_is_err_and}
-use Rattle.lexing.specs.Trees.{trees_view}
+use Rattle.tokens.specs.Trees.{trees_view}
 use Rattle.lexing.specs.Pieces.{Cuts}
 use Rattle.lexing.specs.Reading.{LieIn}
 use Rattle.lexing.proofs.CutLaws.{pieces_lie}

@@ -1,11 +1,21 @@
-use Rattle.std.proofs.Common.{◌≡◌, ◌≤◌, ◌∷◌, length, arith, sym, ap, subst, ◌∙◌, refl, inl, inr, rules}
+use Rattle.std.proofs.Common.{◌≡◌, ◌≤◌, ◌-◌, ◌∷◌, length, arith, sym, ap, subst, ◌∙◌, refl, inl, inr, rules}
 use Rattle.std.proofs.lemmas.Result.{err_from_is_err_and}
 use Rattle.lexing.specs.declared.piece.PieceKind.TheVariants.{Close}
-use Rattle.lexing.specs.Trees.{end, ◌▸◌, tree_view, trees_view, token, depth}
+use Rattle.tokens.specs.Trees.{end, ◌▸◌, tree_view, trees_view, token, depth}
 use Rattle.lexing.specs.Nesting.{token_of, IsTrees, none}
 use Rattle.lexing.specs.Reading.{EndFrom, LieIn}
-use Rattle.lexing.proofs.NestLaws.{unnested_later, unnested_open, past_blank, past_token, past_group, joined, group_read, group_depth, trees_view-push, depth_push, lie_after, end_after}
+use Rattle.lexing.proofs.NestLaws.{unnested_later, unnested_inside, unnested_deep, unnested_open, past_blank, past_token, past_group, joined, group_read, group_depth, trees_view-push, depth_push, lie_after, end_after}
 use Rattle.lexing.proofs.nest.+nest.Goals as goal
+
+pub group_at-returns-then-left-eq0-clause-value : goal.group_at-returns-then-left-eq0-clause-value
+group_at-returns-then-left-eq0-clause-value t c = λ k. unnested_deep c.args.source.now c.args.left c.args.bracket c.args.opening c.args.pieces.now c.if-left-eq0.true k
+
+pub group_at-returns-in_err-trees-clause-value : goal.group_at-returns-in_err-trees-clause-value
+group_at-returns-in_err-trees-clause-value t c =
+    let p = err_from_is_err_and c.from_residual.result c.from_residual.ensures.1 in
+    let some : c.args.left ≡ 0 → ⊥ = c.if-left-eq0.false in
+    rw (p.1, p.2)
+    (λ k. unnested_inside c.args.source.now c.args.left (c.args.left - 1) c.args.bracket c.args.opening c.args.pieces.now c.in_err-trees.field-0.0 (omega (arith, some)) k c.in_err-trees.ensures.value)
 
 pub group_at-returns-then-ne-clause-value : goal.group_at-returns-then-ne-clause-value
 group_at-returns-then-ne-clause-value t c = λ k.

@@ -1,5 +1,5 @@
 use Rattle.std.proofs.Common.{◌≤◌, ◌+◌, ◌*◌, length}
-use Rattle.lexing.specs.Trees.{trees_view, depth}
+use Rattle.tokens.specs.Trees.{trees_view, depth}
 use Rattle.lexing.specs.Nesting.{IsTrees}
 use Rattle.lexing.specs.Reading.{LieIn}
 use Rattle.lexing.proofs.nest.+nest.Given as goal

@@ -5,6 +5,9 @@ use Rattle.std.proofs.lemmas.Bool.{eqb-true, eqb-false}
 use Rattle.std.specs.Str.{chars, IsUtf8, encode_utf8_all}
 use Rattle.lexing.specs.Pieces.{Cuts}
 use Rattle.lexing.proofs.CutLaws.{cuts_pushed, cuts_left, no_cuts, front_bytes, chars_nonempty}
+use Rattle.lexing.specs.RawStrings.{NoneCloses}
+use Rattle.lexing.proofs.PieceLaws.{finds_longest, word_no_literal}
+use Rattle.lexing.proofs.RawLaws.{none_known, none_left}
 use Rattle.lexing.proofs.scan.cut.Goals as goal
 
 pub pieces-init : goal.pieces-init
@@ -14,6 +17,7 @@ pieces-init c =
       omega arith,
       (λ ps h. rw c.new-found.ensures (subst (λ v. Cuts ps v (chars c.args.source.now)) none h)),
       (λ all h. (all, subst (λ v. Cuts all v (chars c.args.source.now)) (sym none) h)),
+      none_known (chars c.args.source.now),
     )
 
 pub returns-in-None-clause-refused : goal.returns-in-None-clause-refused
@@ -25,12 +29,16 @@ returns-in-None-clause-refused c = (
       no_cuts left.0 (length c.args.source.now - length c.pieces.rest.now) (chars c.pieces.rest.now) more c.in-None.ensures left.1,
 )
 
+pub unclosed_after-unclosed-requires-clause-found : goal.unclosed_after-unclosed-requires-clause-found
+unclosed_after-unclosed-requires-clause-found c = word_no_literal (chars c.pieces.rest.now) c.in-Some.kind (chars c.in-Some.after.now) c.in-Some.ensures.0
+
 pub pieces-preserved : goal.pieces-preserved
 pieces-preserved c =
     let source = c.args.source.now in
     let rest = c.pieces.rest.now in
     let after = c.in-Some.after.now in
     let kept = c.pieces.invariant in
+    let found = finds_longest (chars rest) c.in-Some.kind (chars after) c.in-Some.ensures.0 in
     let utf8 : IsUtf8 after = c.in-Some.ensures.2 in
     let bytes : (front : List ℕ) → chars rest ≡ front ++ chars after → length source - length after ≡ (length source - length rest) + length (encode_utf8_all front) =
     λ front e. let taken = front_bytes rest after front kept.0 utf8 e in omega (arith, kept.1) in (
@@ -40,6 +48,7 @@ pieces-preserved c =
       (λ all h.
           let left = kept.3 all h in
           cuts_left left.0 (length source - length rest) (length source - length after) (chars rest) (chars after) c.in-Some.kind c.in-Some.ensures.0 bytes left.1),
+      none_left c.unclosed_after-unclosed.result found.0 (chars after) (subst (NoneCloses c.unclosed_after-unclosed.result) found.1 c.unclosed_after-unclosed.ensures),
     )
 
 pub returns-clause-found : goal.returns-clause-found

@@ -1,0 +1,23 @@
+use Rattle.std.proofs.Common.{◌≡◌, ◌++◌, length, sym, ap, ◌∙◌, arith, length-append}
+use Rattle.std.proofs.lemmas.Str.{chars_past_char, chars-nil, IsUtf8-past_char}
+use Rattle.std.proofs.lemmas.List.{nil_from_length}
+use Rattle.std.specs.Str.{chars}
+use Rattle.std.specs.Prelude.{encode_utf8}
+use Rattle.lexing.proofs.TextLaws.{encode_utf8_nonempty}
+use Rattle.lexing.proofs.text.split_first_char.Goals as goal
+
+pub returns-in-Some : goal.returns-in-Some
+returns-in-Some c =
+    let first = c.in-Some.c in
+    let rest = c.as_str.result.now in
+    let parts : c.args.text.now ≡ encode_utf8 first ++ rest =
+    sym c.chars-chars.ensures.rest ∙ c.in-Some.ensures.steps.0 ∙ ap (λ t. encode_utf8 first ++ t) (sym c.as_str.ensures) in (
+      chars_past_char _ rest first c.utf8.text parts,
+      omega (arith, ap length parts, length-append (encode_utf8 first) rest, encode_utf8_nonempty first),
+      IsUtf8-past_char _ rest first c.utf8.text parts,
+    )
+
+pub returns-in-None : goal.returns-in-None
+returns-in-None c =
+    let empty = sym c.chars-chars.ensures.rest ∙ nil_from_length _ c.in-None.ensures.steps.0.0 in
+    ap chars empty ∙ chars-nil

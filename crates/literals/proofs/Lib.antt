@@ -1,0 +1,9 @@
+pub mod Codes
+pub mod EscapeLaws
+pub mod FirstChar
+pub mod LiteralLaws
+pub mod NumberLaws
+pub mod QuotedLaws
+pub mod RawLaws
+pub mod RunLaws
+pub mod StringLaws

@@ -1,0 +1,15 @@
+//! Literals at the front of a text, by Rust's lexical rules in this project's profile.
+#![tactic(auto)]
+
+mod characters;
+mod laws;
+mod literal;
+mod numbers;
+mod raw_strings;
+mod scan;
+mod strings;
+#[cfg(test)]
+mod tests;
+
+pub use laws::{literals_are_longest, literals_have_quotes};
+pub use literal::after_literal;

@@ -1,0 +1,14 @@
+use Rattle.std.proofs.Common.{arith, sym, ◌∙◌}
+use Rattle.std.proofs.lemmas.Grind.{common_steps}
+use Rattle.open_types.proofs.OpenLists.{turn, turned, AreClosed_push}
+use Rattle.open_types.proofs.closed_type.+substitute.Goals as goal
+
+pub substitute_types-loop-ty-preserved : goal.substitute_types-loop-ty-preserved
+substitute_types-loop-ty-preserved t c = record {
+  left = grind (arith, common_steps);
+  made = rw c.in_ok-push.ensures.ok (sym (turn _ c.loop-ty.made c.args.types.now _ _ _ c.loop-ty-test.true c.ty-item.is c.in_ok-substitute_type.ensures.value) ∙ c.loop-ty.invariant.made);
+  closed = rw c.in_ok-push.ensures.ok (AreClosed_push _ _ c.loop-ty.invariant.closed c.in_ok-substitute_type.ensures.closed);
+}
+
+pub substitute_types-returns-clause-value : goal.substitute_types-returns-clause-value
+substitute_types-returns-clause-value t c = sym (turned _ c.loop-ty.made c.args.types.now _ c.loop-ty-test.false) ∙ c.loop-ty.invariant.made

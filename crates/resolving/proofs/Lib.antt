@@ -1,0 +1,5 @@
+pub mod Counted
+pub mod Stands
+pub mod Right
+pub mod Whole
+pub mod Within

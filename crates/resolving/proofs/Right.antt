@@ -1,0 +1,202 @@
+-- What has a meaning with its arguments has right ones.
+use Rattle.std.proofs.Common.{◌≡◌, ℕ, List, [], ◌∷◌, Bool, true, false, not, ◌&&◌, cond, Option, Some, None, option_and_then, bytes_eq, codes, refl, ap, sym, ◌∙◌}
+use Rattle.std.specs.List.{list_all}
+use Rattle.std.proofs.lemmas.Option.{none-some}
+use Rattle.std.proofs.lemmas.Bool.{false≢true}
+use Rattle.leaves.specs.declared.leaf.Leaf.{Leaf}
+use Rattle.leaves.specs.Leaves.{leaf_of}
+use Rattle.written_types.specs.Written.{Written, WrittenPath, Segments, Segment, path, reference, tuple, slice, array, trait_object, path_of, no_segments, more_segments, plain, applied}
+use Rattle.open_types.specs.declared.open_type.ListHead.{ListHead}
+use Rattle.open_types.specs.declared.open_type.ListHead.TheVariants as lists
+use Rattle.open_types.specs.Open.{Open, Opens}
+use Rattle.open_types.specs.Open as types
+use Rattle.resolving.specs.declared.head.Head.{Head}
+use Rattle.resolving.specs.declared.head.Head.TheVariants as heads
+use Rattle.resolving.specs.declared.meaning.Meaning.{Meaning}
+use Rattle.resolving.specs.declared.meaning.Meaning.TheVariants as meanings
+use Rattle.resolving.specs.Names.{nameless, where_none, is_array, containers, container_among, declared_or_unknown, other_meaning, leaf_or, container_or, name_meaning, meaning}
+use Rattle.resolving.specs.Resolved.{small_list, list_of, of_one, of_two, contained, alone, meant, tuple_of, type_of, path_type, last_type, segment_type, argument_types, all_types, is_wrong_item, is_wrong_one, is_no_map, are_wrong_in, are_any, are_wrong}
+use Rattle.resolving.proofs.Stands.{some_same, Stand, mapped}
+
+-- ---- no name stands for an array
+
+abbrev is_array_type : Open → Bool
+is_array_type (types.items lists.Array t) = true
+is_array_type _ = false
+
+abbrev is_named : Meaning → Bool
+is_named (meanings.Container (heads.List lists.Array)) = false
+is_named _ = true
+
+by_test : (b : Bool) (m n : Meaning) → is_named m ≡ true → is_named n ≡ true → is_named (cond b m n) ≡ true
+by_test true m n f g = f
+by_test false m n f g = g
+
+declared-named : (o : Option ℕ) → is_named (declared_or_unknown o) ≡ true
+declared-named None = refl
+declared-named (Some d) = refl
+
+leaf-named : (o : Option Leaf) (m : Meaning) → is_named m ≡ true → is_named (leaf_or o m) ≡ true
+leaf-named None m h = h
+leaf-named (Some x) m h = refl
+
+name-named : (p : List ℕ → Option ℕ) (n : List ℕ) → is_named (name_meaning p n) ≡ true
+name-named p n =
+    leaf-named (leaf_of n) (other_meaning p n)
+    (by_test (bytes_eq n (codes "Value")) meanings.Value _ refl (by_test (bytes_eq n (codes "Object")) meanings.Object _ refl (by_test (bytes_eq n (codes "Self")) meanings.Unknown _ refl (declared-named (p n)))))
+
+and_parts : (a b : Bool) → (a && b) ≡ true → (a ≡ true) × (b ≡ true)
+and_parts true b e = (refl, e)
+and_parts false b e = absurd (false≢true e)
+
+container-named : (n : List ℕ) (cs : List (List ℕ × Head)) (m : Meaning) → list_all (λ (c : List ℕ × Head). is_named (meanings.Container c.1)) cs ≡ true → is_named m ≡ true → is_named (container_or (container_among n cs) m) ≡ true
+container-named n [] m h g = g
+container-named n (c ∷ cs) m h g =
+    let parts = and_parts (is_named (meanings.Container c.1)) (list_all (λ (d : List ℕ × Head). is_named (meanings.Container d.1)) cs) h in
+    by (bytes_eq n c.0) parts.0 (container-named n cs m parts.1 g)
+  where
+    by : (b : Bool) → is_named (meanings.Container c.1) ≡ true → is_named (container_or (container_among n cs) m) ≡ true → is_named (container_or (cond b (Some c.1) (container_among n cs)) m) ≡ true
+    by true f rest = f
+    by false f rest = rest
+
+meaning-named : (p : List ℕ → Option ℕ) (s : Segment) → is_named (meaning p s) ≡ true
+meaning-named p (plain x) = name-named p x.text
+meaning-named p (applied x args) = container-named x.text containers (name_meaning p x.text) refl (name-named p x.text)
+
+-- what is an array is seen from what it equals
+seen : (a b : Open) → Some a ≡ Some b → is_array_type a ≡ false → is_array_type b ≡ false
+seen a b e f = sym (ap is_array_type (some_same a b e)) ∙ f
+
+small-not : (t u : Open) → small_list t ≡ Some u → (is_array_type t ≡ true) × (is_array_type u ≡ false)
+small-not (types.items lists.Array t) u e = (refl, seen (types.items lists.SmallVec t) u e refl)
+small-not (types.items lists.Vec t) u e = absurd (none-some u e)
+small-not (types.items lists.LinkedList t) u e = absurd (none-some u e)
+small-not (types.items lists.SmallVec t) u e = absurd (none-some u e)
+small-not (types.leaf x) u e = absurd (none-some u e)
+small-not types.any_value u e = absurd (none-some u e)
+small-not types.free_object u e = absurd (none-some u e)
+small-not types.unit u e = absurd (none-some u e)
+small-not (types.tuple ts) u e = absurd (none-some u e)
+small-not (types.set h t) u e = absurd (none-some u e)
+small-not (types.map_of h k t) u e = absurd (none-some u e)
+small-not (types.option t) u e = absurd (none-some u e)
+small-not (types.through h t) u e = absurd (none-some u e)
+small-not (types.param i) u e = absurd (none-some u e)
+small-not (types.named d ts) u e = absurd (none-some u e)
+
+one-not : (h : Head) (t u : Open) → is_named (meanings.Container h) ≡ true → of_one h t ≡ Some u → is_array_type u ≡ false
+one-not (heads.List lists.Vec) t u g e = seen (types.items lists.Vec t) u e refl
+one-not (heads.List lists.LinkedList) t u g e = seen (types.items lists.LinkedList t) u e refl
+one-not (heads.List lists.SmallVec) t u g e = (small-not t u e).1
+one-not (heads.List lists.Array) t u g e = absurd (false≢true g)
+one-not (heads.Set h) t u g e = seen (types.set h t) u e refl
+one-not (heads.Map h) t u g e = absurd (none-some u e)
+one-not heads.Option t u g e = seen (types.option t) u e refl
+one-not (heads.Through h) t u g e = seen (types.through h t) u e refl
+
+two-not : (h : Head) (k t u : Open) → of_two h k t ≡ Some u → is_array_type u ≡ false
+two-not (heads.List h) k t u e = absurd (none-some u e)
+two-not (heads.Set h) k t u e = absurd (none-some u e)
+two-not (heads.Map h) k t u e = seen (types.map_of h k t) u e refl
+two-not heads.Option k t u e = absurd (none-some u e)
+two-not (heads.Through h) k t u e = absurd (none-some u e)
+
+contained-not : (h : Head) (ts : Opens) (u : Open) → is_named (meanings.Container h) ≡ true → contained h ts ≡ Some u → is_array_type u ≡ false
+contained-not h types.no_types u g e = absurd (none-some u e)
+contained-not h (types.more_types t types.no_types) u g e = one-not h t u g e
+contained-not h (types.more_types k (types.more_types t types.no_types)) u g e = two-not h k t u e
+contained-not h (types.more_types k (types.more_types t (types.more_types v vs))) u g e = absurd (none-some u e)
+
+alone-not : (a : Open) (ts : Opens) (u : Open) → is_array_type a ≡ false → alone a ts ≡ Some u → is_array_type u ≡ false
+alone-not a types.no_types u f e = seen a u e f
+alone-not a (types.more_types t ts) u f e = absurd (none-some u e)
+
+meant-not : (m : Meaning) (ts : Opens) (u : Open) → is_named m ≡ true → meant m ts ≡ Some u → is_array_type u ≡ false
+meant-not (meanings.Container h) ts u g e = contained-not h ts u g e
+meant-not (meanings.Leaf x) ts u g e = alone-not (types.leaf x) ts u refl e
+meant-not meanings.Value ts u g e = alone-not types.any_value ts u refl e
+meant-not meanings.Object ts u g e = alone-not types.free_object ts u refl e
+meant-not (meanings.Declared d) ts u g e = alone-not (types.named d types.no_types) ts u refl e
+meant-not meanings.Unknown ts u g e = absurd (none-some u e)
+
+-- the arguments with which a segment has its meaning
+pub and_some : {A B : Type 0} (f : A → Option B) (o : Option A) (y : B) → option_and_then f o ≡ Some y → (x : A) × (o ≡ Some x) × (f x ≡ Some y)
+and_some f None y e = absurd (none-some y e)
+and_some f (Some x) y e = (x, refl, e)
+
+segment-not : (p : List ℕ → Option ℕ) (s : Segment) (u : Open) → segment_type p s ≡ Some u → is_array_type u ≡ false
+segment-not p (plain x) u e = meant-not (meaning p (plain x)) types.no_types u (meaning-named p (plain x)) e
+segment-not p (applied x args) u e =
+    let found = and_some (meant (meaning p (applied x args))) (argument_types p args) u e in
+    meant-not (meaning p (applied x args)) found.0 u (meaning-named p (applied x args)) found.2
+
+last-cases : (p : List ℕ → Option ℕ) (s : Segment) (rest : Segments) (u : Open) → where_none rest (segment_type p s) (last_type p rest) ≡ Some u → (last_type p rest ≡ Some u → is_array_type u ≡ false) → is_array_type u ≡ false
+last-cases p s no_segments u e h = segment-not p s u e
+last-cases p s (more_segments t ts) u e h = h e
+
+last-not : (p : List ℕ → Option ℕ) (ss : Segments) (u : Open) → last_type p ss ≡ Some u → is_array_type u ≡ false
+last-not p no_segments u e = absurd (none-some u e)
+last-not p (more_segments s rest) u e = last-cases p s rest u e (last-not p rest u)
+
+path-not : (p : List ℕ → Option ℕ) (q : WrittenPath) (u : Open) → path_type p q ≡ Some u → is_array_type u ≡ false
+path-not p (path_of leading no_segments s) u e = meant-not (meaning p (nameless s)) types.no_types u (meaning-named p (nameless s)) e
+path-not p (path_of leading (more_segments x rest) s) u e = last-not p (more_segments x rest) u e
+
+tuple-not : (ts : Opens) → is_array_type (tuple_of ts) ≡ false
+tuple-not types.no_types = refl
+tuple-not (types.more_types t ts) = refl
+
+array-is : (p : List ℕ → Option ℕ) (w : Written) (t : Open) → type_of p w ≡ Some t → is_array_type t ≡ true → is_array w ≡ true
+array-is p (path q) t e a = absurd (false≢true (sym (path-not p q t e) ∙ a))
+array-is p (reference w) t e a = array-is p w t e a
+array-is p (tuple ws s) t e a = let m = mapped tuple_of (all_types p ws) t e in absurd (false≢true (sym (tuple-not m.0) ∙ ap is_array_type m.2 ∙ a))
+array-is p (slice w s) t e a = refl
+array-is p (array w s) t e a = refl
+array-is p (trait_object q s) t e a = absurd (false≢true (sym (path-not p q t e) ∙ a))
+
+-- ---- right numbers
+
+right-item : (p : List ℕ → Option ℕ) (h : ListHead) (w : Written) (t u : Open) → type_of p w ≡ Some t → list_of h t ≡ Some u → is_wrong_item h w ≡ false
+right-item p lists.Vec w t u e f = refl
+right-item p lists.LinkedList w t u e f = refl
+right-item p lists.SmallVec w t u e f = ap not (array-is p w t e (small-not t u f).0)
+right-item p lists.Array w t u e f = refl
+
+right-one : (p : List ℕ → Option ℕ) (h : Head) (w : Written) (t u : Open) → type_of p w ≡ Some t → of_one h t ≡ Some u → is_wrong_one h w ≡ false
+right-one p (heads.List h) w t u e f = right-item p h w t u e f
+right-one p (heads.Set h) w t u e f = refl
+right-one p (heads.Map h) w t u e f = absurd (none-some u f)
+right-one p heads.Option w t u e f = refl
+right-one p (heads.Through h) w t u e f = refl
+
+right-two : (h : Head) (k t u : Open) → of_two h k t ≡ Some u → is_no_map h ≡ false
+right-two (heads.List h) k t u f = absurd (none-some u f)
+right-two (heads.Set h) k t u f = absurd (none-some u f)
+right-two (heads.Map h) k t u f = refl
+right-two heads.Option k t u f = absurd (none-some u f)
+right-two (heads.Through h) k t u f = absurd (none-some u f)
+
+right-in : (p : List ℕ → Option ℕ) (h : Head) (ws : List Written) (ts : Opens) (u : Open) → Stand p ws ts → contained h ts ≡ Some u → are_wrong_in h ws ≡ false
+right-in p h [] types.no_types u s f = absurd (none-some u f)
+right-in p h [] (types.more_types t ts) u s f = absurd s
+right-in p h (w ∷ ws) types.no_types u s f = absurd s
+right-in p h (w ∷ []) (types.more_types t types.no_types) u s f = right-one p h w t u s.0 f
+right-in p h (w ∷ []) (types.more_types t (types.more_types v vs)) u s f = absurd s.1
+right-in p h (w ∷ v ∷ ws) (types.more_types t types.no_types) u s f = absurd s.1
+right-in p h (w ∷ v ∷ []) (types.more_types t (types.more_types x types.no_types)) u s f = right-two h t x u f
+right-in p h (w ∷ v ∷ []) (types.more_types t (types.more_types x (types.more_types y ys))) u s f = absurd s.1.1
+right-in p h (w ∷ v ∷ y ∷ ws) (types.more_types t (types.more_types x types.no_types)) u s f = absurd s.1.1
+right-in p h (w ∷ v ∷ y ∷ ws) (types.more_types t (types.more_types x (types.more_types z zs))) u s f = absurd (none-some u f)
+
+right-alone : (p : List ℕ → Option ℕ) (a : Open) (ws : List Written) (ts : Opens) (u : Open) → Stand p ws ts → alone a ts ≡ Some u → are_any ws ≡ false
+right-alone p a [] ts u s f = refl
+right-alone p a (w ∷ ws) types.no_types u s f = absurd s
+right-alone p a (w ∷ ws) (types.more_types t ts) u s f = absurd (none-some u f)
+
+pub right : (p : List ℕ → Option ℕ) (m : Meaning) (ws : List Written) (ts : Opens) (u : Open) → Stand p ws ts → meant m ts ≡ Some u → are_wrong m ws ≡ false
+right p (meanings.Container h) ws ts u s f = right-in p h ws ts u s f
+right p (meanings.Leaf x) ws ts u s f = right-alone p (types.leaf x) ws ts u s f
+right p meanings.Value ws ts u s f = right-alone p types.any_value ws ts u s f
+right p meanings.Object ws ts u s f = right-alone p types.free_object ws ts u s f
+right p (meanings.Declared d) ws ts u s f = right-alone p (types.named d types.no_types) ws ts u s f
+right p meanings.Unknown ws ts u s f = refl

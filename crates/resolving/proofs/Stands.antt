@@ -1,0 +1,102 @@
+-- Type arguments and what they stand for.
+use Rattle.std.proofs.Common.{◌≡◌, ◌≢◌, ℕ, List, [], ◌∷◌, subst, true, not, Option, Some, None, option_map, option_and_then, refl, ap, sym, ◌∙◌, arith}
+use Rattle.std.proofs.lemmas.Option.{none-some}
+use Rattle.written_types.specs.Written.{Written, Segment, Arguments, path, reference, tuple, slice, array, trait_object, plain, applied, no_arguments, more_arguments, lifetime_argument, constant_argument, type_argument}
+use Rattle.open_types.specs.declared.open_type.ListHead.{ListHead}
+use Rattle.open_types.specs.declared.open_type.ListHead.TheVariants as lists
+use Rattle.open_types.specs.Open.{Open, Opens}
+use Rattle.open_types.specs.Open as types
+use Rattle.resolving.specs.declared.head.Head.{Head}
+use Rattle.resolving.specs.declared.head.Head.TheVariants as heads
+use Rattle.resolving.specs.declared.meaning.Meaning.{Meaning}
+use Rattle.resolving.specs.declared.meaning.Meaning.TheVariants as meanings
+use Rattle.resolving.specs.Names.{types_of, arguments_of, is_array}
+use Rattle.resolving.specs.Resolved.{small_list, list_of, of_one, of_two, contained, alone, meant, type_of, argument_types, is_wrong_item, is_wrong_one, is_no_map, are_wrong_in, are_any, are_wrong}
+use Rattle.resolving.specs.Reading.{segment_arguments}
+
+pub some_same : {A : Type 0} (a b : A) → Some a ≡ Some b → a ≡ b
+some_same a b e = grind arith
+
+-- the types stand for these, one by one
+abbrev pub Stand : (List ℕ → Option ℕ) → List Written → Opens → Type 0
+Stand p [] types.no_types = Unit {0}
+Stand p [] (types.more_types t ts) = ⊥
+Stand p (w ∷ ws) types.no_types = ⊥
+Stand p (w ∷ ws) (types.more_types t ts) = (type_of p w ≡ Some t) × Stand p ws ts
+
+stand-more : (p : List ℕ → Option ℕ) (w : Written) (ws : List Written) (o : Option Open) (rest : Option Opens) (ts : Opens) → type_of p w ≡ o → ((us : Opens) → rest ≡ Some us → Stand p ws us)
+    → option_and_then (λ u. option_map (types.more_types u) rest) o ≡ Some ts → Stand p (w ∷ ws) ts
+stand-more p w ws None rest ts e h q = absurd (none-some ts q)
+stand-more p w ws (Some t) None ts e h q = absurd (none-some ts q)
+stand-more p w ws (Some t) (Some us) ts e h q = subst (Stand p (w ∷ ws)) (some_same (types.more_types t us) ts q) (e, h us refl)
+
+pub stand-arguments : (p : List ℕ → Option ℕ) (args : Arguments) (ts : Opens) → argument_types p args ≡ Some ts → Stand p (types_of args) ts
+stand-arguments p no_arguments ts e = subst (Stand p []) (some_same types.no_types ts e) tt
+stand-arguments p (more_arguments (lifetime_argument x) rest) ts e = stand-arguments p rest ts e
+stand-arguments p (more_arguments (constant_argument c) rest) ts e = stand-arguments p rest ts e
+stand-arguments p (more_arguments (type_argument w) rest) ts e = stand-more p w (types_of rest) (type_of p w) (argument_types p rest) ts refl (stand-arguments p rest) e
+
+pub stand-segment : (p : List ℕ → Option ℕ) (s : Segment) (ts : Opens) → segment_arguments p s ≡ Some ts → Stand p (types_of (arguments_of s)) ts
+stand-segment p (plain x) ts e = subst (Stand p []) (some_same types.no_types ts e) tt
+stand-segment p (applied x args) ts e = stand-arguments p args ts e
+
+-- ---- what has no meaning with its arguments has wrong ones
+
+pub mapped : {A B : Type 0} (f : A → B) (o : Option A) (y : B) → option_map f o ≡ Some y → (x : A) × (o ≡ Some x) × (f x ≡ y)
+mapped f None y e = absurd (none-some y e)
+mapped f (Some x) y e = (x, refl, some_same (f x) y e)
+
+small-some : (t u : Open) → types.items lists.Array u ≡ t → small_list t ≡ None → ⊥
+small-some t u e n = none-some (types.items lists.SmallVec u) (sym n ∙ sym (ap small_list e))
+
+no_array : (p : List ℕ → Option ℕ) (w : Written) (t : Open) → type_of p w ≡ Some t → small_list t ≡ None → not (is_array w) ≡ true
+no_array p (path q) t e n = refl
+no_array p (reference w) t e n = no_array p w t e n
+no_array p (tuple ws s) t e n = refl
+no_array p (slice w s) t e n = let m = mapped (types.items lists.Array) (type_of p w) t e in absurd (small-some t m.0 m.2 n)
+no_array p (array w s) t e n = let m = mapped (types.items lists.Array) (type_of p w) t e in absurd (small-some t m.0 m.2 n)
+no_array p (trait_object q s) t e n = refl
+
+wrong-item : (p : List ℕ → Option ℕ) (h : ListHead) (w : Written) (t : Open) → type_of p w ≡ Some t → list_of h t ≡ None → is_wrong_item h w ≡ true
+wrong-item p lists.Vec w t e n = absurd (none-some _ (sym n))
+wrong-item p lists.LinkedList w t e n = absurd (none-some _ (sym n))
+wrong-item p lists.SmallVec w t e n = no_array p w t e n
+wrong-item p lists.Array w t e n = absurd (none-some _ (sym n))
+
+wrong-one : (p : List ℕ → Option ℕ) (h : Head) (w : Written) (t : Open) → type_of p w ≡ Some t → of_one h t ≡ None → is_wrong_one h w ≡ true
+wrong-one p (heads.List h) w t e n = wrong-item p h w t e n
+wrong-one p (heads.Set h) w t e n = absurd (none-some _ (sym n))
+wrong-one p (heads.Map h) w t e n = refl
+wrong-one p heads.Option w t e n = absurd (none-some _ (sym n))
+wrong-one p (heads.Through h) w t e n = absurd (none-some _ (sym n))
+
+wrong-two : (h : Head) (k t : Open) → of_two h k t ≡ None → is_no_map h ≡ true
+wrong-two (heads.List h) k t n = refl
+wrong-two (heads.Set h) k t n = refl
+wrong-two (heads.Map h) k t n = absurd (none-some _ (sym n))
+wrong-two heads.Option k t n = refl
+wrong-two (heads.Through h) k t n = refl
+
+wrong-in : (p : List ℕ → Option ℕ) (h : Head) (ws : List Written) (ts : Opens) → Stand p ws ts → contained h ts ≡ None → are_wrong_in h ws ≡ true
+wrong-in p h [] types.no_types s n = refl
+wrong-in p h [] (types.more_types t ts) s n = absurd s
+wrong-in p h (w ∷ ws) types.no_types s n = absurd s
+wrong-in p h (w ∷ []) (types.more_types t types.no_types) s n = wrong-one p h w t s.0 n
+wrong-in p h (w ∷ []) (types.more_types t (types.more_types u us)) s n = absurd s.1
+wrong-in p h (w ∷ v ∷ ws) (types.more_types t types.no_types) s n = absurd s.1
+wrong-in p h (w ∷ v ∷ []) (types.more_types t (types.more_types u types.no_types)) s n = wrong-two h t u n
+wrong-in p h (w ∷ v ∷ []) (types.more_types t (types.more_types u (types.more_types x xs))) s n = absurd s.1.1
+wrong-in p h (w ∷ v ∷ y ∷ ws) (types.more_types t (types.more_types u us)) s n = refl
+
+any-alone : (p : List ℕ → Option ℕ) (a : Open) (ws : List Written) (ts : Opens) → Stand p ws ts → alone a ts ≡ None → are_any ws ≡ true
+any-alone p a [] types.no_types s n = absurd (none-some a (sym n))
+any-alone p a [] (types.more_types t ts) s n = absurd s
+any-alone p a (w ∷ ws) ts s n = refl
+
+pub wrong : (p : List ℕ → Option ℕ) (m : Meaning) (ws : List Written) (ts : Opens) → Stand p ws ts → meant m ts ≡ None → m ≢ meanings.Unknown → are_wrong m ws ≡ true
+wrong p (meanings.Container h) ws ts s n u = wrong-in p h ws ts s n
+wrong p (meanings.Leaf x) ws ts s n u = any-alone p (types.leaf x) ws ts s n
+wrong p meanings.Value ws ts s n u = any-alone p types.any_value ws ts s n
+wrong p meanings.Object ws ts s n u = any-alone p types.free_object ws ts s n
+wrong p (meanings.Declared d) ws ts s n u = any-alone p (types.named d types.no_types) ws ts s n
+wrong p meanings.Unknown ws ts s n u = absurd (u refl)

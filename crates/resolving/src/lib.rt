@@ -1,0 +1,17 @@
+//! What written types stand for: names looked up, type arguments counted.
+#![tactic(auto)]
+
+mod arguments;
+mod head;
+mod law;
+mod meaning;
+mod refusal;
+mod resolve;
+mod size;
+#[cfg(test)]
+mod tests;
+
+pub use head::Head;
+pub use law::{resolved_are_within, resolved_have_no_fault};
+pub use meaning::Meaning;
+pub use resolve::{MAX_NAMES, resolve_type};

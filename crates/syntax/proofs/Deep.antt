@@ -1,0 +1,198 @@
+-- Where readers of items stop for depth, a type nests too deep.
+use Rattle.std.proofs.Common.{◌≡◌, ◌∙◌, ℕ, zero, suc, inl, inr, List, [], ◌∷◌, ◌++◌, length, refl, ap, sym, subst, Bool, true, false, cond, Option, Some, None, Result, Ok, Err}
+use Rattle.diag.specs.declared.span.Span.{Span}
+use Rattle.tokens.specs.declared.token.Bracket.{Bracket}
+use Rattle.tokens.specs.declared.token.Bracket.TheVariants.{Round, Square, Curly}
+use Rattle.tokens.specs.Trees.{Trees}
+use Rattle.written_types.specs.Written.{Written}
+use Rattle.words.specs.declared.vocabulary.Keyword.TheVariants.{Struct, Use}
+use Rattle.words.specs.declared.vocabulary.Sign.TheVariants.{Colon, Comma, Semicolon, Hash, Exclamation}
+use Rattle.words.specs.Words.{Word, name, underscore, keyword, sign, lifetime, literal, doc, group, words_of}
+use Rattle.words.specs.Reading.{Fault, deep, Read, ◌>>=◌, first_as, as_name, as_keyword, as_sign, keyword_at, sign_at, group_at}
+use Rattle.type_grammar.specs.Reading.{type_at}
+use Rattle.syntax.specs.declared.item.Attribute.{Attribute}
+use Rattle.syntax.specs.Items.{FieldItems, unit, DeclaredItem}
+use Rattle.syntax.specs.ItemWords.{is_inner_doc, after_semicolon}
+use Rattle.syntax.specs.ItemGrammar.{IsDocs, IsVisibility, IsNamedField, IsUnnamedField}
+use Rattle.syntax.specs.ItemDepth.{most_levels, OpensNamed, in_named, OpensUnnamed, in_unnamed, OpensList, in_first, behind, OpensFields, in_named_fields, in_unnamed_fields, OpensItems, in_struct, behind_use, behind_struct, OpensSource, behind_inner_doc, behind_inner_attribute, in_items}
+use Rattle.syntax.specs.ItemReading.{docs_at, after_visibility, named_field_at, unnamed_field_at, after_comma, turn_at, many_at, many_of, itself, list_of, fields_in, fields_at, struct_at, left_by, use_or_struct, item_at, kept, after_inner_attribute, inner_at, inner_from, after_inner_within, after_inner, source_at}
+use Rattle.syntax.proofs.Read.{bind_ok, bind_err, ok_is, first_shallow}
+use Rattle.syntax.proofs.Stands.{name-is, keyword-is, sign-is, group-is}
+use Rattle.syntax.proofs.Fronts.{docs_sound, visibility_sound}
+use Rattle.syntax.proofs.Types.{type_sound, deep_opens}
+use Rattle.syntax.proofs.Sound.{comma_read, turn_sound, ItemRead}
+use Rattle.syntax.proofs.Sound as sound
+
+abbrev ty : List Word → Read Written
+ty = type_at most_levels
+
+-- what reads on after a word that is never deep
+past : {A B : Type 0} (kind : Word → Option A) (ws : List Word) (f : A × List Word → Result B Fault) (at : Span) → (first_as kind ws >>= f) ≡ Err (deep at) → (p : A × List Word) × (first_as kind ws ≡ Ok p) × (f p ≡ Err (deep at))
+past kind ws f at e = elim (bind_err (first_as kind ws) e) [
+  | inl h ↦ absurd (first_shallow kind ws at h)
+  | inr h ↦ h
+]
+
+-- nothing that only hands on its result is deep
+handed_on : {A B : Type 0} (r : Result A Fault) (f : A → B) (at : Span) → (r >>= λ x. Ok (f x)) ≡ Err (deep at) → r ≡ Err (deep at)
+handed_on (Ok x) f at e = cc
+handed_on (Err y) f at e = cc
+
+comma_shallow : (ws : List Word) (at : Span) → after_comma ws ≡ Err (deep at) → ⊥
+comma_shallow [] at e = cc
+comma_shallow (w ∷ ws) at e = first_shallow (as_sign Comma) (w ∷ ws) at (handed_on (sign_at Comma (w ∷ ws)) (λ p. p.1) at e)
+
+turn_deep : {A : Type 0} (item : List Word → Read A) (ws : List Word) (at : Span) → turn_at item ws ≡ Err (deep at) → item ws ≡ Err (deep at)
+unfolding turn_at
+turn_deep item ws at e = elim (bind_err (item ws) e) [
+  | inl h ↦ h
+  | inr h ↦ absurd (comma_shallow h.0.1 at (handed_on (after_comma h.0.1) (λ rest. (h.0.0, rest)) at h.2))
+]
+
+none_deep : {A B : Type 0} (keep : A → List B) (item : List Word → Read A) (n : ℕ) (at : Span) → many_at keep item n [] ≡ Err (deep at) → ⊥
+unfolding many_at
+none_deep keep item zero at e = cc
+none_deep keep item (suc n) at e = cc
+
+module _ {A : Type 0} (item : List Word → Read A) (IsItem : List Word → A → List Word → Type 0) (Opens : List Word → Span → Type 0)
+    (item_sound : (ws : List Word) (x : A) (rest : List Word) → item ws ≡ Ok (x, rest) → IsItem ws x rest) (item_deep : (ws : List Word) (at : Span) → item ws ≡ Err (deep at) → Opens ws at) where
+  list_within : (n : ℕ) (ws : List Word) (at : Span) → many_at itself (turn_at item) n ws ≡ Err (deep at) → OpensList IsItem Opens ws at
+  unfolding many_at
+  list_within zero ws at e = cc
+  list_within (suc n) [] at e = cc
+  list_within (suc n) (w ∷ ws) at e = elim (bind_err (turn_at item (w ∷ ws)) e) [
+    | inl h ↦ in_first (item_deep (w ∷ ws) at (turn_deep item (w ∷ ws) at h))
+    | inr h ↦
+        let others = handed_on (many_at itself (turn_at item) n h.0.1) (λ xs. h.0.0 ∷ xs) at h.2 in
+        let t = turn_sound item (w ∷ ws) h.0.0 h.0.1 h.1 in
+        elim (comma_read t.0 h.0.1 t.2) [
+          | inl k ↦ absurd (none_deep itself (turn_at item) n at (subst (λ v. many_at itself (turn_at item) n v ≡ Err (deep at)) k.1 others))
+          | inr k ↦ behind (item_sound (w ∷ ws) h.0.0 _ (subst (λ v. item (w ∷ ws) ≡ Ok (h.0.0, v)) k.1 t.1)) (list_within n h.0.1 at others)
+        ]
+  ]
+
+  pub list_deep : (ws : List Word) (at : Span) → list_of item ws ≡ Err (deep at) → OpensList IsItem Opens ws at
+  unfolding many_of
+  list_deep ws at e = list_within (suc (length ws)) ws at e
+
+named_deep : (ws : List Word) (at : Span) → named_field_at ty ws ≡ Err (deep at) → OpensNamed ws at
+unfolding named_field_at
+named_deep ws at e =
+    let d = docs_at ws in
+    let us = after_visibility false d.1 in
+    let x = past as_name us _ at e in
+    let c = past (as_sign Colon) x.0.1 _ at x.2 in
+    let is : us ≡ name x.0.0 ∷ sign Colon c.0.0 ∷ c.0.1 = name-is us x.0 x.1 ∙ ap (λ v. name x.0.0 ∷ v) (sign-is Colon x.0.1 c.0 c.1) in
+    in_named (docs_sound ws) (subst (λ v. IsVisibility d.1 v) is (visibility_sound false d.1)) (deep_opens most_levels c.0.1 at (handed_on (ty c.0.1) _ at c.2))
+
+unnamed_deep : (ws : List Word) (at : Span) → unnamed_field_at ty ws ≡ Err (deep at) → OpensUnnamed ws at
+unfolding unnamed_field_at
+unnamed_deep ws at e =
+    let d = docs_at ws in
+    let us = after_visibility true d.1 in
+    in_unnamed (docs_sound ws) (visibility_sound true d.1) (deep_opens most_levels us at (handed_on (ty us) _ at e))
+
+fields_in_deep : (b : Bracket) (inside : Trees) (s : Span) (ws : List Word) (at : Span) → fields_in ty b (words_of inside) ws ≡ Err (deep at) → OpensFields (group b inside s ∷ ws) at
+fields_in_deep Curly inside s ws at e =
+    in_named_fields (list_deep (named_field_at ty) IsNamedField OpensNamed (sound.named_sound ty (type_sound most_levels)) named_deep (words_of inside) at (handed_on (list_of (named_field_at ty) (words_of inside)) _ at e))
+fields_in_deep Round inside s ws at e = elim (bind_err (list_of (unnamed_field_at ty) (words_of inside)) e) [
+  | inl h ↦ in_unnamed_fields (list_deep (unnamed_field_at ty) IsUnnamedField OpensUnnamed (sound.unnamed_sound ty (type_sound most_levels)) unnamed_deep (words_of inside) at h)
+  | inr h ↦ absurd (first_shallow (as_sign Semicolon) ws at (handed_on (sign_at Semicolon ws) _ at h.2))
+]
+fields_in_deep Square inside s ws at e = cc
+
+abbrev unit_of : Span × List Word → FieldItems × List Word
+unit_of end = (unit, end.1)
+
+unit_deep : (ws : List Word) (at : Span) → (sign_at Semicolon ws >>= λ end. Ok (unit_of end)) ≡ Err (deep at) → OpensFields ws at
+unit_deep ws at e = absurd (first_shallow (as_sign Semicolon) ws at (handed_on (sign_at Semicolon ws) unit_of at e))
+
+fields_deep : (ws : List Word) (at : Span) → fields_at ty ws ≡ Err (deep at) → OpensFields ws at
+unfolding fields_at
+fields_deep [] at e = cc
+fields_deep (name x ∷ ws) at e = unit_deep (name x ∷ ws) at e
+fields_deep (underscore x ∷ ws) at e = unit_deep (underscore x ∷ ws) at e
+fields_deep (keyword k x ∷ ws) at e = unit_deep (keyword k x ∷ ws) at e
+fields_deep (sign k s ∷ ws) at e = unit_deep (sign k s ∷ ws) at e
+fields_deep (lifetime x ∷ ws) at e = unit_deep (lifetime x ∷ ws) at e
+fields_deep (literal t ∷ ws) at e = unit_deep (literal t ∷ ws) at e
+fields_deep (doc t ∷ ws) at e = unit_deep (doc t ∷ ws) at e
+fields_deep (group b inside s ∷ ws) at e = fields_in_deep b inside s ws at e
+
+struct_deep : (ws us : List Word) (docs : List Attribute) (start : List Word) (at : Span) → IsDocs ws docs start → IsVisibility start us → struct_at ty docs start us ≡ Err (deep at) → OpensItems ws at
+unfolding struct_at
+struct_deep ws us docs start at ds v e =
+    let k = past (as_keyword Struct) us _ at e in
+    let x = past as_name k.0.1 _ at k.2 in
+    let word = keyword-is Struct us k.0 k.1 in
+    let is : us ≡ keyword Struct word.0 ∷ name x.0.0 ∷ x.0.1 = word.1 ∙ ap (λ v. keyword Struct word.0 ∷ v) (name-is k.0.1 x.0 x.1) in
+    in_struct ds (subst (λ v. IsVisibility start v) is v) (fields_deep x.0.1 at (handed_on (fields_at ty x.0.1) _ at x.2))
+
+left_shallow : (r : Option (List Word)) (at : Span) → left_by r ≡ Err (deep at) → ⊥
+left_shallow None at e = cc
+left_shallow (Some rest) at e = cc
+
+item_from_deep : (ws start us : List Word) (docs : List Attribute) (at : Span) (r : Read Span) → IsDocs ws docs start → IsVisibility start us → use_or_struct ty docs start us r ≡ Err (deep at) → OpensItems ws at
+item_from_deep ws start us docs at (Ok u) ds v e = absurd (left_shallow (after_semicolon u.1) at e)
+item_from_deep ws start us docs at (Err f) ds v e = struct_deep ws us docs start at ds v (handed_on (struct_at ty docs start us) _ at e)
+
+item_deep : (ws : List Word) (at : Span) → item_at ty ws ≡ Err (deep at) → OpensItems ws at
+unfolding item_at
+item_deep ws at e = let d = docs_at ws in let us = after_visibility false d.1 in item_from_deep ws d.1 us d.0 at (keyword_at Use us) (docs_sound ws) (visibility_sound false d.1) e
+
+more_deep : (ws rest : List Word) (o : Option DeclaredItem) (at : Span) → ItemRead ws o rest → OpensItems rest at → OpensItems ws at
+more_deep ws rest None at r h = behind_use r h
+more_deep ws rest (Some d) at r h = behind_struct r h
+
+items_within : (n : ℕ) (ws : List Word) (at : Span) → many_at kept (item_at ty) n ws ≡ Err (deep at) → OpensItems ws at
+unfolding many_at
+items_within zero ws at e = cc
+items_within (suc n) [] at e = cc
+items_within (suc n) (w ∷ ws) at e = elim (bind_err (item_at ty (w ∷ ws)) e) [
+  | inl h ↦ item_deep (w ∷ ws) at h
+  | inr h ↦ more_deep (w ∷ ws) h.0.1 h.0.0 at (sound.item_sound ty (type_sound most_levels) (w ∷ ws) h.0.0 h.0.1 h.1)
+      (items_within n h.0.1 at (handed_on (many_at kept (item_at ty) n h.0.1) (λ xs. kept h.0.0 ++ xs) at h.2))
+]
+
+-- ---- a source
+inner_doc_from : (w : Word) (ws : List Word) (at : Span) → is_inner_doc w ≡ true → OpensSource ws at → OpensSource (w ∷ ws) at
+inner_doc_from (name x) ws at e r = cc
+inner_doc_from (underscore x) ws at e r = cc
+inner_doc_from (keyword k x) ws at e r = cc
+inner_doc_from (sign k s) ws at e r = cc
+inner_doc_from (lifetime x) ws at e r = cc
+inner_doc_from (literal t) ws at e r = cc
+inner_doc_from (doc t) ws at e r = behind_inner_doc e r
+inner_doc_from (group b ts s) ws at e r = cc
+
+inner_attribute_from : (ws us : List Word) (at : Span) → after_inner_attribute ws ≡ Ok us → OpensSource us at → OpensSource ws at
+inner_attribute_from ws us at e r =
+    let h = bind_ok (sign_at Hash ws) e in
+    let x = bind_ok (sign_at Exclamation h.0.1) h.2 in
+    let g = bind_ok (group_at Square x.0.1) x.2 in
+    let same : g.0.1 ≡ us = ok_is g.2 in
+    let is : ws ≡ sign Hash h.0.0 ∷ sign Exclamation x.0.0 ∷ group Square g.0.0.0 g.0.0.1 ∷ us =
+    sign-is Hash ws h.0 h.1 ∙ ap (λ v. sign Hash h.0.0 ∷ v) (sign-is Exclamation h.0.1 x.0 x.1 ∙ ap (λ v. sign Exclamation x.0.0 ∷ v) (group-is Square x.0.1 g.0 g.1 ∙ ap (λ v. group Square g.0.0.0 g.0.0.1 ∷ v) same)) in
+    subst (λ v. OpensSource v at) (sym is) (behind_inner_attribute r)
+
+inner_step_from : (w : Word) (ws us : List Word) (at : Span) (b : Bool) → is_inner_doc w ≡ b → cond b (Ok ws) (after_inner_attribute (w ∷ ws)) ≡ Ok us → OpensSource us at → OpensSource (w ∷ ws) at
+inner_step_from w ws us at true is e r = inner_doc_from w ws at is (subst (λ v. OpensSource v at) (sym (ok_is e)) r)
+inner_step_from w ws us at false is e r = inner_attribute_from (w ∷ ws) us at e r
+
+inner_step_opens : (ws us : List Word) (at : Span) → inner_at ws ≡ Ok us → OpensSource us at → OpensSource ws at
+inner_step_opens [] us at e r = cc
+inner_step_opens (w ∷ ws) us at e r = inner_step_from w ws us at (is_inner_doc w) refl e r
+
+inner_from_opens : (again : List Word → List Word) (ws : List Word) (at : Span) (r : Result (List Word) Fault) → inner_at ws ≡ r → ((us : List Word) → OpensSource (again us) at → OpensSource us at)
+    → OpensSource (inner_from again ws r) at → OpensSource ws at
+inner_from_opens again ws at (Err e) is others h = h
+inner_from_opens again ws at (Ok us) is others h = inner_step_opens ws us at is (others us h)
+
+inner_within_opens : (n : ℕ) (ws : List Word) (at : Span) → OpensSource (after_inner_within n ws) at → OpensSource ws at
+unfolding after_inner_within
+inner_within_opens zero ws at h = h
+inner_within_opens (suc n) ws at h = inner_from_opens (after_inner_within n) ws at (inner_at ws) refl (λ us r. inner_within_opens n us at r) h
+
+pub source_deep : (ws : List Word) (at : Span) → source_at ty ws ≡ Err (deep at) → OpensSource ws at
+unfolding source_at many_of after_inner
+source_deep ws at e = inner_within_opens (length ws) ws at (in_items (items_within _ (after_inner_within (length ws) ws) at e))

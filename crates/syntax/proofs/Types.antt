@@ -1,0 +1,90 @@
+-- What items need of types.
+use Rattle.std.proofs.Common.{◌≡◌, ◌<◌, ◌⊎◌, ℕ, List, [], ◌∷◌, length, ap, sym, ◌∙◌, arith, true, Ok, Err}
+use Rattle.diag.specs.declared.span.Span.{Span}
+use Rattle.tokens.specs.declared.token.Bracket.TheVariants.{Round}
+use Rattle.tokens.specs.Trees.{Trees}
+use Rattle.written_types.specs.Written.{Written}
+use Rattle.words.specs.declared.vocabulary.Keyword.TheVariants as keywords
+use Rattle.words.specs.Words.{Word, name, underscore, keyword, sign, lifetime, literal, doc, group, words_of}
+use Rattle.words.specs.Reading.{deep, Read, ◌>>=◌}
+use Rattle.type_grammar.specs.declared.starts.Bounds.TheVariants.{Any}
+use Rattle.type_grammar.specs.Starts.{Stops, begins_type}
+use Rattle.type_grammar.specs.Grammar.{IsType, pathed, referred, wrapped, unit, several, sliced, arrayed, object}
+use Rattle.type_grammar.specs.Opening.{OpensType}
+use Rattle.type_grammar.specs.Reading.{type_at, type_in, type_step, path_at, segments_in, segments_at, segment_at, round_at}
+use Rattle.type_grammar.proofs.Sound as sound
+use Rattle.type_grammar.proofs.Complete as complete
+use Rattle.type_grammar.proofs.Deep as opening
+use Rattle.type_grammar.proofs.Measures as measures
+use Rattle.type_grammar.proofs.Unique as unique
+use Rattle.syntax.specs.ItemWords.{is_restriction}
+use Rattle.syntax.specs.ItemDepth.{most_levels}
+
+pub type_sound : (n : ℕ) (ws : List Word) (t : Written) (rest : List Word) → type_at n ws ≡ Ok (t, rest) → IsType ws t rest
+type_sound n ws t rest e = sound.type_sound n Any ws t rest e
+
+pub type_shorter : {ws rest : List Word} {t : Written} → IsType ws t rest → length rest < length ws
+type_shorter {ws = ws} {rest = rest} r = measures.fewer_words ws rest (measures.type_lighter (λ w. 0) r)
+
+pub type_complete : {ws rest : List Word} {t : Written} → IsType ws t rest → Stops rest → (n : ℕ) → (type_at n ws ≡ Ok (t, rest)) ⊎ ((at : Span) × (type_at n ws ≡ Err (deep at)))
+type_complete r stops n = complete.type_complete r stops n
+
+-- a type begins with a word that may begin one
+abbrev pub Begins : List Word → Type 0
+Begins ws = (w : Word) × (us : List Word) × (ws ≡ w ∷ us) × (begins_type w ≡ true)
+
+pub type_begins : {ws rest : List Word} {t : Written} → IsType ws t rest → Begins ws
+type_begins r = complete.type_begins r
+
+-- a type that begins with a group in round brackets is the group
+pub group_alone : {ws rest more : List Word} {t : Written} {g : Trees} {s : Span} → IsType ws t rest → ws ≡ group Round g s ∷ more → rest ≡ more
+group_alone (pathed p) e = let h = complete.path_starts p in cc
+group_alone (referred l m r) e = cc
+group_alone (wrapped r) e = cc
+group_alone unit e = cc
+group_alone (several r us) e = cc
+group_alone (sliced r) e = cc
+group_alone (arrayed r) e = cc
+group_alone (object l q p b) e = cc
+
+pub deep_opens : (n : ℕ) (ws : List Word) (at : Span) → type_at n ws ≡ Err (deep at) → OpensType n ws at
+deep_opens n ws at e = opening.deep_type n Any ws at e
+
+pub opens_deep : {n : ℕ} {ws : List Word} {at : Span} → OpensType n ws at → (found : Span) × (type_at n ws ≡ Err (deep found))
+opens_deep o = opening.opens_type o
+
+pub opens_begins : {n : ℕ} {ws : List Word} {at : Span} → OpensType n ws at → Begins ws
+opens_begins o = opening.opens_begins o
+
+-- the group that restricts `pub` is no deep type
+abbrev with_rest : List Word → Written → Read Written
+with_rest more t = Ok (t, more)
+
+scope_read : (us : List Word) (s : Span) (more : List Word) (at : Span) → is_restriction us ≡ true → (round_at (type_in 63) s us >>= with_rest more) ≡ Err (deep at) → ⊥
+unfolding round_at type_in type_step path_at segments_in segments_at segment_at
+scope_read [] s more at r e = cc
+scope_read (name x ∷ us) s more at r e = cc
+scope_read (underscore x ∷ us) s more at r e = cc
+scope_read (keyword keywords.Crate x ∷ []) s more at r e = cc
+scope_read (keyword keywords.Crate x ∷ w ∷ us) s more at r e = cc
+scope_read (keyword keywords.SelfValue x ∷ []) s more at r e = cc
+scope_read (keyword keywords.SelfValue x ∷ w ∷ us) s more at r e = cc
+scope_read (keyword keywords.Super x ∷ []) s more at r e = cc
+scope_read (keyword keywords.Super x ∷ w ∷ us) s more at r e = cc
+scope_read (keyword keywords.In x ∷ us) s more at r e = cc
+scope_read (keyword _ x ∷ us) s more at r e = cc
+scope_read (sign k a ∷ us) s more at r e = cc
+scope_read (lifetime x ∷ us) s more at r e = cc
+scope_read (literal t ∷ us) s more at r e = cc
+scope_read (doc t ∷ us) s more at r e = cc
+scope_read (group b g a ∷ us) s more at r e = cc
+
+pub scope_shallow : {ws more : List Word} {at s : Span} {g : Trees} → OpensType most_levels ws at → ws ≡ group Round g s ∷ more → is_restriction (words_of g) ≡ true → ⊥
+unfolding type_in type_step
+scope_shallow {ws = ws} {more = more} {s = s} {g = g} o e h = let d = opens_deep o in scope_read (words_of g) s more d.0 h (ap (type_at 64) (sym e) ∙ d.1)
+
+-- with enough levels, nothing is too deep
+pub deep_enough : (ws : List Word) → (n : ℕ) × ((at : Span) → type_at n ws ≡ Err (deep at) → ⊥)
+deep_enough ws =
+    let n = measures.total unique.inside ws in
+    (n, λ at e. let less : n < n = unique.opens_light (deep_opens n ws at e) in absurd (omega arith))

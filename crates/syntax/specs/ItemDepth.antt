@@ -1,0 +1,47 @@
+-- Where types of items nest too deep. Read from the left by the grammar, a part of a type begins at level 65, at the span.
+use Rattle.std.specs.Prelude.{◌≡◌, ℕ, List, ◌∷◌, true}
+use Rattle.diag.specs.declared.span.Span.{Span}
+use Rattle.tokens.specs.declared.token.Token.{Token}
+use Rattle.tokens.specs.declared.token.Bracket.TheVariants.{Round, Square, Curly}
+use Rattle.tokens.specs.Trees.{Trees}
+use Rattle.written_types.specs.declared.written.Ident.{Ident}
+use Rattle.words.specs.declared.vocabulary.Keyword.TheVariants.{Struct}
+use Rattle.words.specs.declared.vocabulary.Sign.TheVariants.{Colon, Comma, Hash, Exclamation}
+use Rattle.words.specs.Words.{Word, name, keyword, sign, doc, group, words_of}
+use Rattle.type_grammar.specs.Opening.{OpensType}
+use Rattle.syntax.specs.declared.item.Attribute.{Attribute}
+use Rattle.syntax.specs.Items.{DeclaredItem}
+use Rattle.syntax.specs.ItemWords.{is_inner_text}
+use Rattle.syntax.specs.ItemGrammar.{IsDocs, IsVisibility, IsNamedField, IsUnnamedField, IsUse, IsStruct}
+
+abbrev pub most_levels : ℕ
+most_levels = 64
+
+-- in a field's type
+pub data OpensNamed : List Word → Span → Type 0 where
+  in_named : {x : Ident} {s at : Span} {docs : List Attribute} {ws us vs : List Word} → IsDocs ws docs us → IsVisibility us (name x ∷ sign Colon s ∷ vs) → OpensType most_levels vs at → OpensNamed ws at
+
+pub data OpensUnnamed : List Word → Span → Type 0 where
+  in_unnamed : {at : Span} {docs : List Attribute} {ws us vs : List Word} → IsDocs ws docs us → IsVisibility us vs → OpensType most_levels vs at → OpensUnnamed ws at
+
+-- in a list: in its first item, or in those behind it
+pub data OpensList {A : Type 0} (IsItem : List Word → A → List Word → Type 0) (Opens : List Word → Span → Type 0) : List Word → Span → Type 0 where
+  in_first : {at : Span} {ws : List Word} → Opens ws at → OpensList IsItem Opens ws at
+  behind : {s at : Span} {ws mid : List Word} {x : A} → IsItem ws x (sign Comma s ∷ mid) → OpensList IsItem Opens mid at → OpensList IsItem Opens ws at
+
+-- in what follows the name of a struct
+pub data OpensFields : List Word → Span → Type 0 where
+  in_named_fields : {inside : Trees} {s at : Span} {rest : List Word} → OpensList IsNamedField OpensNamed (words_of inside) at → OpensFields (group Curly inside s ∷ rest) at
+  in_unnamed_fields : {inside : Trees} {s at : Span} {rest : List Word} → OpensList IsUnnamedField OpensUnnamed (words_of inside) at → OpensFields (group Round inside s ∷ rest) at
+
+-- in items
+pub data OpensItems : List Word → Span → Type 0 where
+  in_struct : {x y : Ident} {at : Span} {docs : List Attribute} {ws us vs : List Word} → IsDocs ws docs us → IsVisibility us (keyword Struct x ∷ name y ∷ vs) → OpensFields vs at → OpensItems ws at
+  behind_use : {at : Span} {ws rest : List Word} → IsUse ws rest → OpensItems rest at → OpensItems ws at
+  behind_struct : {at : Span} {ws rest : List Word} {d : DeclaredItem} → IsStruct ws d rest → OpensItems rest at → OpensItems ws at
+
+-- in a source
+pub data OpensSource : List Word → Span → Type 0 where
+  behind_inner_doc : {t : Token} {at : Span} {ws : List Word} → is_inner_text t.text ≡ true → OpensSource ws at → OpensSource (doc t ∷ ws) at
+  behind_inner_attribute : {h e s at : Span} {inside : Trees} {ws : List Word} → OpensSource ws at → OpensSource (sign Hash h ∷ sign Exclamation e ∷ group Square inside s ∷ ws) at
+  in_items : {at : Span} {ws : List Word} → OpensItems ws at → OpensSource ws at

@@ -1,0 +1,163 @@
+-- Reading items from left to right, as functions. Types are read by ty.
+use Rattle.std.specs.Prelude.{◌≡◌, ◌≤◌, ◌⊎◌, ℕ, zero, suc, List, [], ◌∷◌, ◌++◌, length, codes, Bool, true, false, not, cond, ◌&&◌, is_some, Option, Some, None, Result, Ok, Err}
+use Rattle.diag.specs.Refusal.{IsRefusal}
+use Rattle.diag.specs.declared.error.DeriveError.{DeriveError}
+use Rattle.diag.specs.declared.error.DeriveError.TheVariants as errors
+use Rattle.diag.specs.declared.kind.Kind.TheVariants as kinds
+use Rattle.diag.specs.declared.span.Span.{Span}
+use Rattle.tokens.specs.declared.token.Bracket.{Bracket}
+use Rattle.tokens.specs.declared.token.Bracket.TheVariants.{Round, Square, Curly}
+use Rattle.written_types.specs.declared.written.Ident.{Ident}
+use Rattle.written_types.specs.Written.{Written}
+use Rattle.words.specs.declared.vocabulary.Keyword.TheVariants.{Pub, Struct, Use}
+use Rattle.words.specs.declared.vocabulary.Sign.TheVariants.{Colon, Comma, Semicolon, Hash, Exclamation}
+use Rattle.words.specs.declared.stopping.Stop.{Stop}
+use Rattle.words.specs.declared.stopping.Stop.TheVariants as stop
+use Rattle.words.specs.Words.{Word, group, words_of}
+use Rattle.words.specs.Reading.{Fault, wrong, Read, ◌>>=◌, as_sign, name_at, keyword_at, sign_at, group_at}
+use Rattle.syntax.specs.declared.item.Attribute.{Attribute}
+use Rattle.syntax.specs.Items.{FieldItem, FieldItems, named, unnamed, unit, struct_body, DeclaredItem}
+use Rattle.syntax.specs.ItemWords.{as_outer_doc, is_inner_doc, after_semicolon, is_restriction, spanning}
+
+-- outer-doc*, and what follows
+abbrev pub docs_from : Option Attribute → List Word → List Attribute × List Word → List Attribute × List Word
+docs_from None ws others = ([], ws)
+docs_from (Some a) ws others = (a ∷ others.0, others.1)
+
+abbrev pub docs_at : List Word → List Attribute × List Word
+docs_at [] = ([], [])
+docs_at (w ∷ ws) = docs_from (as_outer_doc w) (w ∷ ws) (docs_at ws)
+
+-- what follows vis?; behind `pub`, where an unnamed field may end, a group is its type
+abbrev pub is_scope : Word → Bool
+is_scope (group Round inside s) = is_restriction (words_of inside)
+is_scope _ = false
+
+abbrev pub ends_item : List Word → Bool
+ends_item [] = true
+ends_item (w ∷ ws) = is_some (as_sign Comma w)
+
+abbrev pub after_scope : Bool → List Word → List Word
+after_scope in_tuple [] = []
+after_scope in_tuple (w ∷ ws) = cond (is_scope w && not (in_tuple && ends_item ws)) ws (w ∷ ws)
+
+abbrev pub after_pub : Bool → List Word → Read Span → List Word
+after_pub in_tuple ws (Ok p) = after_scope in_tuple p.1
+after_pub in_tuple ws (Err e) = ws
+
+unfoldable pub after_visibility : Bool → List Word → List Word
+after_visibility in_tuple ws = after_pub in_tuple ws (keyword_at Pub ws)
+
+abbrev pub field_of : List Attribute → Option Ident → List Word → Written × List Word → FieldItem × List Word
+field_of docs x start t = (record { attrs = docs; ident = x; ty = t.0; span = spanning start t.1 }, t.1)
+
+unfoldable pub named_field_at : (List Word → Read Written) → List Word → Read FieldItem
+named_field_at ty ws =
+    let d = docs_at ws in
+    name_at (after_visibility false d.1) >>= λ x. sign_at Colon x.1 >>= λ c. ty c.1 >>= λ t. Ok (field_of d.0 (Some x.0) d.1 t)
+
+unfoldable pub unnamed_field_at : (List Word → Read Written) → List Word → Read FieldItem
+unnamed_field_at ty ws = let d = docs_at ws in ty (after_visibility true d.1) >>= λ t. Ok (field_of d.0 None d.1 t)
+
+-- what follows a comma, or nothing where nothing is left
+abbrev pub after_comma : List Word → Result (List Word) Fault
+after_comma [] = Ok []
+after_comma (w ∷ ws) = sign_at Comma (w ∷ ws) >>= λ p. Ok p.1
+
+-- an item, and the comma behind it
+unfoldable pub turn_at : {A : Type 0} → (List Word → Read A) → List Word → Read A
+turn_at item ws = item ws >>= λ p. after_comma p.1 >>= λ rest. Ok (p.0, rest)
+
+-- what is kept of each item, up to the end of the words, with a bound on the number of items
+unfoldable pub many_at : {A B : Type 0} → (A → List B) → (List Word → Read A) → ℕ → List Word → Result (List B) Fault
+many_at keep item zero ws = Err wrong
+many_at keep item (suc n) [] = Ok []
+many_at keep item (suc n) (w ∷ ws) = item (w ∷ ws) >>= λ p. many_at keep item n p.1 >>= λ xs. Ok (keep p.0 ++ xs)
+
+unfoldable pub many_of : {A B : Type 0} → (A → List B) → (List Word → Read A) → List Word → Result (List B) Fault
+many_of keep item ws = many_at keep item (suc (length ws)) ws
+
+abbrev pub itself : {A : Type 0} → A → List A
+itself x = x ∷ []
+
+-- all of the words, as a list of items
+abbrev pub list_of : {A : Type 0} → (List Word → Read A) → List Word → Result (List A) Fault
+list_of item ws = many_of itself (turn_at item) ws
+
+-- what follows the name of a struct
+abbrev pub fields_in : (List Word → Read Written) → Bracket → List Word → List Word → Read FieldItems
+fields_in ty Curly inside ws = list_of (named_field_at ty) inside >>= λ fs. Ok (named fs, ws)
+fields_in ty Round inside ws = list_of (unnamed_field_at ty) inside >>= λ fs. sign_at Semicolon ws >>= λ end. Ok (unnamed fs, end.1)
+fields_in ty Square inside ws = Err wrong
+
+unfoldable pub fields_at : (List Word → Read Written) → List Word → Read FieldItems
+fields_at ty [] = Err wrong
+fields_at ty (group b inside s ∷ ws) = fields_in ty b (words_of inside) ws
+fields_at ty (w ∷ ws) = sign_at Semicolon (w ∷ ws) >>= λ end. Ok (unit, end.1)
+
+abbrev pub declared_of : List Attribute → Ident → List Word → FieldItems × List Word → DeclaredItem × List Word
+declared_of docs x start fs = (record { attrs = docs; ident = x; body = struct_body fs.0; span = spanning start fs.1 }, fs.1)
+
+-- a struct whose docs and visibility were read
+unfoldable pub struct_at : (List Word → Read Written) → List Attribute → List Word → List Word → Read DeclaredItem
+struct_at ty docs start ws = keyword_at Struct ws >>= λ s. name_at s.1 >>= λ x. fields_at ty x.1 >>= λ fs. Ok (declared_of docs x.0 start fs)
+
+abbrev pub left_by : Option (List Word) → Read (Option DeclaredItem)
+left_by None = Err wrong
+left_by (Some rest) = Ok (None, rest)
+
+-- a `use` line, of which nothing is kept, or a struct
+abbrev pub use_or_struct : (List Word → Read Written) → List Attribute → List Word → List Word → Read Span → Read (Option DeclaredItem)
+use_or_struct ty docs start ws (Ok u) = left_by (after_semicolon u.1)
+use_or_struct ty docs start ws (Err e) = struct_at ty docs start ws >>= λ d. Ok (Some d.0, d.1)
+
+unfoldable pub item_at : (List Word → Read Written) → List Word → Read (Option DeclaredItem)
+item_at ty ws =
+    let d = docs_at ws in
+    let us = after_visibility false d.1 in
+    use_or_struct ty d.0 d.1 us (keyword_at Use us)
+
+abbrev pub kept : Option DeclaredItem → List DeclaredItem
+kept None = []
+kept (Some d) = d ∷ []
+
+-- an inner doc comment, or an inner attribute; what follows
+abbrev pub after_inner_attribute : List Word → Result (List Word) Fault
+after_inner_attribute ws = sign_at Hash ws >>= λ h. sign_at Exclamation h.1 >>= λ e. group_at Square e.1 >>= λ g. Ok g.1
+
+abbrev pub inner_at : List Word → Result (List Word) Fault
+inner_at [] = Err wrong
+inner_at (w ∷ ws) = cond (is_inner_doc w) (Ok ws) (after_inner_attribute (w ∷ ws))
+
+abbrev pub inner_from : (List Word → List Word) → List Word → Result (List Word) Fault → List Word
+inner_from again ws (Ok us) = again us
+inner_from again ws (Err e) = ws
+
+-- with a bound on their number
+unfoldable pub after_inner_within : ℕ → List Word → List Word
+after_inner_within zero ws = ws
+after_inner_within (suc n) ws = inner_from (after_inner_within n) ws (inner_at ws)
+
+unfoldable pub after_inner : List Word → List Word
+after_inner ws = after_inner_within (length ws) ws
+
+abbrev pub items_at : (List Word → Read Written) → List Word → Result (List DeclaredItem) Fault
+items_at ty ws = many_of kept (item_at ty) ws
+
+unfoldable pub source_at : (List Word → Read Written) → List Word → Result (List DeclaredItem) Fault
+source_at ty ws = items_at ty (after_inner ws)
+
+-- r with more at its front
+abbrev pub with_front : {A : Type 0} → List A → Result (List A) Fault → Result (List A) Fault
+with_front front r = r >>= λ xs. Ok (front ++ xs)
+
+-- an error of the kind at a span of a text with so many bytes
+abbrev pub IsPlaced : ℕ → DeriveError → Type 0
+IsPlaced bytes e = (span : Span) × IsRefusal kinds.Syntax span (codes "unexpected text in a declaration") e × (span.end ≤ bytes)
+
+-- the error that tells why reading stopped, in a text of so many bytes
+abbrev pub IsRefusalOf : Stop → ℕ → DeriveError → Type 0
+IsRefusalOf (stop.Unexpected at) bytes e = (e ≡ errors.Memory) ⊎ IsPlaced bytes e
+IsRefusalOf stop.Ended bytes e = (e ≡ errors.Memory) ⊎ IsPlaced bytes e
+IsRefusalOf (stop.Deep at) bytes e = (e ≡ errors.Memory) ⊎ IsRefusal kinds.TooDeep at (codes "nesting is deeper than 64") e
+IsRefusalOf stop.Memory bytes e = e ≡ errors.Memory

@@ -1,0 +1,53 @@
+-- Fields and declarations, without where they lie in memory (The Rust Reference, "Structs").
+use Rattle.std.specs.Prelude.{List, Option, map}
+use Rattle.diag.specs.declared.span.Span.{Span}
+use Rattle.written_types.specs.declared.written.Ident.{Ident}
+use Rattle.written_types.specs.Written.{Written, written_view}
+use Rattle.syntax.specs.declared.item.Attribute.{Attribute}
+use Rattle.syntax.specs.declared.item.Field.{Field}
+use Rattle.syntax.specs.declared.item.Fields.{Fields}
+use Rattle.syntax.specs.declared.item.Fields.TheVariants as forms
+use Rattle.syntax.specs.declared.item.Body.{Body}
+use Rattle.syntax.specs.declared.item.Body.TheVariants as bodies
+use Rattle.syntax.specs.declared.item.Declaration.{Declaration}
+use Rattle.syntax.specs.declared.item.Declarations.{Declarations}
+
+-- a field with its docs, its name where it has one, and its type
+pub record FieldItem : Type 0 where
+  pub attrs : List Attribute
+  pub ident : Option Ident
+  pub ty : Written
+  pub span : Span
+
+-- fields with names, fields without, and none
+pub data FieldItems : Type 0 where
+  named : List FieldItem → FieldItems
+  unnamed : List FieldItem → FieldItems
+  unit : FieldItems
+
+pub data BodyItem : Type 0 where
+  struct_body : FieldItems → BodyItem
+
+pub record DeclaredItem : Type 0 where
+  pub attrs : List Attribute
+  pub ident : Ident
+  pub body : BodyItem
+  pub span : Span
+
+-- what the program's values are
+abbrev pub field_view : Field → FieldItem
+field_view f = record { attrs = f.attrs; ident = f.ident; ty = written_view f.ty; span = f.span }
+
+abbrev pub fields_view : Fields → FieldItems
+fields_view (forms.Named fs) = named (map field_view fs)
+fields_view (forms.Unnamed fs) = unnamed (map field_view fs)
+fields_view forms.Unit = unit
+
+abbrev pub body_view : Body → BodyItem
+body_view (bodies.Struct fs) = struct_body (fields_view fs)
+
+abbrev pub declaration_view : Declaration → DeclaredItem
+declaration_view d = record { attrs = d.attrs; ident = d.ident; body = body_view d.body; span = d.span }
+
+abbrev pub declarations_view : Declarations → List DeclaredItem
+declarations_view ds = map declaration_view ds.items

@@ -1,0 +1,64 @@
+use diag::{List, Span, Text};
+use written_types::{Ident, WrittenType};
+
+/// What an attribute says.
+#[derive(Debug, Drop, PartialEq, Eq)]
+pub enum Meta {
+    /// The text of a doc comment: what follows its first three characters, without a closing `*/`.
+    Doc(Text),
+}
+
+/// An attribute. Its span is the whole comment. Two are equal where they say the same.
+#[derive(Debug, Drop)]
+#[derive_where(PartialEq, Eq)]
+pub struct Attribute {
+    pub meta: Meta,
+    #[derive_where(skip(EqHashOrd))]
+    pub span: Span,
+}
+
+/// A field of a struct, without a name where its form has none. The span goes from the visibility, or else from the
+/// name or the type, to the end of the type.
+#[derive(Debug, Drop)]
+#[derive_where(PartialEq, Eq)]
+pub struct Field {
+    pub attrs: List<Attribute>,
+    pub ident: Option<Ident>,
+    pub ty: WrittenType,
+    #[derive_where(skip(EqHashOrd))]
+    pub span: Span,
+}
+
+/// The three forms of fields: `{ a: T }`, `(T)` and none.
+#[derive(Debug, Drop)]
+#[derive_where(PartialEq, Eq)]
+pub enum Fields {
+    Named(List<Field>),
+    Unnamed(List<Field>),
+    Unit,
+}
+
+/// What a declaration declares.
+#[derive(Debug, Drop)]
+#[derive_where(PartialEq, Eq)]
+pub enum Body {
+    Struct(Fields),
+}
+
+/// A declaration. The span goes from its visibility, or else from `struct`, to its last token.
+#[derive(Debug, Drop)]
+#[derive_where(PartialEq, Eq)]
+pub struct Declaration {
+    pub attrs: List<Attribute>,
+    pub ident: Ident,
+    pub body: Body,
+    #[derive_where(skip(EqHashOrd))]
+    pub span: Span,
+}
+
+/// The declarations of a source, in order.
+#[derive(Debug, Drop)]
+#[derive_where(PartialEq, Eq)]
+pub struct Declarations {
+    pub items: List<Declaration>,
+}

@@ -1,0 +1,12 @@
+pub mod Steps
+pub mod Firsts
+pub mod Lists
+pub mod Chains
+pub mod Measures
+pub mod Found
+pub mod Optional
+pub mod Sound
+pub mod Complete
+pub mod Deep
+pub mod Unique
+pub mod Answered

@@ -1,0 +1,15 @@
+use Rattle.type_grammar.specs.declared.starts.Bounds.TheVariants.{Any}
+use Rattle.type_grammar.proofs.Sound.{type_sound, type_shortens}
+use Rattle.type_grammar.proofs.Complete.{type_complete}
+use Rattle.type_grammar.proofs.Deep.{deep_type, opens_type}
+use Rattle.type_grammar.proofs.read.types_are_read.Goals as goal
+
+pub returns : goal.returns
+returns c =
+    record {
+      found = λ n ws rest t e. type_sound n Any ws t rest e;
+      shorter = λ n ws rest t e. type_shortens n Any ws t rest e;
+      complete = λ n ws rest t r stops. type_complete r stops n;
+      deep = λ n ws at e. deep_type n Any ws at e;
+      opens = λ n ws at o. opens_type o;
+    }

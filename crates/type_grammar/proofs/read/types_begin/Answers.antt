@@ -1,0 +1,10 @@
+use Rattle.type_grammar.proofs.Complete.{type_begins}
+use Rattle.type_grammar.proofs.Deep.{opens_begins}
+use Rattle.type_grammar.proofs.read.types_begin.Goals as goal
+
+pub returns : goal.returns
+returns c =
+    record {
+      found = λ ws rest t r. type_begins r;
+      opens = λ n ws at o. opens_begins o;
+    }

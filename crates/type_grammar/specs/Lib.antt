@@ -1,0 +1,4 @@
+pub mod Starts
+pub mod Grammar
+pub mod Reading
+pub mod Opening

@@ -1,0 +1,32 @@
+//! The grammar of types.
+//!
+//! ```text
+//! type     = path | "&" lifetime? "mut"? type | "(" type ")" | "(" ")"
+//!          | "(" type "," list of type ")" | "[" type "]"
+//!          | "[" type ";" expr "]" | "dyn" bound ("+" bound)*
+//! bound    = lifetime | "?"? path
+//! path     = "::"? segment ("::" segment)*
+//! segment  = word ("::"? "<" list of argument ">")?
+//! argument = lifetime | constant | type
+//! constant = "-"? literal | "true" | "false" | curly-group
+//! ```
+//!
+//! A list has commas between its items, perhaps one at the end, and may be empty. A word is a name, `_`, `crate`, `self`,
+//! `super` or `Self`. An expr is one or more token trees up to the end of the brackets. A trait object has a path among its
+//! bounds, of which the first counts; in the paths of later bounds an argument may also be `name "=" type`. Behind `&` it
+//! has one bound.
+#![tactic(auto)]
+
+mod constants;
+mod parts;
+mod read;
+mod starts;
+#[cfg(test)]
+mod tests;
+mod types;
+
+pub use read::{
+    MAX_LEVELS, bounds_are_read, one_bound, one_type, read_type, types_are_read, types_begin,
+};
+pub use starts::Bounds;
+pub use types::{bound_at, type_at};

@@ -1,0 +1,19 @@
+//! Type trees: what a written type is for a schema, before its names are looked up (The Rust Reference, "Types").
+#![tactic(auto)]
+
+mod ask;
+mod build;
+mod copy;
+mod known_format;
+mod path;
+mod primitive;
+mod schema_type;
+#[cfg(test)]
+mod tests;
+mod tree;
+
+pub use known_format::KnownFormat;
+pub use path::SchemaPath;
+pub use primitive::PrimitiveType;
+pub use schema_type::SchemaType;
+pub use tree::{GenericType, TypeTree, ValueType};

@@ -1,0 +1,113 @@
+-- A text is among words only if its length is among theirs.
+use Rattle.std.proofs.Common.{◌≡◌, ℕ, ◌<◌, List, [], ◌∷◌, ◌++◌, length, refl, ap, ap₂, sym, ◌∙◌, arith, Bool, true, false, ◌&&◌, ◌||◌, ltb}
+use Rattle.std.specs.List.{list_all}
+use Rattle.std.specs.Str.{bytes_eq}
+use Rattle.std.proofs.lemmas.Bool.Decides.{nat_tests}
+use Rattle.std.proofs.Math.Bool.{or-false}
+use Rattle.std.proofs.lemmas.Slice.Eq.{bytes_eq-Decides}
+use Rattle.std.proofs.lemmas.List.Folds.{list_any-append}
+use Rattle.words.specs.Words.{is_among, is_reserved, reserved_words, reserved_of_2, reserved_of_3, reserved_of_4, reserved_of_5, reserved_of_6, reserved_of_7, reserved_of_8}
+
+both : (a b : Bool) → (a && b) ≡ true → (a ≡ true) × (b ≡ true)
+both true b e = (refl, e)
+both false b e = cc
+
+never : (b : Bool) → (b ≡ true → ⊥) → b ≡ false
+never true h = absurd (h refl)
+never false h = refl
+
+abbrev lengths_pass : (ℕ → Bool) → List (List ℕ) → Bool
+lengths_pass test words = list_all (λ word. test (length word)) words
+
+none_passes : (test : ℕ → Bool) (text : List ℕ) (words : List (List ℕ)) → lengths_pass test words ≡ true → test (length text) ≡ false → is_among text words ≡ false
+none_passes test text [] e h = refl
+none_passes test text (word ∷ words) e h =
+    let parts = both (test (length word)) (lengths_pass test words) e in
+    let other : bytes_eq text word ≡ false = never (bytes_eq text word) (λ k. let same = ap (λ w. test (length w)) ((bytes_eq-Decides text word).0 k) in cc) in
+    ap₂ (λ a b. a || b) other (none_passes test text words parts.1 h)
+
+abbrev shorter : ℕ → ℕ → Bool
+shorter n m = ltb m n
+
+abbrev longer : ℕ → ℕ → Bool
+longer n m = ltb n m
+
+not_shorter : (n m : ℕ) → m ≡ n → shorter n m ≡ false
+not_shorter n m e = grind (arith, nat_tests)
+
+not_longer : (n m : ℕ) → m ≡ n → longer n m ≡ false
+not_longer n m e = grind (arith, nat_tests)
+
+-- words that are all shorter, and words that are all longer, can be left out
+at_length : (n : ℕ) (text : List ℕ) (front middle back : List (List ℕ)) → length text ≡ n → lengths_pass (shorter n) front ≡ true → lengths_pass (longer n) back ≡ true
+    → is_among text middle ≡ is_among text (front ++ (middle ++ back))
+at_length n text front middle back e f b =
+    let same = λ (w : List ℕ). bytes_eq text w in
+    let before : is_among text (front ++ (middle ++ back)) ≡ is_among text (middle ++ back) =
+    list_any-append same front (middle ++ back) ∙ ap (λ v. v || is_among text (middle ++ back)) (none_passes (shorter n) text front f (not_shorter n (length text) e)) in
+    let after : is_among text (middle ++ back) ≡ is_among text middle =
+    list_any-append same middle back ∙ ap (λ v. is_among text middle || v) (none_passes (longer n) text back b (not_longer n (length text) e)) ∙ or-false (is_among text middle) in
+    sym (before ∙ after)
+
+within : (n : ℕ) → (1 < n → n < 9 → ⊥) → (ltb 1 n && ltb n 9) ≡ false
+within n h = never (ltb 1 n && ltb n 9) (λ e. let low : 1 < n = grind (arith, nat_tests) in let high : n < 9 = grind (arith, nat_tests) in h low high)
+
+abbrev to_3 : List (List ℕ)
+to_3 = reserved_of_2 ++ reserved_of_3
+
+abbrev to_4 : List (List ℕ)
+to_4 = to_3 ++ reserved_of_4
+
+abbrev to_5 : List (List ℕ)
+to_5 = to_4 ++ reserved_of_5
+
+abbrev to_6 : List (List ℕ)
+to_6 = to_5 ++ reserved_of_6
+
+abbrev from_7 : List (List ℕ)
+from_7 = reserved_of_7 ++ reserved_of_8
+
+abbrev from_6 : List (List ℕ)
+from_6 = reserved_of_6 ++ from_7
+
+abbrev from_5 : List (List ℕ)
+from_5 = reserved_of_5 ++ from_6
+
+abbrev from_4 : List (List ℕ)
+from_4 = reserved_of_4 ++ from_5
+
+abbrev from_3 : List (List ℕ)
+from_3 = reserved_of_3 ++ from_4
+
+module _ (text : List ℕ) where
+  pub reserved_outside : (1 < length text → length text < 9 → ⊥) → is_reserved text ≡ false
+  unfolding is_reserved
+  reserved_outside h = none_passes (λ n. ltb 1 n && ltb n 9) text reserved_words refl (within (length text) h)
+
+  pub reserved_at_2 : length text ≡ 2 → is_among text reserved_of_2 ≡ is_reserved text
+  unfolding is_reserved
+  reserved_at_2 e = at_length 2 text [] reserved_of_2 from_3 e refl refl
+
+  pub reserved_at_3 : length text ≡ 3 → is_among text reserved_of_3 ≡ is_reserved text
+  unfolding is_reserved
+  reserved_at_3 e = at_length 3 text reserved_of_2 reserved_of_3 from_4 e refl refl
+
+  pub reserved_at_4 : length text ≡ 4 → is_among text reserved_of_4 ≡ is_reserved text
+  unfolding is_reserved
+  reserved_at_4 e = at_length 4 text to_3 reserved_of_4 from_5 e refl refl
+
+  pub reserved_at_5 : length text ≡ 5 → is_among text reserved_of_5 ≡ is_reserved text
+  unfolding is_reserved
+  reserved_at_5 e = at_length 5 text to_4 reserved_of_5 from_6 e refl refl
+
+  pub reserved_at_6 : length text ≡ 6 → is_among text reserved_of_6 ≡ is_reserved text
+  unfolding is_reserved
+  reserved_at_6 e = at_length 6 text to_5 reserved_of_6 from_7 e refl refl
+
+  pub reserved_at_7 : length text ≡ 7 → is_among text reserved_of_7 ≡ is_reserved text
+  unfolding is_reserved
+  reserved_at_7 e = at_length 7 text to_6 reserved_of_7 reserved_of_8 e refl refl
+
+  pub reserved_at_8 : length text ≡ 8 → is_among text reserved_of_8 ≡ is_reserved text
+  unfolding is_reserved
+  reserved_at_8 e = at_length 8 text (to_6 ++ reserved_of_7) reserved_of_8 [] e refl refl

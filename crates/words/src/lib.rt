@@ -1,0 +1,18 @@
+//! Words: what a token tree is to the grammar, and the readers of single words.
+#![tactic(auto)]
+
+mod keywords;
+mod readers;
+mod stopping;
+#[cfg(test)]
+mod tests;
+mod tree_word;
+mod vocabulary;
+
+pub use readers::{
+    group_at, keyword_at, lifetime_at, literal_at, name_at, optional_keyword, optional_lifetime,
+    optional_sign, path_word_at, sign_at,
+};
+pub use stopping::{Stop, covering, start_of, stop_at};
+pub use tree_word::{Word, ident_of, lifetime_of, word_of};
+pub use vocabulary::{Keyword, Sign};
