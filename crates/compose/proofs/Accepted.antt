@@ -11,7 +11,7 @@ use Rattle.schema_core.specs.Form.{array_word}
 use Rattle.schema_core.specs.Meaning.{word_accepts, minimum_accepts, required_accepts, tree_accepts, some_accepts, properties_accept}
 use Rattle.leaves.specs.declared.leaf.LeafKind.{LeafKind}
 use Rattle.leaves.specs.declared.leaf.LeafKind.TheVariants as kinds
-use Rattle.leaves.specs.Leaves.{kind_of, format_of}
+use Rattle.leaves.specs.Leaves.{kind_of}
 use Rattle.compose.specs.Types.{Resolved, leaf, items, option, named, MemberOf, StructOf, is_required}
 use Rattle.compose.specs.Shape.{is_null, is_list, is_map, reads, type_shape, member_fits, struct_shape}
 use Rattle.compose.specs.Plain.{StandsIn, StandsAmong, IsFloatless, AreFloatless}

@@ -1,5 +1,5 @@
 -- What the resolved structs of all declarations say: their names, that each place is within them, and that no condition of a refusal holds.
-use Rattle.std.proofs.Common.{ℕ, ◌<◌, ◌≤◌, List, [], ◌∷◌, ◌++◌, Option, Some, None, option_map, option_and_then, Bool, true, false, cond, ◌||◌, bytes_eq, length, map, ◌≡◌, refl, ap, sym, subst, ◌∙◌, arith, ◌⊎◌, inl, inr, IsTrue, codes}
+use Rattle.std.proofs.Common.{ℕ, ◌<◌, List, [], ◌∷◌, ◌++◌, Option, Some, None, option_map, option_and_then, Bool, true, false, cond, ◌||◌, bytes_eq, length, map, ◌≡◌, refl, ap, sym, subst, ◌∙◌, ◌⊎◌, inl, inr, IsTrue}
 use Rattle.std.specs.List.{AllByRecursion}
 use Rattle.std.proofs.Math.Path.{fun_ext}
 use Rattle.std.proofs.lemmas.Bool.{false≢true}
@@ -12,18 +12,16 @@ use Rattle.diag.specs.declared.kind.Kind.TheVariants.{DuplicateName, Syntax}
 use Rattle.diag.specs.declared.span.Span.{Span}
 use Rattle.schema_core.specs.Meaning.{IsDistinct}
 use Rattle.written_types.specs.declared.written.Ident.{Ident}
-use Rattle.written_types.specs.Written.{Written}
 use Rattle.syntax.specs.declared.item.Declaration.{Declaration}
-use Rattle.syntax.specs.Items.{FieldItem, FieldItems, named, unnamed, unit, BodyItem, struct_body, DeclaredItem, declaration_view}
+use Rattle.syntax.specs.Items.{FieldItem, DeclaredItem, declaration_view}
 use Rattle.open_types.specs.declared.open_type.ListHead.TheVariants as lists
 use Rattle.open_types.specs.Open.{Open, Opens}
 use Rattle.open_types.specs.Open as open_types
-use Rattle.resolving.specs.Names.{size}
-use Rattle.resolving.specs.Resolved.{type_of, most_names, Fault, IsFault, IsRefusedFor, Somewhere, ResolvedHaveNoFault, ResolvedAreWithin, IsWithin}
+use Rattle.resolving.specs.Resolved.{type_of, Fault, IsFault, IsRefusedFor, Somewhere, ResolvedHaveNoFault, ResolvedAreWithin, IsWithin}
 use Rattle.compose.specs.Types.{Resolved, leaf, items, option, MemberOf, StructOf, member_names, struct_names}
 use Rattle.compose.specs.Types as types
-use Rattle.compose.specs.Derived.{all_of, built, declared, member_as, field_type, member_of, body_fields, is_named_struct, struct_of, structs_of, declared_names, place_among, place_in, MembersDiffer, IsApart, IsWithinType, MembersWithin, AreWithin}
-use Rattle.compose.specs.Faults.{texts, with_ident, field_idents, declared_idents, Repeats, IsDuplicate, IsFaultOf, IsUnbuiltField, IsUnbuilt, IsFaultyField, IsFaultyItem, IsFaulty, AreClear, duplicate_message, unbuilt_message}
+use Rattle.compose.specs.Derived.{all_of, built, member_as, field_type, member_of, body_fields, is_named_struct, struct_of, structs_of, declared_names, place_among, place_in, MembersDiffer, IsWithinType, MembersWithin, AreWithin}
+use Rattle.compose.specs.Faults.{texts, with_ident, field_idents, declared_idents, Repeats, IsUnbuiltField, IsFaultyField, IsFaultyItem, IsFaulty, duplicate_message, unbuilt_message}
 use Rattle.compose.specs.Settled.{IsSmall, HasSmall, IsSettled}
 use Rattle.compose.proofs.Entered.{placed}
 use Rattle.compose.proofs.Growing.{some_same}
@@ -148,9 +146,9 @@ module _ (place_of : List ℕ → Option ℕ) where
       let parts = struct_parts d j.0 j.2 in
       elim h [
         | inl w ↦ elim w [
-            | inl other ↦ false≢true (sym other.0 ∙ parts.0)
-            | inr field ↦ fields_built (body_fields d.body) j.0.members span parts.2 field
-          ]
+          | inl other ↦ false≢true (sym other.0 ∙ parts.0)
+          | inr field ↦ fields_built (body_fields d.body) j.0.members span parts.2 field
+        ]
         | inr w ↦ none_unbuilt ds j.1 span j.3 w
       ]
 
@@ -244,9 +242,9 @@ faulty_in place_of e (d ∷ ds) (inl (inr (inr r))) = inr (inr (d.span, inl (inl
 faulty_in place_of e (d ∷ ds) (inr h) = elim (faulty_in place_of e ds h) [
   | inl r ↦ inl (r.0, inr r.1, r.2)
   | inr q ↦ elim q [
-      | inl r ↦ inr (inl (r.0, inr r.1, r.2))
-      | inr r ↦ inr (inr (r.0, inr r.1, r.2))
-    ]
+    | inl r ↦ inr (inl (r.0, inr r.1, r.2))
+    | inr r ↦ inr (inr (r.0, inr r.1, r.2))
+  ]
 ]
 
 pub faulty_all : (ds : List DeclaredItem) (e : DeriveError) → Somewhere (λ d. IsFaultyItem (place_among ds) d e) ds → IsFaulty ds e

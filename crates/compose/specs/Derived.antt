@@ -8,7 +8,6 @@ use Rattle.schema_core.specs.Entries.{find, names_of, IsInOrder}
 use Rattle.schema_core.specs.Meaning.{IsDistinct}
 use Rattle.written_types.specs.declared.written.Ident.{Ident}
 use Rattle.syntax.specs.Items.{FieldItem, FieldItems, named, unnamed, unit, BodyItem, struct_body, DeclaredItem}
-use Rattle.open_types.specs.declared.open_type.ListHead.{ListHead}
 use Rattle.open_types.specs.declared.open_type.ListHead.TheVariants as lists
 use Rattle.open_types.specs.Open.{Open, Opens}
 use Rattle.open_types.specs.Open as open_types

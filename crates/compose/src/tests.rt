@@ -9,7 +9,10 @@ use std::test::Fail;
 const SCHEMAS: [(&str, &str); 15] = [
     ("", ""),
     ("struct Empty {}", r#""Empty":{"type":"object"}"#),
-    ("use a::{b, c}; pub(crate) struct r#type {}", r#""type":{"type":"object"}"#),
+    (
+        "use a::{b, c}; pub(crate) struct r#type {}",
+        r#""type":{"type":"object"}"#,
+    ),
     (
         "/// Doc.\nstruct A { /** Doc. */ pub(in a::b) r#use: ::std::vec::Vec<(u8)>, c: a::A<'static> }",
         r##""A":{"properties":{"c":{"$ref":"#/components/schemas/A"},"use":{"items":{"format":"int32","minimum":0,"type":"integer"},"type":"array"}},"required":["use","c"],"type":"object"}"##,
@@ -147,26 +150,83 @@ fn refusal_text(alloc: Global, source: &str) -> Result<String, Fail> {
 
 /// Sources with the kind, the bytes and the message of their refusals.
 const FAULTS: [(&str, &str); 22] = [
-    ("struct A {} struct A {}", "DuplicateName 19..20 name A is given twice"),
-    ("struct A { x: u8, y: u8, x: Vec<u8> }", "DuplicateName 25..26 name x is given twice"),
-    ("struct A { x: Gone } struct A {}", "DuplicateName 28..29 name A is given twice"),
-    ("struct A { x: u8, r#x: Gone }", "UnknownType 23..27 unknown type Gone"),
-    ("struct A { x: Vec<Option<Gone>> }", "UnknownType 25..29 unknown type Gone"),
-    ("struct A { x: Gone } struct B { y: u8, y: u8 }", "UnknownType 14..18 unknown type Gone"),
-    ("struct A { x: Option }", "UnknownType 14..20 unknown type Option"),
-    ("struct A { x: a::Self }", "UnknownType 17..21 unknown type Self"),
-    ("struct A { x: HashMap<String, Gone, bool> }", "UnknownType 30..34 unknown type Gone"),
-    ("struct A { x: HashMap<String, i32, bool> }", "Arity 14..21 wrong number of type arguments for HashMap"),
-    ("struct A { x: SmallVec<u8> }", "Arity 14..22 wrong number of type arguments for SmallVec"),
-    ("struct A { x: Vec<A<u8>> }", "Arity 18..19 wrong number of type arguments for A"),
-    ("struct A { x: u8<'a, 'b, 3> , y: u8<u8> }", "Arity 33..35 wrong number of type arguments for u8"),
-    ("struct A { x: Value }", "Syntax 11..19 unexpected text in a declaration"),
-    ("struct A { x: Object } struct Object {}", "Syntax 11..20 unexpected text in a declaration"),
-    ("struct A { pub x: Box<u8> }", "Syntax 11..25 unexpected text in a declaration"),
-    ("struct A { x: Vec<(u8, u8)> }", "Syntax 11..26 unexpected text in a declaration"),
+    (
+        "struct A {} struct A {}",
+        "DuplicateName 19..20 name A is given twice",
+    ),
+    (
+        "struct A { x: u8, y: u8, x: Vec<u8> }",
+        "DuplicateName 25..26 name x is given twice",
+    ),
+    (
+        "struct A { x: Gone } struct A {}",
+        "DuplicateName 28..29 name A is given twice",
+    ),
+    (
+        "struct A { x: u8, r#x: Gone }",
+        "UnknownType 23..27 unknown type Gone",
+    ),
+    (
+        "struct A { x: Vec<Option<Gone>> }",
+        "UnknownType 25..29 unknown type Gone",
+    ),
+    (
+        "struct A { x: Gone } struct B { y: u8, y: u8 }",
+        "UnknownType 14..18 unknown type Gone",
+    ),
+    (
+        "struct A { x: Option }",
+        "UnknownType 14..20 unknown type Option",
+    ),
+    (
+        "struct A { x: a::Self }",
+        "UnknownType 17..21 unknown type Self",
+    ),
+    (
+        "struct A { x: HashMap<String, Gone, bool> }",
+        "UnknownType 30..34 unknown type Gone",
+    ),
+    (
+        "struct A { x: HashMap<String, i32, bool> }",
+        "Arity 14..21 wrong number of type arguments for HashMap",
+    ),
+    (
+        "struct A { x: SmallVec<u8> }",
+        "Arity 14..22 wrong number of type arguments for SmallVec",
+    ),
+    (
+        "struct A { x: Vec<A<u8>> }",
+        "Arity 18..19 wrong number of type arguments for A",
+    ),
+    (
+        "struct A { x: u8<'a, 'b, 3> , y: u8<u8> }",
+        "Arity 33..35 wrong number of type arguments for u8",
+    ),
+    (
+        "struct A { x: Value }",
+        "Syntax 11..19 unexpected text in a declaration",
+    ),
+    (
+        "struct A { x: Object } struct Object {}",
+        "Syntax 11..20 unexpected text in a declaration",
+    ),
+    (
+        "struct A { pub x: Box<u8> }",
+        "Syntax 11..25 unexpected text in a declaration",
+    ),
+    (
+        "struct A { x: Vec<(u8, u8)> }",
+        "Syntax 11..26 unexpected text in a declaration",
+    ),
     ("struct A;", "Syntax 0..9 unexpected text in a declaration"),
-    ("struct B {} pub struct A(u8);", "Syntax 12..29 unexpected text in a declaration"),
-    ("struct A { x: bo", "Syntax 16..16 unexpected text in a declaration"),
+    (
+        "struct B {} pub struct A(u8);",
+        "Syntax 12..29 unexpected text in a declaration",
+    ),
+    (
+        "struct A { x: bo",
+        "Syntax 16..16 unexpected text in a declaration",
+    ),
     ("enum E {}", "Syntax 0..4 unexpected text in a declaration"),
     ("struct A { x: a }", "UnknownType 14..15 unknown type a"),
 ];

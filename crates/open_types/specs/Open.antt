@@ -1,5 +1,5 @@
 -- Resolved types, without where they lie in memory (The Rust Reference, "Types"; the serde data model).
-use Rattle.std.specs.Prelude.{ℕ, zero, suc, ◌+◌, ◌<◌, List, [], ◌∷◌, map, box_value}
+use Rattle.std.specs.Prelude.{ℕ, zero, suc, ◌<◌, List, [], ◌∷◌, map, box_value}
 use Rattle.leaves.specs.declared.leaf.Leaf.{Leaf}
 use Rattle.open_types.specs.declared.open_type.ListHead.{ListHead}
 use Rattle.open_types.specs.declared.open_type.SetHead.{SetHead}

@@ -56,7 +56,7 @@ somewhere-right P (x ∷ xs) ys h = inr (somewhere-right P xs ys h)
 pub somewhere-parts : {A : Type 0} (P : A → Type 0) (xs ys : List A) → Somewhere P (xs ++ ys) → Somewhere P xs ⊎ Somewhere P ys
 somewhere-parts P [] ys h = inr h
 somewhere-parts P (x ∷ xs) ys (inl h) = inl (inl h)
-somewhere-parts P (x ∷ xs) ys (inr h) = elim (somewhere-parts P xs ys h) [ | inl l ↦ inl (inr l) | inr r ↦ inr r ]
+somewhere-parts P (x ∷ xs) ys (inr h) = elim (somewhere-parts P xs ys h) [ inl l ↦ inl (inr l) | inr r ↦ inr r ]
 
 -- ---- the name of a segment
 

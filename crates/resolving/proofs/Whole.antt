@@ -55,7 +55,7 @@ module _ (p : List ℕ → Option ℕ) where
       ((u : Open) → type_of p w ≡ Some u → Somewhere Bad (names_in w) → ⊥) → ((us : Opens) → r ≡ Some us → Somewhere Bad names → ⊥) → Somewhere Bad (names_in w ++ names) → ⊥
   first_or_rest w names r ts e first rest h =
       let b = both (type_of p w) r ts e in
-      elim (somewhere-parts Bad (names_in w) names h) [ | inl l ↦ first b.0 b.2 l | inr k ↦ rest b.1 b.3 k ]
+      elim (somewhere-parts Bad (names_in w) names h) [ inl l ↦ first b.0 b.2 l | inr k ↦ rest b.1 b.3 k ]
 
   mutual
     pub clear_type : (w : Written) (u : Open) → type_of p w ≡ Some u → Somewhere Bad (names_in w) → ⊥
@@ -105,13 +105,13 @@ Found p e ss =
     ⊎ ((x : Ident) × Somewhere (λ s. (x ≡ ident_of s) × IsTrue (are_wrong (meaning p s) (types_of (arguments_of s)))) ss × IsRefusedFor (wrong_arity x) e)
 
 pub fault_of : (p : List ℕ → Option ℕ) (w : Written) (e : DeriveError) → AreAtFault p (names_in w) e → (fault : Fault) × IsFault p w fault × IsRefusedFor fault e
-fault_of p w e h = elim (among (names_in w) h) [ | inl f ↦ (unknown_type f.0, f.1, f.2) | inr f ↦ (wrong_arity f.0, f.1, f.2) ]
+fault_of p w e h = elim (among (names_in w) h) [ inl f ↦ (unknown_type f.0, f.1, f.2) | inr f ↦ (wrong_arity f.0, f.1, f.2) ]
   where
     among : (ss : List Segment) → Somewhere (λ s. IsAtFault p s e) ss → Found p e ss
     among [] k = absurd k
     among (s ∷ ss) (inl (inl f)) = inl (ident_of s, inl (refl, f.0), f.1)
     among (s ∷ ss) (inl (inr f)) = inr (ident_of s, inl (refl, f.0), f.1)
-    among (s ∷ ss) (inr k) = elim (among ss k) [ | inl f ↦ inl (f.0, inr f.1, f.2) | inr f ↦ inr (f.0, inr f.1, f.2) ]
+    among (s ∷ ss) (inr k) = elim (among ss k) [ inl f ↦ inl (f.0, inr f.1, f.2) | inr f ↦ inr (f.0, inr f.1, f.2) ]
 
 pub fault_of-error : {T : Type 0} (p : List ℕ → Option ℕ) (w : Written) (r : Result T DeriveError) → IfErr r (λ e. (e ≡ errors.Memory) ⊎ AreAtFault p (names_in w) e)
     → IfErr r (λ e. (e ≡ errors.Memory) ⊎ ((fault : Fault) × IsFault p w fault × IsRefusedFor fault e))

@@ -11,11 +11,7 @@ use open_types::{ListHead, OpenType};
 use std::alloc::{AllocError, Global};
 
 /// The list of the item. `SmallVec` has an array or slice, whose item is its own.
-fn list_of(
-    alloc: Global,
-    head: ListHead,
-    item: OpenType,
-) -> Result<Option<OpenType>, AllocError>
+fn list_of(alloc: Global, head: ListHead, item: OpenType) -> Result<Option<OpenType>, AllocError>
     ensures { IfOk result (λ t. option_map open_view t ≡ list_of head (open_view item)) }
 {
     match head {

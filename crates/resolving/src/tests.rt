@@ -56,7 +56,12 @@ fn shown(
 const CASES: [(&str, &str, usize, &str); 15] = [
     ("u8", "", 0, "Leaf(U8)"),
     ("Vec", "bool", 1, "Items(Vec, Leaf(Bool))"),
-    ("HashSet", "A", 1, "Set(HashSet, Named(0, List { items: [] }))"),
+    (
+        "HashSet",
+        "A",
+        1,
+        "Set(HashSet, Named(0, List { items: [] }))",
+    ),
     ("IndexMap", "str", 2, "Map(IndexMap, Leaf(Str), Leaf(Str))"),
     ("Option", "Value", 1, "Option(AnyValue)"),
     ("Rc", "Object", 1, "Through(Rc, FreeObject)"),
@@ -65,10 +70,30 @@ const CASES: [(&str, &str, usize, &str); 15] = [
     ("Self", "", 0, "UnknownType 3..5 unknown type Self"),
     ("Nope", "", 0, "UnknownType 3..5 unknown type Nope"),
     ("Box", "Nope", 1, "UnknownType 3..5 unknown type Nope"),
-    ("HashMap", "u8", 3, "Arity 3..5 wrong number of type arguments for HashMap"),
-    ("SmallVec", "u8", 1, "Arity 3..5 wrong number of type arguments for SmallVec"),
-    ("i32", "u8", 1, "Arity 3..5 wrong number of type arguments for i32"),
-    ("A", "u8", 1, "Arity 3..5 wrong number of type arguments for A"),
+    (
+        "HashMap",
+        "u8",
+        3,
+        "Arity 3..5 wrong number of type arguments for HashMap",
+    ),
+    (
+        "SmallVec",
+        "u8",
+        1,
+        "Arity 3..5 wrong number of type arguments for SmallVec",
+    ),
+    (
+        "i32",
+        "u8",
+        1,
+        "Arity 3..5 wrong number of type arguments for i32",
+    ),
+    (
+        "A",
+        "u8",
+        1,
+        "Arity 3..5 wrong number of type arguments for A",
+    ),
 ];
 
 fn places(alloc: Global) -> Result<BTreeMap<String, usize>, AllocError> {
@@ -110,6 +135,9 @@ fn refuses_large_types(rt: HostRuntime) -> Result<(), Fail> {
     let largest = shown(alloc, &places, &tuple(alloc, 255)?)?;
     assert!(rt; largest.as_str().starts_with("Tuple"));
     let larger = shown(alloc, &places, &tuple(alloc, 256)?)?;
-    assert_eq!(rt; larger.as_str(), "TypeSize 1..2 a type has more than 256 names");
+    assert_eq!(rt;
+        larger.as_str(),
+        "TypeSize 1..2 a type has more than 256 names"
+    );
     Ok(())
 }

@@ -1,4 +1,4 @@
-use Rattle.std.proofs.Common.{◌≡◌, List, length, map, ap, sym, ◌∙◌, subst, inl, inr}
+use Rattle.std.proofs.Common.{List, map, subst, inl, inr}
 use Rattle.std.proofs.lemmas.Result.{err_from_is_err_and}
 use Rattle.syntax.specs.declared.item.Declaration.{Declaration}
 use Rattle.syntax.specs.Items.{declaration_view}
@@ -15,7 +15,7 @@ returns-in_err-declarations-clause-refused c =
     rw (p.1, p.2)
     (elim c.in_err-declarations.ensures.refused [
       | inl memory ↦ inl memory
-      | inr unread ↦ elim unread [ | inl deep ↦ inr (inl deep) | inr unreadable ↦ inr (inr (inl unreadable)) ]
+      | inr unread ↦ elim unread [ inl deep ↦ inr (inl deep) | inr unreadable ↦ inr (inr (inl unreadable)) ]
     ])
 
 pub returns-in_err-settled-clause-refused : goal.returns-in_err-settled-clause-refused

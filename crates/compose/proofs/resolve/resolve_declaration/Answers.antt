@@ -10,7 +10,6 @@ use Rattle.syntax.specs.Items.{field_view, body_view}
 use Rattle.compose.specs.declared.structs.Member.{Member}
 use Rattle.compose.specs.Derived.{body_fields}
 use Rattle.compose.specs.Faults.{Repeats, IsFaultyField, field_idents, texts, duplicate_message}
-use Rattle.compose.specs.Types.{member_view}
 use Rattle.compose.proofs.Growing.{member_names-are}
 use Rattle.compose.proofs.resolve.resolve_declaration.Goals as goal
 

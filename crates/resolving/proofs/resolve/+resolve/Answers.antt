@@ -22,11 +22,11 @@ resolve_arguments-loop-argument-preserved t c =
     let p = get_by_text c.args.places.now in
     elim c.match-argument.branch [
       | resolve_arguments-in-Ty+in_ok-resolve_whole-in-Ty+in_ok-push-in-Ty w ↦ rw (w.types-is, w.in_ok-push-in-Ty.ensures.ok)
-        (type_turn p _ c.loop-argument.types c.args.arguments.now c.loop-argument.argument-index c.argument-item.result w.in-Ty.ty _ c.loop-argument-test.true c.argument-item.is w.in-Ty.is w.in_ok-resolve_whole-in-Ty.ensures.resolved c.loop-argument.invariant)
+          (type_turn p _ c.loop-argument.types c.args.arguments.now c.loop-argument.argument-index c.argument-item.result w.in-Ty.ty _ c.loop-argument-test.true c.argument-item.is w.in-Ty.is w.in_ok-resolve_whole-in-Ty.ensures.resolved c.loop-argument.invariant)
       | resolve_arguments-in-Lifetime w ↦ rw w.types-is
-        (lifetime_turn p _ c.loop-argument.types c.args.arguments.now c.loop-argument.argument-index c.argument-item.result _ c.loop-argument-test.true c.argument-item.is w.in-Lifetime.is c.loop-argument.invariant)
+          (lifetime_turn p _ c.loop-argument.types c.args.arguments.now c.loop-argument.argument-index c.argument-item.result _ c.loop-argument-test.true c.argument-item.is w.in-Lifetime.is c.loop-argument.invariant)
       | resolve_arguments-in-Constant w ↦ rw w.types-is
-        (constant_turn p _ c.loop-argument.types c.args.arguments.now c.loop-argument.argument-index c.argument-item.result _ c.loop-argument-test.true c.argument-item.is w.in-Constant.is c.loop-argument.invariant)
+          (constant_turn p _ c.loop-argument.types c.args.arguments.now c.loop-argument.argument-index c.argument-item.result _ c.loop-argument-test.true c.argument-item.is w.in-Constant.is c.loop-argument.invariant)
     ]
 
 pub resolve_arguments-returns-clause-resolved : goal.resolve_arguments-returns-clause-resolved

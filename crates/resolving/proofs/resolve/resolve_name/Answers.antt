@@ -16,7 +16,10 @@ returns-in_ok-arity-in_default c =
     let m = c.segment_meaning-meaning.result in
     let none : meant m ts ≡ None = sym c.in_ok-ty.ensures ∙ ap (option_map open_view) c.in-None.is in
     let here : meant (meaning p s) ts ≡ None = ap (λ x. meant x ts) (sym c.segment_meaning-meaning.ensures) ∙ none in
-    record { resolved = tt; refused = inr (inr (
-      wrong p (meaning p s) (types_of (arguments_of s)) ts (stand-segment p s ts c.requires) here (λ e. c.in_default.not-Unknown (c.segment_meaning-meaning.ensures ∙ e)),
-      subst (λ x. IsRefusedFor (wrong_arity x) c.in_ok-arity-in_default.field-0) (sym (view-ident c.args.segment.now)) c.in_ok-arity-in_default.ensures,
-    )) }
+    record {
+      resolved = tt;
+      refused = inr (inr (
+        wrong p (meaning p s) (types_of (arguments_of s)) ts (stand-segment p s ts c.requires) here (λ e. c.in_default.not-Unknown (c.segment_meaning-meaning.ensures ∙ e)),
+        subst (λ x. IsRefusedFor (wrong_arity x) c.in_ok-arity-in_default.field-0) (sym (view-ident c.args.segment.now)) c.in_ok-arity-in_default.ensures,
+      ));
+    }
