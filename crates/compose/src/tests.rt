@@ -216,7 +216,7 @@ const FAULTS: [(&str, &str); 22] = [
     ),
     (
         "struct A { x: Vec<(u8, u8)> }",
-        "Syntax 11..26 unexpected text in a declaration",
+        "Syntax 11..27 unexpected text in a declaration",
     ),
     ("struct A;", "Syntax 0..9 unexpected text in a declaration"),
     (

@@ -10,9 +10,9 @@ ghost use Rattle.schema_gen.specs.Owed.{IsDocumentOf, Owed};
 ghost use Rattle.schema_gen.specs.Refusals.{most_bytes, IsRefusedSource};
 ghost use Rattle.schema_gen.specs.Words.{IsDerive};
 
+use crate::command::Words;
 use crate::refusal::{MAX_BYTES, refusal_line, source_text, too_long};
 use crate::status::Status;
-use crate::words::Words;
 use compose::derive_components;
 use diag::{DeriveError, Diagnostics, Kind, Text};
 use std::alloc::{AllocError, Global};

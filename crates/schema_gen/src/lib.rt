@@ -2,6 +2,7 @@
 //! 3.1 component schemas out.
 #![tactic(auto)]
 
+mod command;
 mod deliver;
 mod ending;
 mod law;
@@ -10,8 +11,8 @@ mod refusal;
 mod status;
 #[cfg(test)]
 mod tests;
-mod words;
 
+pub use command::Words;
 pub use compose::{Derived, derive_components};
 pub use diag::{DeriveError, Diagnostics, DiangosticsInner, Kind, List, Span, Suggestion, Text};
 pub use law::sound_is_not_refused;
@@ -22,4 +23,3 @@ pub use streams::{
     Failed, HonestSink, HonestSource, MemorySink, MemorySource, ReadError, Sink, Source, StdSink,
     StdSource, read_all, write_all,
 };
-pub use words::Words;

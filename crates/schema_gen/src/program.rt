@@ -11,11 +11,11 @@ ghost use Rattle.schema_gen.specs.Refusals.{IsText, IsSound, IsReported};
 ghost use Rattle.schema_gen.specs.Words.{IsDerive};
 ghost use Rattle.schema_gen.specs.declared.status.Status.{Status as AnyStatus};
 
+use crate::command::Words;
 use crate::deliver::deliver;
 use crate::ending::end_of;
 use crate::law::sound_is_not_refused;
 use crate::status::Status;
-use crate::words::Words;
 use std::alloc::Global;
 use streams::{Failed, Sink, Source};
 

@@ -57,190 +57,210 @@ fn writes_documents(rt: HostRuntime) -> Result<(), Fail> {
     Ok(())
 }
 
+/// Words, a source, the status, and what `err` gets.
+const REPORTS: [(&[&str], &[u8], Status, &str); 14] = [
+    (
+        &["derive"],
+        b"struct S { x: bo",
+        REFUSED_AS_SYNTAX,
+        "refused: Syntax 16..16: unexpected text in a declaration\n",
+    ),
+    (
+        &["derive"],
+        b"struct S { \xff }",
+        REFUSED_AS_SYNTAX,
+        "refused: Syntax 11..12: unexpected text in a declaration\n",
+    ),
+    (
+        &["derive"],
+        b"struct S {} \xe2\x82",
+        REFUSED_AS_SYNTAX,
+        "refused: Syntax 12..14: unexpected text in a declaration\n",
+    ),
+    (
+        &["derive"],
+        b"struct S { x: Value }",
+        REFUSED_AS_SYNTAX,
+        "refused: Syntax 11..19: unexpected text in a declaration\n",
+    ),
+    (
+        &["derive"],
+        b"struct S { x: Nope }",
+        Status::Refused(Kind::UnknownType),
+        "refused: UnknownType 14..18: unknown type Nope\n",
+    ),
+    (
+        &["derive"],
+        b"struct S { x: HashMap<String, i32, bool> }",
+        Status::Refused(Kind::Arity),
+        "refused: Arity 14..21: wrong number of type arguments for HashMap\n",
+    ),
+    (
+        &["derive"],
+        b"struct S {} struct S {}",
+        Status::Refused(Kind::DuplicateName),
+        "refused: DuplicateName 19..20: name S is given twice\n",
+    ),
+    (
+        &["derive"],
+        b"struct S { x: u8, x: u8 }",
+        Status::Refused(Kind::DuplicateName),
+        "refused: DuplicateName 18..19: name x is given twice\n",
+    ),
+    (
+        &["derive"],
+        b"[[[[[[[[[[[[[[[[[[[[[[[[[[[[[[[[[[[[[[[[[[[[[[[[[[[[[[[[[[[[[[[[[",
+        Status::Refused(Kind::TooDeep),
+        "refused: TooDeep 64..65: nesting is deeper than 64\n",
+    ),
+    (&[], b"", Status::Usage, "usage: schema_gen derive\n"),
+    (&[""], b"", Status::Usage, "usage: schema_gen derive\n"),
+    (
+        &["deride"],
+        b"",
+        Status::Usage,
+        "usage: schema_gen derive\n",
+    ),
+    (
+        &["derive", "derive"],
+        b"",
+        Status::Usage,
+        "usage: schema_gen derive\n",
+    ),
+    (
+        &["--help"],
+        b"",
+        Status::Usage,
+        "usage: schema_gen derive\n",
+    ),
+];
+
+const REFUSED_AS_SYNTAX: Status = Status::Refused(Kind::Syntax);
+
+const NUMBERS: [(Status, u8); 6] = [
+    (Status::Done, 0),
+    (REFUSED_AS_SYNTAX, 1),
+    (Status::Usage, 2),
+    (Status::ReadFault, 3),
+    (Status::WriteFault, 4),
+    (Status::Memory, 5),
+];
+
 #[test]
 fn refuses_and_reports(rt: HostRuntime) -> Result<(), Fail> {
     let alloc = rt.alloc();
-    let cases: [(&[&str], &[u8], Status, &str); 12] = [
-        (
-            &["derive"],
-            b"struct S { x: bo",
-            Status::Refused(Kind::Syntax),
-            "refused: Syntax 16..16: unexpected text in a declaration\n",
-        ),
-        (
-            &["derive"],
-            b"struct S { \xff }",
-            Status::Refused(Kind::Syntax),
-            "refused: Syntax 11..12: unexpected text in a declaration\n",
-        ),
-        (
-            &["derive"],
-            b"struct S {} \xe2\x82",
-            Status::Refused(Kind::Syntax),
-            "refused: Syntax 12..14: unexpected text in a declaration\n",
-        ),
-        (
-            &["derive"],
-            b"struct S { x: Nope }",
-            Status::Refused(Kind::UnknownType),
-            "refused: UnknownType 14..18: unknown type Nope\n",
-        ),
-        (
-            &["derive"],
-            b"struct S { x: Value }",
-            Status::Refused(Kind::UnknownType),
-            "refused: UnknownType 14..19: unknown type Value\n",
-        ),
-        (
-            &["derive"],
-            b"struct S {} struct S {}",
-            Status::Refused(Kind::DuplicateName),
-            "refused: DuplicateName 19..20: name S is given twice\n",
-        ),
-        (
-            &["derive"],
-            b"struct S { x: u8, x: u8 }",
-            Status::Refused(Kind::DuplicateName),
-            "refused: DuplicateName 18..19: name x is given twice\n",
-        ),
-        (&[], b"", Status::Usage, "usage: schema_gen derive\n"),
-        (&[""], b"", Status::Usage, "usage: schema_gen derive\n"),
-        (
-            &["deride"],
-            b"",
-            Status::Usage,
-            "usage: schema_gen derive\n",
-        ),
-        (
-            &["derive", "derive"],
-            b"",
-            Status::Usage,
-            "usage: schema_gen derive\n",
-        ),
-        (
-            &["--help"],
-            b"",
-            Status::Usage,
-            "usage: schema_gen derive\n",
-        ),
-    ];
-    for (words, source, status, report) in cases {
+    for (words, source, status, report) in REPORTS {
         let (found, written) = outcome(alloc, words, source)?;
         assert_eq!(rt; found, status, "{report}");
         assert_eq!(rt; written.as_slice(), report.as_bytes());
     }
-    let numbers = [
-        (Status::Done, 0),
-        (Status::Refused(Kind::Syntax), 1),
-        (Status::Usage, 2),
-        (Status::ReadFault, 3),
-        (Status::WriteFault, 4),
-        (Status::Memory, 5),
-    ];
-    for (status, number) in numbers {
+    for (status, number) in NUMBERS {
         assert_eq!(rt; status.number(), number);
     }
     Ok(())
 }
 
+/// The source, read by 16 bytes at a time; the calls that fail of the input, of `out` and of `err`; the room of `out`,
+/// which takes 100 bytes at a time; the status, how many bytes of the document `out` has, and the report.
+type StreamCase<'a> = (
+    &'a str,
+    &'a [usize],
+    &'a [usize],
+    &'a [usize],
+    usize,
+    Status,
+    usize,
+    &'a str,
+);
+
+const STREAM_CASES: [StreamCase<'static>; 17] = [
+    (PET, &[], &[], &[], 173, Status::Done, 173, ""),
+    (
+        PET,
+        &[0],
+        &[],
+        &[],
+        173,
+        Status::ReadFault,
+        0,
+        "read fault\n",
+    ),
+    (
+        PET,
+        &[1],
+        &[],
+        &[],
+        173,
+        Status::ReadFault,
+        0,
+        "read fault\n",
+    ),
+    (
+        PET,
+        &[2],
+        &[],
+        &[],
+        173,
+        Status::ReadFault,
+        0,
+        "read fault\n",
+    ),
+    (
+        PET,
+        &[3],
+        &[],
+        &[],
+        173,
+        Status::ReadFault,
+        0,
+        "read fault\n",
+    ),
+    (PET, &[4], &[], &[], 173, Status::Done, 173, ""),
+    (PET, &[], &[0], &[], 173, Status::WriteFault, 0, ""),
+    (PET, &[], &[1], &[], 173, Status::WriteFault, 100, ""),
+    (PET, &[], &[2], &[], 173, Status::WriteFault, 173, ""),
+    (PET, &[], &[3], &[], 173, Status::Done, 173, ""),
+    (PET, &[], &[], &[0], 173, Status::WriteFault, 173, ""),
+    (PET, &[], &[], &[], 86, Status::WriteFault, 86, ""),
+    (PET, &[], &[], &[], 0, Status::WriteFault, 0, ""),
+    (PET, &[0], &[], &[0], 173, Status::WriteFault, 0, ""),
+    (
+        PET,
+        &[0],
+        &[],
+        &[1],
+        173,
+        Status::WriteFault,
+        0,
+        "read fault\n",
+    ),
+    (
+        "!",
+        &[],
+        &[0],
+        &[],
+        0,
+        Status::Refused(Kind::Syntax),
+        0,
+        "refused: Syntax 0..1: unexpected text in a declaration\n",
+    ),
+    (
+        "!",
+        &[],
+        &[0],
+        &[1],
+        0,
+        Status::WriteFault,
+        0,
+        "refused: Syntax 0..1: unexpected text in a declaration\n",
+    ),
+];
+
 #[test]
 fn fails_with_its_streams(rt: HostRuntime) -> Result<(), Fail> {
     let alloc = rt.alloc();
-    // The source, read by 16 bytes at a time; the calls that fail of the input, of `out` and of `err`; the room of
-    // `out`, which takes 100 bytes at a time; the status, how many bytes of the document `out` has, and the report.
-    let cases: [(
-        &str,
-        &[usize],
-        &[usize],
-        &[usize],
-        usize,
-        Status,
-        usize,
-        &str,
-    ); 17] = [
-        (PET, &[], &[], &[], 173, Status::Done, 173, ""),
-        (
-            PET,
-            &[0],
-            &[],
-            &[],
-            173,
-            Status::ReadFault,
-            0,
-            "read fault\n",
-        ),
-        (
-            PET,
-            &[1],
-            &[],
-            &[],
-            173,
-            Status::ReadFault,
-            0,
-            "read fault\n",
-        ),
-        (
-            PET,
-            &[2],
-            &[],
-            &[],
-            173,
-            Status::ReadFault,
-            0,
-            "read fault\n",
-        ),
-        (
-            PET,
-            &[3],
-            &[],
-            &[],
-            173,
-            Status::ReadFault,
-            0,
-            "read fault\n",
-        ),
-        (PET, &[4], &[], &[], 173, Status::Done, 173, ""),
-        (PET, &[], &[0], &[], 173, Status::WriteFault, 0, ""),
-        (PET, &[], &[1], &[], 173, Status::WriteFault, 100, ""),
-        (PET, &[], &[2], &[], 173, Status::WriteFault, 173, ""),
-        (PET, &[], &[3], &[], 173, Status::Done, 173, ""),
-        (PET, &[], &[], &[0], 173, Status::WriteFault, 173, ""),
-        (PET, &[], &[], &[], 86, Status::WriteFault, 86, ""),
-        (PET, &[], &[], &[], 0, Status::WriteFault, 0, ""),
-        (PET, &[0], &[], &[0], 173, Status::WriteFault, 0, ""),
-        (
-            PET,
-            &[0],
-            &[],
-            &[1],
-            173,
-            Status::WriteFault,
-            0,
-            "read fault\n",
-        ),
-        (
-            "!",
-            &[],
-            &[0],
-            &[],
-            0,
-            Status::Refused(Kind::Syntax),
-            0,
-            "refused: Syntax 0..1: unexpected text in a declaration\n",
-        ),
-        (
-            "!",
-            &[],
-            &[0],
-            &[1],
-            0,
-            Status::WriteFault,
-            0,
-            "refused: Syntax 0..1: unexpected text in a declaration\n",
-        ),
-    ];
     let words = words_of(alloc, &["derive"])?;
-    for (source, reads, writes, reports, room, status, length, report) in cases {
+    for (source, reads, writes, reports, room, status, length, report) in STREAM_CASES {
         let mut input = MemorySource::new(
             source.as_bytes().to_vec(alloc)?,
             16,
@@ -274,7 +294,7 @@ fn lists_of(alloc: Global, levels: usize) -> Result<String, Fail> {
 #[test]
 fn bounds_the_levels(rt: HostRuntime) -> Result<(), Fail> {
     let alloc = rt.alloc();
-    for (levels, expected) in [(63, Status::Done), (64, Status::Refused(Kind::Syntax))] {
+    for (levels, expected) in [(63, Status::Done), (64, Status::Refused(Kind::TooDeep))] {
         let source = lists_of(alloc, levels)?;
         let (status, _) = outcome(alloc, &["derive"], source.as_bytes())?;
         assert_eq!(rt; status, expected, "{levels}");

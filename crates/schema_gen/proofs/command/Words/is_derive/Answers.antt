@@ -1,7 +1,7 @@
 use Rattle.std.proofs.Common.{arith}
 use Rattle.schema_gen.specs.Words.{IsDerive}
 use Rattle.schema_gen.proofs.OneWord.{one_word, not_one}
-use Rattle.schema_gen.proofs.words.Words.is_derive.Goals as goal
+use Rattle.schema_gen.proofs.command.Words.is_derive.Goals as goal
 
 pub returns-then-len-ne1 : goal.returns-then-len-ne1
 unfolding IsDerive
