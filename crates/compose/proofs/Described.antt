@@ -55,35 +55,35 @@ stands-within n d (m ∷ ms) h (inr s) = stands-within n d ms h.1 s
 
 -- ---- the schema of a struct
 module _ (ss : List StructOf) where
-  place-proper : (n : Bool) (t : Resolved) → IsProper (bind (reference_to ss) (place n t))
-  place-proper n (leaf x) = (tt, tt)
-  place-proper n (items t) = place-proper false t
-  place-proper n (option t) = place-proper true t
-  place-proper false (named d) = tt
-  place-proper true (named d) = (tt, ((tt, tt), tt))
+  place-proper : (n : Bool) (description : Option (List ℕ)) (t : Resolved) → IsProper (bind (reference_to ss) (place n description t))
+  place-proper n description (leaf x) = (tt, (tt, (tt, tt)))
+  place-proper n description (items t) = (tt, place-proper false None t)
+  place-proper n description (option t) = place-proper true description t
+  place-proper false description (named d) = tt
+  place-proper true description (named d) = (tt, ((tt, (tt, (tt, tt))), tt))
 
   properties-proper : (ms : List MemberOf) → ArePropertiesProper (bind_properties (reference_to ss) (properties_of ms))
   properties-proper [] = tt
-  properties-proper (m ∷ ms) = (place-proper false m.of, properties-proper ms)
+  properties-proper (m ∷ ms) = (place-proper false m.description m.of, properties-proper ms)
 
   names-bound : (ms : List MemberOf) → property_names (bind_properties (reference_to ss) (properties_of ms)) ≡ member_names ms
   names-bound [] = refl
   names-bound (m ∷ ms) = ap (λ ns. m.name ∷ ns) (names-bound ms)
 
   schema-proper : (s : StructOf) → IsDistinct (member_names s.members) → IsProper (struct_schema ss s)
-  schema-proper s h = (subst IsDistinct (sym (names-bound s.members)) h, properties-proper s.members)
+  schema-proper s h = (subst IsDistinct (sym (names-bound s.members)) h, (properties-proper s.members, (tt, tt)))
 
   module _ (Q : List ℕ → Type 0) (n : ℕ) (root : (d : ℕ) → d < n → Q (struct_at ss d).name) where
-    place-leaves : (b : Bool) (t : Resolved) → IsWithinType n t → EachLeaf (λ r. Q r.name) (bind (reference_to ss) (place b t))
-    place-leaves b (leaf x) h = tt
-    place-leaves b (items t) h = place-leaves false t h
-    place-leaves b (option t) h = place-leaves true t h
-    place-leaves false (named d) h = root d h
-    place-leaves true (named d) h = (root d h, (tt, tt))
+    place-leaves : (b : Bool) (description : Option (List ℕ)) (t : Resolved) → IsWithinType n t → EachLeaf (λ r. Q r.name) (bind (reference_to ss) (place b description t))
+    place-leaves b description (leaf x) h = (tt, (tt, tt))
+    place-leaves b description (items t) h = (tt, place-leaves false None t h)
+    place-leaves b description (option t) h = place-leaves true description t h
+    place-leaves false description (named d) h = root d h
+    place-leaves true description (named d) h = (root d h, ((tt, (tt, tt)), tt))
 
     pub members-leaves : (ms : List MemberOf) → MembersWithin n ms → EachPropertyLeaf (λ r. Q r.name) (bind_properties (reference_to ss) (properties_of ms))
     members-leaves [] h = tt
-    members-leaves (m ∷ ms) h = (place-leaves false m.of h.0, members-leaves ms h.1)
+    members-leaves (m ∷ ms) h = (place-leaves false m.description m.of h.0, members-leaves ms h.1)
 
 -- ---- the document
 module _ (forms_accept : FormsAccept) (forms_refer : FormsRefer) (documents_hold : DocumentsHold)
@@ -107,7 +107,7 @@ module _ (forms_accept : FormsAccept) (forms_refer : FormsRefer) (documents_hold
   refers : (t : SchemaOf RefLeaf) (d : ℕ) → d < length ss → t ≡ struct_schema ss (struct_at ss d) → EachReference (HasComponent doc) (form t)
   refers t d l e =
       forms_refer (λ name. is_some (component_schema doc name)) t
-      (subst (EachLeaf (λ r. HasComponent doc r.name)) (sym e) (members-leaves ss (HasComponent doc) (length ss) root (struct_at ss d).members (within-at (length ss) ss d within)))
+      (subst (EachLeaf (λ r. HasComponent doc r.name)) (sym e) (members-leaves ss (HasComponent doc) (length ss) root (struct_at ss d).members (within-at (length ss) ss d within), (tt, tt)))
 
   some-same : {A : Type 0} {x y : A} → Some x ≡ Some y → x ≡ y
   some-same e = cc

@@ -1,5 +1,5 @@
 -- Structs at their places, and the schemas of members.
-use Rattle.std.proofs.Common.{ℕ, zero, suc, ◌+◌, ◌<◌, List, [], ◌∷◌, ◌++◌, Bool, true, false, cond, length, take, get_or, map, ◌≡◌, refl, ap, sym, ◌∙◌, arith, rules, None, ◌==◌}
+use Rattle.std.proofs.Common.{ℕ, zero, suc, ◌+◌, ◌<◌, List, [], ◌∷◌, ◌++◌, Bool, true, false, cond, length, take, get_or, map, ◌≡◌, refl, ap, sym, ◌∙◌, arith, rules, None, Option, ◌==◌}
 use Rattle.std.proofs.lemmas.Bool.{false≢true}
 use Rattle.std.proofs.lemmas.List.{take_more, map_push}
 use Rattle.open_types.specs.declared.open_type.OpenType.{OpenType}
@@ -15,7 +15,7 @@ use Rattle.compose.specs.declared.place_type.PlaceType.{the_lemmas}
 use Rattle.compose.specs.declared.place_type.PlaceType.TheVariants as variant
 use Rattle.compose.specs.Types.{named, MemberOf, StructOf, struct_at, is_required, type_view, member_view, struct_view}
 use Rattle.compose.specs.Derived.{declared, IsWithinType, MembersWithin, AreWithin}
-use Rattle.compose.specs.Terms.{or_null, place, reference_to, properties_of, required_names}
+use Rattle.compose.specs.Terms.{described, or_null, place, reference_to, properties_of, required_names}
 
 -- ---- structs
 
@@ -40,11 +40,11 @@ pub schema_view-leaf : (r : RefLeaf) → schema_view (variants.Leaf r) ≡ leaf 
 schema_view-leaf r = search (rules, tree_lemmas)
 
 -- the schema of a place of a declaration is a reference by its name
-pub named_place : (structs : List Struct) (b : Bool) (d : ℕ) (x : Struct) (name : List ℕ) → d < length structs → x ≡ get_or structs d x → name ≡ x.name →
-    or_null b (leaf (record { name = name })) ≡ bind (reference_to (map struct_view structs)) (place b (named d))
-named_place structs b d x name l is same =
-    ap (λ (n : List ℕ). or_null b (let r : RefLeaf = record { name = n } in leaf r)) (same ∙ ap (λ (s : Struct). s.name) is ∙ sym (ap (λ (s : StructOf). s.name) (struct_at-view structs d x l)))
-    ∙ sym (bind-or_null (reference_to (map struct_view structs)) b (leaf d))
+pub named_place : (structs : List Struct) (b : Bool) (d : ℕ) (x : Struct) (name : List ℕ) (description : Option (List ℕ)) → d < length structs → x ≡ get_or structs d x → name ≡ x.name →
+    or_null b (leaf (record { name = name; notes = described description })) ≡ bind (reference_to (map struct_view structs)) (place b description (named d))
+named_place structs b d x name description l is same =
+    ap (λ (n : List ℕ). or_null b (let r : RefLeaf = record { name = n; notes = described description } in leaf r)) (same ∙ ap (λ (s : Struct). s.name) is ∙ sym (ap (λ (s : StructOf). s.name) (struct_at-view structs d x l)))
+    ∙ sym (bind-or_null (reference_to (map struct_view structs)) b (leaf (record { place = d; description = description })))
 
 -- ---- members
 
@@ -60,11 +60,11 @@ members_at n (s ∷ structs) (suc i) d h l = members_at n structs i d h.1 (omega
 
 -- a member's property
 abbrev pub property_of : List StructOf → Member → List ℕ × SchemaOf RefLeaf
-property_of ss m = (m.ident.text, bind (reference_to ss) (place false (type_view m.ty)))
+property_of ss m = (m.ident.text, bind (reference_to ss) (place false m.description (type_view m.ty)))
 
 pub properties_are : (ss : List StructOf) (ms : List Member) → tree.properties_of (map (property_of ss) ms) ≡ bind_properties (reference_to ss) (properties_of (map member_view ms))
 properties_are ss [] = refl
-properties_are ss (m ∷ ms) = ap (tree.property m.ident.text (bind (reference_to ss) (place false (type_view m.ty)))) (properties_are ss ms)
+properties_are ss (m ∷ ms) = ap (tree.property m.ident.text (bind (reference_to ss) (place false m.description (type_view m.ty)))) (properties_are ss ms)
 
 required-push : (ms : List MemberOf) (m : MemberOf) → required_names (ms ++ m ∷ []) ≡ required_names ms ++ cond (is_required m) (m.name ∷ []) []
 required-push [] m = refl

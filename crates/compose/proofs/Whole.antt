@@ -20,7 +20,7 @@ use Rattle.open_types.specs.Open as open_types
 use Rattle.resolving.specs.Resolved.{type_of, Fault, IsFault, IsRefusedFor, Somewhere, ResolvedHaveNoFault, ResolvedAreWithin, IsWithin}
 use Rattle.compose.specs.Types.{Resolved, leaf, items, option, MemberOf, StructOf, member_names, struct_names}
 use Rattle.compose.specs.Types as types
-use Rattle.compose.specs.Derived.{all_of, built, member_as, field_type, member_of, body_fields, is_named_struct, struct_of, structs_of, declared_names, place_among, place_in, MembersDiffer, IsWithinType, MembersWithin, AreWithin}
+use Rattle.compose.specs.Derived.{all_of, description_of, built, member_as, field_type, member_of, body_fields, is_named_struct, struct_of, structs_of, declared_names, place_among, place_in, MembersDiffer, IsWithinType, MembersWithin, AreWithin}
 use Rattle.compose.specs.Faults.{texts, with_ident, field_idents, declared_idents, Repeats, IsUnbuiltField, IsFaultyField, IsFaultyItem, IsFaulty, duplicate_message, unbuilt_message}
 use Rattle.compose.specs.Settled.{IsSmall, HasSmall, IsSettled}
 use Rattle.compose.proofs.Entered.{placed}
@@ -52,10 +52,10 @@ chosen true o y e = (refl, e)
 chosen false o y e = absurd (none-some y e)
 
 -- the name and the type of a member
-member_parts : (i : Option Ident) (t : Option Resolved) (m : MemberOf) → member_as i t ≡ Some m → (x : Ident) × (i ≡ Some x) × (t ≡ Some m.of) × (m.name ≡ x.text)
-member_parts None t m e = absurd (none-some m e)
-member_parts (Some x) None m e = absurd (none-some m e)
-member_parts (Some x) (Some r) m e = let same = some_same _ m e in (x, refl, ap (λ (n : MemberOf). Some n.of) same, sym (ap (λ (n : MemberOf). n.name) same))
+member_parts : (d : Option (List ℕ)) (i : Option Ident) (t : Option Resolved) (m : MemberOf) → member_as d i t ≡ Some m → (x : Ident) × (i ≡ Some x) × (t ≡ Some m.of) × (m.name ≡ x.text)
+member_parts d None t m e = absurd (none-some m e)
+member_parts d (Some x) None m e = absurd (none-some m e)
+member_parts d (Some x) (Some r) m e = let same = some_same _ m e in (x, refl, ap (λ (n : MemberOf). Some n.of) same, sym (ap (λ (n : MemberOf). n.name) same))
 
 and_some : {A B : Type 0} (f : A → Option B) (o : Option A) (y : B) → option_and_then f o ≡ Some y → (x : A) × (o ≡ Some x) × (f x ≡ Some y)
 and_some f None y e = absurd (none-some y e)
@@ -85,7 +85,7 @@ module _ (place_of : List ℕ → Option ℕ) where
   struct_parts : (d : DeclaredItem) (s : StructOf) → struct_of place_of d ≡ Some s → (is_named_struct d.body ≡ true) × (s.name ≡ d.ident.text) × (all_of (member_of place_of) (body_fields d.body) ≡ Some s.members)
   struct_parts d s e =
       let c = chosen (is_named_struct d.body) _ s e in
-      let m = mapped (λ ms. let r : StructOf = record { name = d.ident.text; members = ms } in r) (all_of (member_of place_of) (body_fields d.body)) s c.1 in
+      let m = mapped (λ ms. let r : StructOf = record { name = d.ident.text; description = description_of d.attrs; members = ms } in r) (all_of (member_of place_of) (body_fields d.body)) s c.1 in
       (c.0, sym (ap (λ (r : StructOf). r.name) m.2), m.1 ∙ ap (λ (r : StructOf). Some r.members) m.2)
 
   -- the structs have the names of the declarations
@@ -100,7 +100,7 @@ module _ (place_of : List ℕ → Option ℕ) where
   members-are [] ms e = ap member_names (sym (some_same [] ms e))
   members-are (f ∷ fs) ms e =
       let j = joined (member_of place_of f) (all_of (member_of place_of) fs) ms e in
-      let m = member_parts f.ident (field_type place_of f) j.0 j.2 in
+      let m = member_parts (description_of f.attrs) f.ident (field_type place_of f) j.0 j.2 in
       sym (ap member_names j.4) ∙ ap (λ n. n ∷ member_names j.1) m.3 ∙ ap (λ ns. m.0.text ∷ ns) (members-are fs j.1 j.3) ∙ sym (ap (λ i. texts (with_ident i (field_idents fs))) m.1)
 
   -- ---- places are within
@@ -110,7 +110,7 @@ module _ (place_of : List ℕ → Option ℕ) where
     members_within [] ms e = subst (MembersWithin n) (some_same [] ms e) tt
     members_within (f ∷ fs) ms e =
         let j = joined (member_of place_of f) (all_of (member_of place_of) fs) ms e in
-        let m = member_parts f.ident (field_type place_of f) j.0 j.2 in
+        let m = member_parts (description_of f.attrs) f.ident (field_type place_of f) j.0 j.2 in
         let t = and_some built (type_of place_of f.ty) j.0.of m.2 in
         subst (MembersWithin n) j.4 (built-within n t.0 j.0.of (within place_of n below f.ty t.0 t.1) t.2, members_within fs j.1 j.3)
 
@@ -124,9 +124,9 @@ module _ (place_of : List ℕ → Option ℕ) where
   -- ---- no fault and nothing unbuilt
 
   built-field : (f : FieldItem) (m : MemberOf) → member_of place_of f ≡ Some m → IsUnbuiltField place_of f → ⊥
-  built-field f m e (inl none) = let p = member_parts f.ident (field_type place_of f) m e in none-some p.0 (sym none ∙ p.1)
+  built-field f m e (inl none) = let p = member_parts (description_of f.attrs) f.ident (field_type place_of f) m e in none-some p.0 (sym none ∙ p.1)
   built-field f m e (inr unbuilt) =
-      let p = member_parts f.ident (field_type place_of f) m e in
+      let p = member_parts (description_of f.attrs) f.ident (field_type place_of f) m e in
       none-some m.of (sym (ap (option_and_then built) unbuilt.1 ∙ unbuilt.2) ∙ p.2)
 
   fields_built : (fs : List FieldItem) (ms : List MemberOf) (span : Span) → all_of (member_of place_of) fs ≡ Some ms → Somewhere (λ f. IsUnbuiltField place_of f × (span ≡ f.span)) fs → ⊥
@@ -157,7 +157,7 @@ module _ (place_of : List ℕ → Option ℕ) where
     fields_sound [] ms fault e l h = h
     fields_sound (f ∷ fs) ms fault e l h =
         let j = joined (member_of place_of f) (all_of (member_of place_of) fs) ms e in
-        let m = member_parts f.ident (field_type place_of f) j.0 j.2 in
+        let m = member_parts (description_of f.attrs) f.ident (field_type place_of f) j.0 j.2 in
         let t = and_some built (type_of place_of f.ty) j.0.of m.2 in
         elim h [
           | inl w ↦ sound place_of f.ty t.0 t.1 l.0 fault w

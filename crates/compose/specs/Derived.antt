@@ -7,6 +7,8 @@ use Rattle.schema_core.specs.Document.{Entry, document}
 use Rattle.schema_core.specs.Entries.{find, names_of, IsInOrder}
 use Rattle.schema_core.specs.Meaning.{IsDistinct}
 use Rattle.written_types.specs.declared.written.Ident.{Ident}
+use Rattle.syntax.specs.declared.item.Attribute.{Attribute}
+use Rattle.syntax.specs.Comments.{docs_of, formatted}
 use Rattle.syntax.specs.Items.{FieldItem, FieldItems, named, unnamed, unit, BodyItem, struct_body, DeclaredItem}
 use Rattle.open_types.specs.declared.open_type.ListHead.TheVariants as lists
 use Rattle.open_types.specs.Open.{Open, Opens}
@@ -60,16 +62,27 @@ built (open_types.through h t) = None
 built (open_types.param i) = None
 built (open_types.named d ts) = declared d ts
 
--- a field with its name and the type that its written type stands for
-abbrev pub member_as : Option Ident → Option Resolved → Option MemberOf
-member_as None t = None
-member_as (Some x) t = option_map (λ of. record { name = x.text; of = of }) t
+-- doc comments as a description, where they say something
+abbrev pub said : List ℕ → Option (List ℕ)
+said [] = None
+said (b ∷ bs) = Some (b ∷ bs)
+
+abbrev pub description_of : List Attribute → Option (List ℕ)
+description_of attributes = said (formatted (docs_of attributes))
+
+-- a field with its name, its description and the type that its written type stands for
+abbrev pub member_from : Ident → Option (List ℕ) → Resolved → MemberOf
+member_from x description of = record { name = x.text; description = description; of = of }
+
+abbrev pub member_as : Option (List ℕ) → Option Ident → Option Resolved → Option MemberOf
+member_as description None t = None
+member_as description (Some x) t = option_map (member_from x description) t
 
 abbrev pub field_type : (List ℕ → Option ℕ) → FieldItem → Option Resolved
 field_type place_of f = option_and_then built (type_of place_of f.ty)
 
 abbrev pub member_of : (List ℕ → Option ℕ) → FieldItem → Option MemberOf
-member_of place_of f = member_as f.ident (field_type place_of f)
+member_of place_of f = member_as (description_of f.attrs) f.ident (field_type place_of f)
 
 abbrev pub fields_in : FieldItems → List FieldItem
 fields_in (named fs) = fs
@@ -89,7 +102,7 @@ abbrev pub is_named_struct : BodyItem → Bool
 is_named_struct (struct_body fs) = has_names fs
 
 abbrev pub struct_of : (List ℕ → Option ℕ) → DeclaredItem → Option StructOf
-struct_of place_of d = cond (is_named_struct d.body) (option_map (λ ms. record { name = d.ident.text; members = ms }) (all_of (member_of place_of) (body_fields d.body))) None
+struct_of place_of d = cond (is_named_struct d.body) (option_map (λ ms. record { name = d.ident.text; description = description_of d.attrs; members = ms }) (all_of (member_of place_of) (body_fields d.body))) None
 
 -- the structs of all declarations, where each type stands for one that is built
 abbrev pub structs_of : List DeclaredItem → Option (List StructOf)

@@ -1,5 +1,5 @@
 -- The types whose schemas are built, and structs of them (the serde data model).
-use Rattle.std.specs.Prelude.{ℕ, zero, suc, List, [], ◌∷◌, Bool, true, false, not, map, box_value}
+use Rattle.std.specs.Prelude.{ℕ, zero, suc, List, [], ◌∷◌, Bool, true, false, not, map, box_value, Option, None}
 use Rattle.leaves.specs.declared.leaf.Leaf.{Leaf}
 use Rattle.compose.specs.declared.place_type.PlaceType.{PlaceType, fold-PlaceType}
 use Rattle.compose.specs.declared.place_type.PlaceType.TheOpen.{PlaceType-F}
@@ -13,13 +13,15 @@ pub data Resolved : Type 0 where
   option : Resolved → Resolved
   named : ℕ → Resolved
 
--- a field by its name and type; a struct by its name and fields
+-- a field by its name, description and type; a struct by its name, description and fields
 pub record MemberOf : Type 0 where
   pub name : List ℕ
+  pub description : Option (List ℕ)
   pub of : Resolved
 
 pub record StructOf : Type 0 where
   pub name : List ℕ
+  pub description : Option (List ℕ)
   pub members : List MemberOf
 
 abbrev pub is_option : Resolved → Bool
@@ -34,7 +36,7 @@ is_required m = not (is_option m.of)
 
 -- the struct at a place; past the end, one without a name
 abbrev pub struct_at : List StructOf → ℕ → StructOf
-struct_at [] d = record { name = []; members = [] }
+struct_at [] d = record { name = []; description = None; members = [] }
 struct_at (s ∷ ss) zero = s
 struct_at (s ∷ ss) (suc d) = struct_at ss d
 
@@ -57,7 +59,7 @@ abbrev pub type_view : PlaceType → Resolved
 type_view = fold-PlaceType Resolved type_step
 
 abbrev pub member_view : Member → MemberOf
-member_view m = record { name = m.ident.text; of = type_view m.ty }
+member_view m = record { name = m.ident.text; description = m.description; of = type_view m.ty }
 
 abbrev pub struct_view : Struct → StructOf
-struct_view s = record { name = s.name; members = map member_view s.members }
+struct_view s = record { name = s.name; description = s.description; members = map member_view s.members }

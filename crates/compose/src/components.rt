@@ -5,7 +5,7 @@ ghost use Rattle.std.specs.BTreeMap.{get_by_text};
 ghost use Rattle.schema_core.specs.Meaning.{IsDistinct};
 ghost use Rattle.schema_core.specs.Schema.{schema_view, object_view, named_views, bind, bind_properties};
 ghost use Rattle.compose.specs.Derived.{place_in, IsWithinType, MembersWithin, AreWithin, AreComponents};
-ghost use Rattle.compose.specs.Terms.{word_of, minimum_of, type_word, only_word, or_null, leaf_object, place, properties_of, required_names, reference_to, struct_schema};
+ghost use Rattle.compose.specs.Terms.{word_of, minimum_of, type_word, only_word, or_null, described, leaf_object, list_of, object_of, place, properties_of, required_names, reference_to, struct_schema};
 ghost use Rattle.compose.specs.Types.{type_view, member_view, struct_view, struct_names};
 
 use crate::place_type::PlaceType;
@@ -13,7 +13,8 @@ use crate::structs::{Member, Struct};
 use diag::{List, Text};
 use leaves::{Leaf, LeafKind};
 use schema_core::{
-    Array, Bound, Components, Object, OneOfSchema, RefLeaf, Schema, SchemaTypeInner, Tree, TypeWord,
+    Additional, Array, ArrayItems, Bound, Components, Notes, Object, OneOfSchema, RefLeaf, Schema,
+    SchemaTypeInner, Tree, TypeWord,
 };
 use std::alloc::{AllocError, Global};
 use std::collections::BTreeMap;
@@ -34,9 +35,13 @@ fn object(alloc: Global, ty: TypeWord) -> Object<RefLeaf>
     Object {
         ty,
         format: None,
+        enum_values: None,
         properties: List::new(alloc),
         required: List::new(alloc),
+        additional: Additional::Absent,
+        property_names: None,
         minimum: None,
+        notes: Notes::new(),
     }
 }
 
@@ -67,9 +72,25 @@ fn minimum_of(kind: LeafKind) -> Option<Bound>
     }
 }
 
+/// Notes of the description alone, where there is one.
+fn described(alloc: Global, description: &Option<Text>) -> Result<Notes, AllocError>
+    ensures { IfOk result (λ notes. notes ≡ described description.now) }
+{
+    let mut notes = Notes::new();
+    if let Some(text) = description {
+        notes.description = Some(text.copy(alloc)?);
+    }
+    Ok(notes)
+}
+
 /// The schema of a built-in name.
-fn leaf_schema(alloc: Global, leaf: Leaf, nullable: bool) -> Result<Schema, AllocError>
-    ensures { IfOk result (λ s. schema_view s ≡ leaf_object nullable leaf) }
+fn leaf_schema(
+    alloc: Global,
+    leaf: Leaf,
+    nullable: bool,
+    description: &Option<Text>,
+) -> Result<Schema, AllocError>
+    ensures { IfOk result (λ s. schema_view s ≡ leaf_object nullable description.now leaf) }
 {
     let mut object = object(alloc, type_word(nullable, word_of(leaf.kind())));
     object.format = match leaf.format() {
@@ -77,6 +98,7 @@ fn leaf_schema(alloc: Global, leaf: Leaf, nullable: bool) -> Result<Schema, Allo
         None => None,
     };
     object.minimum = minimum_of(leaf.kind());
+    object.notes = described(alloc, description)?;
     boxed(alloc, object)
 }
 
@@ -90,30 +112,75 @@ fn or_null(alloc: Global, nullable: bool, schema: Schema) -> Result<Schema, Allo
     let mut items = List::new(alloc);
     items.push(schema)?;
     items.push(boxed(alloc, object(alloc, TypeWord::One(SchemaTypeInner::Null)))?)?;
-    Ok(Tree::OneOf(Box::new(alloc, OneOfSchema { items })?))
+    let notes = Notes::new();
+    Ok(Tree::OneOf(Box::new(alloc, OneOfSchema { items, notes })?))
 }
 
-/// The schema of a place of the type, where null may stand or not.
+/// A list of what the schema accepts, or null where it may be.
+fn list_of(
+    alloc: Global,
+    nullable: bool,
+    description: &Option<Text>,
+    items: Schema,
+) -> Result<Schema, AllocError>
+    ensures { IfOk result (λ s. schema_view s ≡ list_of nullable description.now (schema_view items)) }
+{
+    let array = Array {
+        nullable,
+        items: ArrayItems::Each(items),
+        prefix_items: List::new(alloc),
+        unique: false,
+        max_items: None,
+        min_items: None,
+        notes: described(alloc, description)?,
+    };
+    Ok(Tree::Array(Box::new(alloc, array)?))
+}
+
+/// The schema of a place of the type, where null may stand or not, with its description.
 fn place_schema(
     alloc: Global,
     structs: &[Struct],
     ty: &PlaceType,
     nullable: bool,
+    description: &Option<Text>,
 ) -> Result<Schema, AllocError>
     requires { IsWithinType (length structs.now) (type_view ty.now) }
-    ensures { IfOk result (λ s. schema_view s ≡ bind (reference_to (map struct_view structs.now)) (place nullable (type_view ty.now))) }
+    ensures { IfOk result (λ s. schema_view s ≡ bind (reference_to (map struct_view structs.now)) (place nullable description.now (type_view ty.now))) }
 {
     match ty {
-        PlaceType::Leaf(leaf) => leaf_schema(alloc, *leaf, nullable),
+        PlaceType::Leaf(leaf) => leaf_schema(alloc, *leaf, nullable, description),
         PlaceType::Items(ty) => {
-            let items = place_schema(alloc, structs, ty, false)?;
-            Ok(Tree::Array(Box::new(alloc, Array { nullable, items })?))
+            let items = place_schema(alloc, structs, ty, false, &None)?;
+            list_of(alloc, nullable, description, items)
         }
-        PlaceType::Option(ty) => place_schema(alloc, structs, ty, true),
+        PlaceType::Option(ty) => place_schema(alloc, structs, ty, true, description),
         PlaceType::Named(place) => {
             let name = structs[*place].name.copy(alloc)?;
-            or_null(alloc, nullable, Tree::Leaf(RefLeaf { name }))
+            let notes = described(alloc, description)?;
+            or_null(alloc, nullable, Tree::Leaf(RefLeaf { name, notes }))
         }
+    }
+}
+
+/// An object with these properties.
+fn object_of(
+    properties: List<(Text, Schema)>,
+    required: List<Text>,
+    notes: Notes,
+) -> Object<RefLeaf>
+    ensures { object_view (λ l. l) result ≡ object_of notes required (named_views (λ l. l) properties) }
+{
+    Object {
+        ty: TypeWord::One(SchemaTypeInner::Object),
+        format: None,
+        enum_values: None,
+        properties,
+        required,
+        additional: Additional::Absent,
+        property_names: None,
+        minimum: None,
+        notes,
     }
 }
 
@@ -122,10 +189,10 @@ fn struct_schema(alloc: Global, structs: &[Struct], of: &Struct) -> Result<Schem
     requires { MembersWithin (length structs.now) (struct_view of.now).members }
     ensures { IfOk result (λ s. schema_view s ≡ struct_schema (map struct_view structs.now) (struct_view of.now)) }
 {
-    let mut object = object(alloc, TypeWord::One(SchemaTypeInner::Object));
-    object.properties = properties_of(alloc, structs, of.members.as_slice())?;
-    object.required = required_of(alloc, of.members.as_slice())?;
-    boxed(alloc, object)
+    let properties = properties_of(alloc, structs, of.members.as_slice())?;
+    let required = required_of(alloc, of.members.as_slice())?;
+    let notes = described(alloc, &of.description)?;
+    boxed(alloc, object_of(properties, required, notes))
 }
 
 /// A property for each member.
@@ -139,7 +206,7 @@ fn properties_of(
 {
     let mut properties = List::new(alloc);
     for member in members {
-        let schema = place_schema(alloc, structs, &member.ty, false)?;
+        let schema = place_schema(alloc, structs, &member.ty, false, &member.description)?;
         properties.push((member.ident.text.copy(alloc)?, schema))?;
     }
     Ok(properties)

@@ -7,20 +7,20 @@ ghost use Rattle.written_types.specs.declared.written.Ident.{Ident as AnyIdent};
 ghost use Rattle.syntax.specs.Items.{field_view, body_view, declaration_view};
 ghost use Rattle.schema_core.specs.Meaning.{IsDistinct};
 ghost use Rattle.resolving.specs.Resolved.{Somewhere};
-ghost use Rattle.compose.specs.Derived.{all_of, body_fields, is_named_struct, member_of, struct_of, MembersDiffer};
+ghost use Rattle.compose.specs.Derived.{all_of, description_of, member_from, body_fields, is_named_struct, member_of, struct_of, MembersDiffer};
 ghost use Rattle.compose.specs.Faults.{IsFaultyField, IsFaultyItem, field_idents, unbuilt_message};
 ghost use Rattle.compose.specs.Settled.{IsSmall, HasSmall};
 ghost use Rattle.std.specs.List.{AllByRecursion};
-ghost use Rattle.compose.specs.Types.{member_view, struct_view, member_names};
+ghost use Rattle.compose.specs.Types.{type_view, member_view, struct_view, member_names};
 
 use crate::names::places_of;
-use crate::place_type::built;
+use crate::place_type::{PlaceType, built};
 use crate::structs::{Member, Struct};
-use diag::{DeriveError, Diagnostics, Kind, List, Span};
+use diag::{DeriveError, Diagnostics, Kind, List, Span, Text};
 use resolving::resolve_type;
 use std::alloc::{AllocError, Global};
 use std::collections::BTreeMap;
-use syntax::{Body, Declaration, Field, Fields};
+use syntax::{Attribute, Body, CommentAttributes, Declaration, Field, Fields, Ident};
 
 /// The refusal of a form that is not built yet.
 fn unbuilt(alloc: Global, span: Span) -> Result<DeriveError, AllocError>
@@ -33,6 +33,34 @@ fn unbuilt(alloc: Global, span: Span) -> Result<DeriveError, AllocError>
         "unexpected text in a declaration",
     )?;
     Ok(DeriveError::Refused(diagnostics))
+}
+
+/// Doc comments as a description, where they say something.
+fn description_of(alloc: Global, attributes: &[Attribute]) -> Result<Option<Text>, AllocError>
+    ensures { IfOk result (λ description. description ≡ description_of attributes.now) }
+{
+    let text = CommentAttributes::from_attributes(alloc, attributes)?.as_formatted_string(alloc)?;
+    if text.as_str().is_empty() {
+        Ok(None)
+    } else {
+        Ok(Some(text))
+    }
+}
+
+fn member(
+    alloc: Global,
+    ident: &Ident,
+    attributes: &[Attribute],
+    ty: PlaceType,
+) -> Result<Member, AllocError>
+    ensures ident { IfOk result (λ m. m.ident ≡ ident.now) }
+    ensures member { IfOk result (λ m. member_view m ≡ member_from ident.now (description_of attributes.now) (type_view ty)) }
+{
+    Ok(Member {
+        ident: ident.copy(alloc)?,
+        description: description_of(alloc, attributes)?,
+        ty,
+    })
 }
 
 fn resolve_field(
@@ -51,10 +79,7 @@ fn resolve_field(
     };
     let ty = resolve_type(alloc, places, &field.ty)?;
     match built(alloc, &ty)? {
-        Some(ty) => Ok(Member {
-            ident: ident.copy(alloc)?,
-            ty,
-        }),
+        Some(ty) => Ok(member(alloc, ident, field.attrs.as_slice(), ty)?),
         None => Err(unbuilt(alloc, field.span)?),
     }
 }
@@ -107,6 +132,7 @@ fn resolve_declaration(
     let _ = places_of(alloc, members.as_slice())?;
     Ok(Struct {
         name: declaration.ident.text.copy(alloc)?,
+        description: description_of(alloc, declaration.attrs.as_slice())?,
         members,
     })
 }

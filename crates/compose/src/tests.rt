@@ -14,12 +14,12 @@ const SCHEMAS: [(&str, &str); 15] = [
         r#""type":{"type":"object"}"#,
     ),
     (
-        "/// Doc.\nstruct A { /** Doc. */ pub(in a::b) r#use: ::std::vec::Vec<(u8)>, c: a::A<'static> }",
-        r##""A":{"properties":{"c":{"$ref":"#/components/schemas/A"},"use":{"items":{"format":"int32","minimum":0,"type":"integer"},"type":"array"}},"required":["use","c"],"type":"object"}"##,
+        "/// A list.\n///   Of it.\nstruct A { /** All. */ pub(in a::b) r#use: ::std::vec::Vec<(u8)>, /// Next.\n c: a::A<'static> }",
+        r##""A":{"description":"A list.\n  Of it.","properties":{"c":{"$ref":"#/components/schemas/A","description":"Next."},"use":{"description":"All.","items":{"format":"int32","minimum":0,"type":"integer"},"type":"array"}},"required":["use","c"],"type":"object"}"##,
     ),
     (
-        "//! Docs.\n#![allow(dead_code)] struct A { b: Option::<dyn Send + 'static> } struct Send {}",
-        r##""A":{"properties":{"b":{"oneOf":[{"$ref":"#/components/schemas/Send"},{"type":"null"}]}},"type":"object"},"Send":{"type":"object"}"##,
+        "//! Docs.\n#![allow(dead_code)] struct A { /// Or none.\n b: Option::<dyn Send + 'static>, /// Maybe.\n c: Option<u8>, ///  \n d: u8 } struct Send {}",
+        r##""A":{"properties":{"b":{"oneOf":[{"$ref":"#/components/schemas/Send","description":"Or none."},{"type":"null"}]},"c":{"description":"Maybe.","format":"int32","minimum":0,"type":["integer","null"]},"d":{"format":"int32","minimum":0,"type":"integer"}},"required":["d"],"type":"object"},"Send":{"type":"object"}"##,
     ),
     (
         "struct Pet { id: u64, name: Option<String> }",

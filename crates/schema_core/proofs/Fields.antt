@@ -5,9 +5,10 @@ use Rattle.std.specs.Ordering.{match_ordering}
 use Rattle.std.proofs.lemmas.Map.Text.{is_eq-slice_cmp}
 use Rattle.std.proofs.lemmas.Slice.Eq.{bytes_eq-Decides}
 use Rattle.acceptance.specs.Json.{Json, Members, no_members, member, put, put_given, put_all, entries, names, is_in, look, if_there}
-use Rattle.acceptance.specs.Keyword.{keyword_of}
+use Rattle.acceptance.specs.Keyword.{keyword_of, other}
 use Rattle.acceptance.specs.Acceptance.{keyword_holds, accepts_with, members_hold, properties_accept, prefix_accepts, all_accept, one_accepts, reference_holds, each_property}
-use Rattle.schema_core.specs.Form.{put_fields}
+use Rattle.schema_core.specs.declared.notes.Notes.{Notes}
+use Rattle.schema_core.specs.Form.{put_fields, note_fields}
 
 or-swap : (a b c : Bool) → (a || (b || c)) ≡ (b || (a || c))
 or-swap true true c = refl
@@ -84,6 +85,32 @@ look-put j k x (member l y ms) = by (slice_cmp nat_cmp k l) refl (look-put j k x
         shadow false = refl
     by Greater e ih = ap (λ o. cond (bytes_eq j l) (Some y) o) ih ∙ swap (bytes_eq j k) (bytes_eq j l) (look j (entries ms)) (both e)
 
+-- what stands at a name after a field
+abbrev pub given_at : Bool → Option Json → Option Json → Option Json
+given_at false o before = before
+given_at true None before = before
+given_at true (Some x) before = Some x
+
+abbrev pub look_fields : List ℕ → List (List ℕ × Option Json) → Option Json → Option Json
+look_fields k [] before = before
+look_fields k (f ∷ fs) before = look_fields k fs (given_at (bytes_eq k f.0) f.1 before)
+
+look-given : (j k : List ℕ) (o : Option Json) (ms : Members) → look j (entries (put_given k o ms)) ≡ given_at (bytes_eq j k) o (look j (entries ms))
+look-given j k None ms = by (bytes_eq j k)
+  where
+    by : (b : Bool) → look j (entries ms) ≡ given_at b None (look j (entries ms))
+    by false = refl
+    by true = refl
+look-given j k (Some x) ms = look-put j k x ms ∙ by (bytes_eq j k)
+  where
+    by : (b : Bool) → cond b (Some x) (look j (entries ms)) ≡ given_at b (Some x) (look j (entries ms))
+    by false = refl
+    by true = refl
+
+pub look-fields : (k : List ℕ) (fs : List (List ℕ × Option Json)) (ms : Members) → look k (entries (put_fields fs ms)) ≡ look_fields k fs (look k (entries ms))
+look-fields k [] ms = refl
+look-fields k (f ∷ fs) ms = look-fields k fs (put_given f.0 f.1 ms) ∙ ap (look_fields k fs) (look-given k f.0 f.1 ms)
+
 module _ (R : List ℕ → Json → Bool) (w : Members) where
   -- what one member says
   abbrev pub member_holds : List ℕ → Json → Json → Bool
@@ -126,6 +153,14 @@ names-given j k (Some x) ms e h = names-put j k x ms ∙ or-false-of (bytes_eq j
 abbrev pub AreFresh : List (List ℕ × Option Json) → List (List ℕ) → Type 0
 AreFresh [] taken = Unit {0}
 AreFresh (f ∷ fs) taken = (is_in f.0 taken ≡ false) × AreFresh fs (f.0 ∷ taken)
+
+-- no name of the fields is a keyword
+abbrev pub AreOthers : List (List ℕ × Option Json) → Type 0
+AreOthers [] = Unit {0}
+AreOthers (f ∷ fs) = (keyword_of f.0 ≡ other) × AreOthers fs
+
+pub others-notes : (notes : Notes) → AreOthers (note_fields notes)
+others-notes notes = (refl, (refl, (refl, (refl, (refl, (refl, (refl, (refl, (refl, (refl, tt))))))))))
 
 and-last : (a b c : Bool) → (a && (b && c)) ≡ ((b && a) && c)
 and-last true true c = refl
@@ -186,3 +221,15 @@ module _ (R : List ℕ → Json → Bool) where
 
   pub map-of-entries : (ps : List (List ℕ × Json)) (es : List (List ℕ × Json)) → AreNew ps [] → each_property R (put_all ps no_members) es ≡ entries_accept R ps es
   map-of-entries ps es h = all-put ps [] no_members es h (λ j e. refl) ∙ and-true-again (entries_accept R ps es)
+
+-- the names of the map of the entries
+pub names-put_all : (j : List ℕ) (ps : List (List ℕ × Json)) (ms : Members) → is_in j (names (entries (put_all ps ms))) ≡ (is_in j (names ps) || is_in j (names (entries ms)))
+names-put_all j [] ms = refl
+names-put_all j (p ∷ ps) ms =
+    names-put_all j ps (put p.0 p.1 ms) ∙ ap (λ b. is_in j (names ps) || b) (names-put j p.0 p.1 ms) ∙ or-front (is_in j (names ps)) (bytes_eq j p.0) (is_in j (names (entries ms)))
+  where
+    or-front : (a b c : Bool) → (a || (b || c)) ≡ ((b || a) || c)
+    or-front true true c = refl
+    or-front true false c = refl
+    or-front false true c = refl
+    or-front false false c = refl

@@ -1,25 +1,36 @@
 -- The JSON of a schema accepts what the tree accepts.
-use Rattle.std.proofs.Common.{ℕ, ℤ, List, [], ◌∷◌, Bool, true, false, ◌&&◌, ◌||◌, Option, Some, None, option_map, codes, bytes_eq, ◌≡◌, refl, ap, ◌∙◌}
-use Rattle.std.specs.List.{list_all}
-use Rattle.std.proofs.Math.Path.{fun_ext}
+use Rattle.std.proofs.Common.{ℕ, suc, ℤ, List, [], ◌∷◌, Bool, true, false, ◌&&◌, ◌||◌, Option, Some, None, option_map, codes, drop, length, bytes_eq, ◌≡◌, refl, ap, ◌∙◌}
+use Rattle.std.specs.List.{list_all, list_any}
 use Rattle.std.proofs.Math.Bool.{or-false, and-true}
-use Rattle.acceptance.specs.Json.{Json, null, number, text, map, Members, no_members, names, is_in, look, on_map, on_list, if_there}
-use Rattle.acceptance.specs.Acceptance.{kinds_of, texts_of, if_texts, accepts_with}
+use Rattle.acceptance.specs.Json.{Json, null, number, text, list, map, Members, no_members, elements, names, is_in, look, same, on_map, on_list, if_there}
+use Rattle.acceptance.specs.Acceptance.{kinds_of, texts_of, if_texts, keyword_holds, names_of, named, count_of, prefix_count, others_pass, names_pass, in_order, each_accepts, accepts_with}
+use Rattle.acceptance.specs.Keyword.{keyword_of, other}
+use Rattle.acceptance.specs.Judge.{readings_of}
 use Rattle.acceptance.specs.Acceptance.{some_accepts as some_json_accepts}
+use Rattle.schema_core.specs.declared.notes.Notes.{Notes}
 use Rattle.schema_core.specs.declared.tree.TypeWord.{TypeWord}
 use Rattle.schema_core.specs.declared.tree.TypeWord.TheVariants.{Any, One, Nullable}
 use Rattle.schema_core.specs.declared.tree.RefLeaf.{RefLeaf}
-use Rattle.schema_core.specs.Schema.{SchemaOf, leaf, object, array, one_of, SchemasOf, no_schemas, schema, PropertiesOf, no_properties, property, property_names}
-use Rattle.schema_core.specs.Form.{word_text, type_form, texts_form, required_form, entries_form, array_word, put_fields, object_fields, form, schema_forms, property_forms}
-use Rattle.schema_core.specs.Meaning.{word_accepts, minimum_accepts, required_accepts, tree_accepts, some_accepts, properties_accept, IsDistinct, IsProper, AreProper, ArePropertiesProper}
+use Rattle.schema_core.specs.Schema.{SchemaOf, leaf, object, array, one_of, all_of, SchemasOf, no_schemas, schema, schema_count, PropertiesOf, no_properties, property, property_names, PartOf, no_part, truth, part}
+use Rattle.schema_core.specs.Form.{word_text, type_form, texts_form, required_form, entries_form, value_items, values_form, true_form, schemas_form, array_word, put_fields, note_fields, object_fields, array_fields, one_of_fields, all_of_fields, reference_fields, form, part_form, schema_forms, property_forms}
+use Rattle.schema_core.specs.Meaning.{word_accepts, enum_accepts, unique_accepts, max_items_accepts, min_items_accepts, minimum_accepts, required_accepts, tree_accepts, where_given, each_in_order, all_accept, some_accepts, properties_accept, IsDistinct, IsProper, IsPartProper, AreProper, ArePropertiesProper}
 use Rattle.std.proofs.lemmas.Slice.Eq.{bytes_eq-Decides}
 use Rattle.std.proofs.Math.Bool.{or-true}
-use Rattle.schema_core.proofs.Fields.{field_holds, map-of-fields, entries_accept, map-of-entries, AreNew, or-false-of, same_name}
+use Rattle.schema_core.proofs.Fields.{AreOthers, others-notes, given_at, names-put_all, field_holds, fields_hold, look-fields, map-of-fields, entries_accept, map-of-entries, AreNew, or-false-of, same_name}
 
 always : (v : Json) → true ≡ on_map v (λ es. true)
 always null = refl
 always (map ms) = refl
 always _ = refl
+
+always-list : (v : Json) → true ≡ on_list v (λ xs. true)
+always-list (list xs) = refl
+always-list null = refl
+always-list _ = refl
+
+elements-values : (xs : List Json) → elements (value_items xs) ≡ xs
+elements-values [] = refl
+elements-values (x ∷ xs) = ap (λ ys. x ∷ ys) (elements-values xs)
 
 texts_of-texts_form : (ks : List (List ℕ)) → texts_of (texts_form ks) ≡ Some ks
 texts_of-texts_form [] = refl
@@ -32,13 +43,37 @@ module _ (R : List ℕ → Json → Bool) (w : Members) where
   type-field (One x) v = refl
   type-field (Nullable x) v = ap (λ b. is_in (word_text x) (kinds_of v) || b) (or-false _)
 
-  format-field : (o : Option (List ℕ)) (v : Json) → field_holds R w (codes "format", option_map text o) v ≡ true
-  format-field None v = refl
-  format-field (Some x) v = refl
+  -- a member that is no keyword
+  other-field : (k : List ℕ) (o : Option Json) (v : Json) → keyword_of k ≡ other → field_holds R w (k, o) v ≡ true
+  other-field k None v e = refl
+  other-field k (Some x) v e = λ i. keyword_holds (e i) w x (readings_of R x) v
+
+  other-fields : (fs : List (List ℕ × Option Json)) (v : Json) → AreOthers fs → fields_hold R w fs v ≡ true
+  other-fields [] v h = refl
+  other-fields (f ∷ fs) v h = λ i. other-field f.0 f.1 v h.0 i && other-fields fs v h.1 i
+
+  note-fields : (notes : Notes) (v : Json) → fields_hold R w (note_fields notes) v ≡ true
+  note-fields notes v = other-fields (note_fields notes) v (others-notes notes)
 
   required-field : (ks : List (List ℕ)) (v : Json) → field_holds R w (codes "required", required_form ks) v ≡ required_accepts ks v
   required-field [] v = always v
   required-field (k ∷ ks) v = λ i. on_map v (λ es. if_texts (texts_of-texts_form (k ∷ ks) i) (list_all (λ l. is_in l (names es))))
+
+  enum-field : (o : Option (List Json)) (v : Json) → field_holds R w (codes "enum", values_form o) v ≡ enum_accepts o v
+  enum-field None v = refl
+  enum-field (Some xs) v = λ i. list_any (same v) (elements-values xs i)
+
+  unique-field : (b : Bool) (v : Json) → field_holds R w (codes "uniqueItems", true_form b) v ≡ unique_accepts b v
+  unique-field false v = refl
+  unique-field true v = refl
+
+  max_items-field : (o : Option ℤ) (v : Json) → field_holds R w (codes "maxItems", option_map number o) v ≡ max_items_accepts o v
+  max_items-field None v = refl
+  max_items-field (Some n) v = refl
+
+  min_items-field : (o : Option ℤ) (v : Json) → field_holds R w (codes "minItems", option_map number o) v ≡ min_items_accepts o v
+  min_items-field None v = refl
+  min_items-field (Some n) v = refl
 
   minimum-field : (o : Option ℤ) (v : Json) → field_holds R w (codes "minimum", option_map number o) v ≡ minimum_accepts o v
   minimum-field None v = refl
@@ -63,12 +98,30 @@ new-forms (property k s ps) taken d t =
         by false f = f
         by true f = let same = (bytes_eq-Decides j k).0 f in let no : is_in j (property_names ps) ≡ false = ap (λ l. is_in l (property_names ps)) same ∙ d.0 in cc
 
-and-parts : (a b c d : Bool) → (a && (true && (b && (c && (d && true))))) ≡ (a && (b && (c && d)))
-and-parts true true true true = refl
-and-parts true true true false = refl
-and-parts true true false d = refl
-and-parts true false c d = refl
-and-parts false b c d = refl
+-- `properties` of an object names its properties
+names-forms : (ps : PropertiesOf RefLeaf) → names (property_forms ps) ≡ property_names ps
+names-forms no_properties = refl
+names-forms (property k s ps) = ap (λ ks. k ∷ ks) (names-forms ps)
+
+named-properties : (j : List ℕ) (ps : PropertiesOf RefLeaf) → is_in j (names_of (given_at true (entries_form (property_forms ps)) None)) ≡ is_in j (property_names ps)
+named-properties j no_properties = refl
+named-properties j (property k s ps) =
+    names-put_all j (property_forms (property k s ps)) no_members ∙ or-false (is_in j (names (property_forms (property k s ps)))) ∙ ap (is_in j) (names-forms (property k s ps))
+
+-- `prefixItems` of an array counts its schemas in front
+length-forms : (ss : SchemasOf RefLeaf) → length (elements (schema_forms ss)) ≡ schema_count ss
+length-forms no_schemas = refl
+length-forms (schema s ss) = ap suc (length-forms ss)
+
+counted-schemas : (ss : SchemasOf RefLeaf) → count_of (given_at true (schemas_form (schema_forms ss)) None) ≡ schema_count ss
+counted-schemas no_schemas = refl
+counted-schemas (schema s ss) = length-forms (schema s ss)
+
+last-true : (a b c d e f g : Bool) → (a && (b && (c && (d && (e && (f && (g && true))))))) ≡ (a && (b && (c && (d && (e && (f && g))))))
+last-true a b c d e f g = λ i. a && (b && (c && (d && (e && (f && and-true g i)))))
+
+last-of-six : (a b c d e f : Bool) → (a && (b && (c && (d && (e && (f && true)))))) ≡ (a && (b && (c && (d && (e && f)))))
+last-of-six a b c d e f = λ i. a && (b && (c && (d && (e && and-true f i))))
 
 module _ (R : List ℕ → Json → Bool) where
   abbrev at_leaf : RefLeaf → Json → Bool
@@ -79,37 +132,81 @@ module _ (R : List ℕ → Json → Bool) where
   properties-field w no_properties v h e = always v
   properties-field w (property k s ps) v h e = λ i. on_map v (λ es. (map-of-entries R (property_forms (property k s ps)) es h ∙ e es) i)
 
-  items-field : (n : Bool) (s : SchemaOf RefLeaf) (v : Json) → accepts_with R (form s) ≡ tree_accepts at_leaf s → accepts_with R (form (array n s)) v ≡ (word_accepts (array_word n) v && on_list v (list_all (tree_accepts at_leaf s)))
-  items-field false s v e = (λ i. on_list v (list_all (e i)) && (is_in (codes "array") (kinds_of v) && true)) ∙ swap (on_list v (list_all (tree_accepts at_leaf s))) (is_in (codes "array") (kinds_of v))
-    where
-      swap : (a b : Bool) → (a && (b && true)) ≡ (b && a)
-      swap true true = refl
-      swap true false = refl
-      swap false true = refl
-      swap false false = refl
-  items-field true s v e = (λ i. on_list v (list_all (e i)) && (((is_in (codes "array") (kinds_of v) || (is_in (codes "null") (kinds_of v) || false))) && true)) ∙ swap (on_list v (list_all (tree_accepts at_leaf s))) (is_in (codes "array") (kinds_of v)) (is_in (codes "null") (kinds_of v))
-    where
-      swap : (a b c : Bool) → (a && ((b || (c || false)) && true)) ≡ ((b || c) && a)
-      swap true true c = refl
-      swap true false true = refl
-      swap true false false = refl
-      swap false true c = refl
-      swap false false true = refl
-      swap false false false = refl
+  front-field : (w : Members) (ss : SchemasOf RefLeaf) (v : Json) → ((xs : List Json) → in_order R (schema_forms ss) xs ≡ each_in_order at_leaf ss xs) →
+      field_holds R w (codes "prefixItems", schemas_form (schema_forms ss)) v ≡ on_list v (each_in_order at_leaf ss)
+  front-field w no_schemas v e = always-list v
+  front-field w (schema s ss) v e = λ i. on_list v (λ xs. e xs i)
 
   mutual
     pub form-accepts : (s : SchemaOf RefLeaf) → IsProper s → (v : Json) → accepts_with R (form s) v ≡ tree_accepts at_leaf s v
-    form-accepts (leaf r) p v = and-true _
-    form-accepts (object facts ps) p v =
-        map-of-fields R (put_fields (object_fields facts (property_forms ps)) no_members) (object_fields facts (property_forms ps)) v (refl, (refl, (refl, (refl, (refl, tt)))))
-        ∙ (λ i. type-field R (put_fields (object_fields facts (property_forms ps)) no_members) facts.type_word v i
-        && (format-field R (put_fields (object_fields facts (property_forms ps)) no_members) facts.format v i
-        && (properties-field (put_fields (object_fields facts (property_forms ps)) no_members) ps v (new-forms ps [] p.0 (λ j e. refl)) (properties-accept ps p.1) i
-        && (required-field R (put_fields (object_fields facts (property_forms ps)) no_members) facts.required v i
-        && (minimum-field R (put_fields (object_fields facts (property_forms ps)) no_members) facts.minimum v i && true)))))
-        ∙ and-parts (word_accepts facts.type_word v) (on_map v (properties_accept at_leaf ps)) (required_accepts facts.required v) (minimum_accepts facts.minimum v)
-    form-accepts (array n s) p v = items-field n s v (fun_ext (form-accepts s p))
-    form-accepts (one_of ss) p v = and-true _ ∙ some-accepts ss p v
+    form-accepts (leaf r) p v =
+        let fs = reference_fields r in
+        let w = put_fields fs no_members in
+        map-of-fields R w fs v (refl, (refl, (refl, (refl, (refl, (refl, (refl, (refl, (refl, (refl, (refl, tt))))))))))) ∙ (λ i. R r.name v && note-fields R w r.notes v i) ∙ and-true _
+    form-accepts (object facts ps additional others) p v =
+        let fs = object_fields facts (property_forms ps) (part_form additional) (part_form others) in
+        let w = put_fields fs no_members in
+        let same_names : (j : List ℕ) → is_in j (named w) ≡ is_in j (property_names ps) = λ j. ap (λ o. is_in j (names_of o)) (look-fields (codes "properties") fs no_members) ∙ named-properties j ps in
+        map-of-fields R w fs v (refl, (refl, (refl, (refl, (refl, (refl, (refl, (refl, (refl, (refl, (refl, (refl, (refl, (refl, (refl, (refl, (refl, (refl, tt))))))))))))))))))
+        ∙ (λ i. type-field R w facts.type_word v i
+        && (other-field R w (codes "format") (option_map text facts.format) v refl i
+        && (enum-field R w facts.enum_values v i
+        && (properties-field w ps v (new-forms ps [] p.0 (λ j e. refl)) (properties-accept ps p.1.0) i
+        && (part-accepts additional p.1.1.0 (λ accepts. on_map v (others_pass (named w) accepts)) i
+        && (part-accepts others p.1.1.1 (λ accepts. on_map v (names_pass accepts)) i
+        && (required-field R w facts.required v i
+        && (minimum-field R w facts.minimum v i && note-fields R w facts.notes v i))))))))
+        ∙ (λ i. word_accepts facts.type_word v
+        && (enum_accepts facts.enum_values v
+        && (on_map v (properties_accept at_leaf ps)
+        && (where_given at_leaf additional (λ accepts. on_map v (list_all (λ e. same_names e.0 i || accepts e.1)))
+        && (where_given at_leaf others (λ accepts. on_map v (names_pass accepts))
+        && (required_accepts facts.required v
+        && (minimum_accepts facts.minimum v && true)))))))
+        ∙ last-true (word_accepts facts.type_word v) (enum_accepts facts.enum_values v) (on_map v (properties_accept at_leaf ps))
+        (where_given at_leaf additional (λ accepts. on_map v (others_pass (property_names ps) accepts)))
+        (where_given at_leaf others (λ accepts. on_map v (names_pass accepts))) (required_accepts facts.required v) (minimum_accepts facts.minimum v)
+    form-accepts (array facts front rest) p v =
+        let fs = array_fields facts (schema_forms front) (part_form rest) in
+        let w = put_fields fs no_members in
+        let counted : prefix_count w ≡ schema_count front = ap count_of (look-fields (codes "prefixItems") fs no_members) ∙ counted-schemas front in
+        map-of-fields R w fs v (refl, (refl, (refl, (refl, (refl, (refl, (refl, (refl, (refl, (refl, (refl, (refl, (refl, (refl, (refl, (refl, tt))))))))))))))))
+        ∙ (λ i. type-field R w (array_word facts.nullable) v i
+        && (unique-field R w facts.unique v i
+        && (max_items-field R w facts.max_items v i
+        && (min_items-field R w facts.min_items v i
+        && (front-field w front v (in-order-accepts front p.0) i
+        && (part-accepts rest p.1 (λ accepts. on_list v (λ xs. list_all accepts (drop (prefix_count w) xs))) i && note-fields R w facts.notes v i))))))
+        ∙ (λ i. word_accepts (array_word facts.nullable) v
+        && (unique_accepts facts.unique v
+        && (max_items_accepts facts.max_items v
+        && (min_items_accepts facts.min_items v
+        && (on_list v (each_in_order at_leaf front)
+        && (where_given at_leaf rest (λ accepts. on_list v (λ xs. list_all accepts (drop (counted i) xs))) && true))))))
+        ∙ last-of-six (word_accepts (array_word facts.nullable) v) (unique_accepts facts.unique v) (max_items_accepts facts.max_items v) (min_items_accepts facts.min_items v)
+        (on_list v (each_in_order at_leaf front)) (where_given at_leaf rest (λ accepts. on_list v (λ xs. list_all accepts (drop (schema_count front) xs))))
+    form-accepts (one_of notes ss) p v =
+        let fs = one_of_fields notes (schema_forms ss) in
+        let w = put_fields fs no_members in
+        map-of-fields R w fs v (refl, (refl, (refl, (refl, (refl, (refl, (refl, (refl, (refl, (refl, (refl, tt))))))))))) ∙ (λ i. some-accepts ss p v i && note-fields R w notes v i) ∙ and-true _
+    form-accepts (all_of notes ss) p v =
+        let fs = all_of_fields notes (schema_forms ss) in
+        let w = put_fields fs no_members in
+        map-of-fields R w fs v (refl, (refl, (refl, (refl, (refl, (refl, (refl, (refl, (refl, (refl, (refl, tt))))))))))) ∙ (λ i. all-accept ss p v i && note-fields R w notes v i) ∙ and-true _
+
+    part-accepts : (t : PartOf RefLeaf) → IsPartProper t → (asked : (Json → Bool) → Bool) → if_there (part_form t) (λ x. asked (accepts_with R x)) ≡ where_given at_leaf t asked
+    part-accepts no_part p asked = refl
+    part-accepts (truth b) p asked = refl
+    part-accepts (part s) p asked = λ i. asked (λ v. form-accepts s p v i)
+
+    in-order-accepts : (ss : SchemasOf RefLeaf) → AreProper ss → (vs : List Json) → in_order R (schema_forms ss) vs ≡ each_in_order at_leaf ss vs
+    in-order-accepts no_schemas p vs = refl
+    in-order-accepts (schema s ss) p [] = refl
+    in-order-accepts (schema s ss) p (v ∷ vs) = λ i. form-accepts s p.0 v i && in-order-accepts ss p.1 vs i
+
+    all-accept : (ss : SchemasOf RefLeaf) → AreProper ss → (v : Json) → each_accepts R (schema_forms ss) v ≡ all_accept at_leaf ss v
+    all-accept no_schemas p v = refl
+    all-accept (schema s ss) p v = λ i. form-accepts s p.0 v i && all-accept ss p.1 v i
 
     pub some-accepts : (ss : SchemasOf RefLeaf) → AreProper ss → (v : Json) → some_json_accepts R (schema_forms ss) v ≡ some_accepts at_leaf ss v
     some-accepts no_schemas p v = refl

@@ -1,16 +1,17 @@
 -- The references of the JSON of a schema are the leaves of the tree.
-use Rattle.std.proofs.Common.{ℕ, ℤ, List, [], ◌∷◌, Option, Some, None, option_map, codes, nat_cmp, Ordering, Less, Equal, Greater, ◌≡◌, refl, subst}
+use Rattle.std.proofs.Common.{ℕ, List, [], ◌∷◌, Option, Some, None, option_map, codes, nat_cmp, Ordering, Less, Equal, Greater, ◌≡◌, refl, sym, subst}
 use Rattle.std.specs.Cmp.Lexicographic.{slice_cmp}
 use Rattle.std.specs.Ordering.{match_ordering}
-use Rattle.acceptance.specs.Json.{Json, number, text, Members, no_members, member, put, put_given, put_all}
-use Rattle.acceptance.specs.Keyword.{keyword_of}
+use Rattle.acceptance.specs.Json.{Json, Items, no_items, item, number, text, Members, no_members, member, put, put_given, put_all}
+use Rattle.acceptance.specs.Keyword.{Keyword, keyword_of, other}
 use Rattle.acceptance.specs.References.{EachReference, InMembers, InProperties, InSchemas, InItems, InEach, ReferenceHas, AtKeyword}
+use Rattle.schema_core.specs.declared.notes.Notes.{Notes}
 use Rattle.schema_core.specs.declared.tree.TypeWord.{TypeWord}
 use Rattle.schema_core.specs.declared.tree.TypeWord.TheVariants.{Any, One, Nullable}
 use Rattle.schema_core.specs.declared.tree.RefLeaf.{RefLeaf}
-use Rattle.schema_core.specs.Schema.{SchemaOf, leaf, object, array, one_of, SchemasOf, no_schemas, schema, PropertiesOf, no_properties, property, EachLeaf, EachSchemaLeaf, EachPropertyLeaf}
-use Rattle.schema_core.specs.Form.{type_form, required_form, entries_form, array_word, put_fields, object_fields, form, schema_forms, property_forms}
-use Rattle.schema_core.proofs.Fields.{equal_names}
+use Rattle.schema_core.specs.Schema.{SchemaOf, leaf, object, array, one_of, all_of, SchemasOf, no_schemas, schema, PropertiesOf, no_properties, property, PartOf, no_part, truth, part, EachLeaf, EachSchemaLeaf, EachPropertyLeaf, EachPartLeaf}
+use Rattle.schema_core.specs.Form.{type_form, required_form, entries_form, values_form, true_form, schemas_form, array_word, put_fields, note_fields, object_fields, array_fields, one_of_fields, all_of_fields, reference_fields, form, part_form, schema_forms, property_forms}
+use Rattle.schema_core.proofs.Fields.{equal_names, AreOthers, others-notes}
 
 module _ (Q : List ℕ → Type 0) where
   -- what is asked of a member, and of a field that may be left out
@@ -66,17 +67,30 @@ module _ (Q : List ℕ → Type 0) where
   at-type (One w) = tt
   at-type (Nullable w) = tt
 
-  at-format : (o : Option (List ℕ)) → AtField (codes "format") (option_map text o)
-  at-format None = tt
-  at-format (Some x) = tt
+  -- a member that is no keyword
+  at-other : (k : List ℕ) (o : Option Json) → keyword_of k ≡ other → AtField k o
+  at-other k None e = tt
+  at-other k (Some x) e = subst (λ (w : Keyword). AtKeyword w (EachReference Q x) (InProperties Q x) (InSchemas Q x) (ReferenceHas Q x)) (sym e) tt
+
+  at-others : (fs : List (List ℕ × Option Json)) → AreOthers fs → AtFields fs
+  at-others [] h = tt
+  at-others (f ∷ fs) h = (at-other f.0 f.1 h.0, at-others fs h.1)
+
+  at-notes : (notes : Notes) → AtFields (note_fields notes)
+  at-notes notes = at-others (note_fields notes) (others-notes notes)
 
   at-required : (ks : List (List ℕ)) → AtField (codes "required") (required_form ks)
   at-required [] = tt
   at-required (k ∷ ks) = tt
 
-  at-minimum : (o : Option ℤ) → AtField (codes "minimum") (option_map number o)
-  at-minimum None = tt
-  at-minimum (Some x) = tt
+  -- a member whose value is no schema
+  at-plain : (k : List ℕ) (o : Option Json) → ((x : Json) → AtMember k x) → AtField k o
+  at-plain k None h = tt
+  at-plain k (Some x) h = h x
+
+  at-front : (xs : Items) → InItems Q xs → AtField (codes "prefixItems") (schemas_form xs)
+  at-front no_items h = tt
+  at-front (item x xs) h = h
 
   at-properties : (ps : List (List ℕ × Json)) → InEntries ps → AtField (codes "properties") (entries_form ps)
   at-properties [] h = tt
@@ -84,12 +98,48 @@ module _ (Q : List ℕ → Type 0) where
 
   mutual
     pub form-refers : (s : SchemaOf RefLeaf) → EachLeaf (λ r. Q r.name) s → EachReference Q (form s)
-    form-refers (leaf r) h = (h, tt)
-    form-refers (object facts ps) h =
-        in-fields (object_fields facts (property_forms ps)) no_members
-        (at-type facts.type_word, (at-format facts.format, (at-properties (property_forms ps) (properties-refer ps h), (at-required facts.required, (at-minimum facts.minimum, tt))))) tt
-    form-refers (array n s) h = in-fields ((codes "type", type_form (array_word n)) ∷ (codes "items", Some (form s)) ∷ []) no_members (at-type (array_word n), (form-refers s h, tt)) tt
-    form-refers (one_of ss) h = (schemas-refer ss h, tt)
+    form-refers (leaf r) h = in-fields (reference_fields r) no_members (h, at-notes r.notes) tt
+    form-refers (object facts ps additional names) h =
+        in-fields (object_fields facts (property_forms ps) (part_form additional) (part_form names)) no_members (
+          at-type facts.type_word,
+          (
+            at-other (codes "format") (option_map text facts.format) refl,
+            (
+              at-plain (codes "enum") (values_form facts.enum_values) (λ x. tt),
+              (
+                at-properties (property_forms ps) (properties-refer ps h.0),
+                (
+                  part-refers additional h.1.0,
+                  (
+                    part-refers names h.1.1,
+                    (at-required facts.required, (at-plain (codes "minimum") (option_map number facts.minimum) (λ x. tt), at-notes facts.notes)),
+                  ),
+                ),
+              ),
+            ),
+          ),
+        ) tt
+    form-refers (array facts front rest) h =
+        in-fields (array_fields facts (schema_forms front) (part_form rest)) no_members (
+          at-type (array_word facts.nullable),
+          (
+            at-plain (codes "uniqueItems") (true_form facts.unique) (λ x. tt),
+            (
+              at-plain (codes "maxItems") (option_map number facts.max_items) (λ x. tt),
+              (
+                at-plain (codes "minItems") (option_map number facts.min_items) (λ x. tt),
+                (at-front (schema_forms front) (schemas-refer front h.0), (part-refers rest h.1, at-notes facts.notes)),
+              ),
+            ),
+          ),
+        ) tt
+    form-refers (one_of notes ss) h = in-fields (one_of_fields notes (schema_forms ss)) no_members (schemas-refer ss h, at-notes notes) tt
+    form-refers (all_of notes ss) h = in-fields (all_of_fields notes (schema_forms ss)) no_members (schemas-refer ss h, at-notes notes) tt
+
+    pub part-refers : (p : PartOf RefLeaf) → EachPartLeaf (λ r. Q r.name) p → AtField (codes "items") (part_form p)
+    part-refers no_part h = tt
+    part-refers (truth b) h = tt
+    part-refers (part s) h = form-refers s h
 
     pub schemas-refer : (ss : SchemasOf RefLeaf) → EachSchemaLeaf (λ r. Q r.name) ss → InItems Q (schema_forms ss)
     schemas-refer no_schemas h = tt

@@ -3,13 +3,14 @@ use Rattle.std.proofs.Common.{ℕ, suc, ◌+◌, ◌<◌, Some, rules, arith, Li
 use Rattle.std.proofs.lemmas.List.{take_more, map-append}
 use Rattle.serde_json.specs.Data.{Data, string, item as data_item, put as put_data, Members as DataMembers}
 use Rattle.serde_json.specs.View.{items_of}
-use Rattle.acceptance.specs.Json.{Json, Members, put, put_all, no_members, map_of}
+use Rattle.acceptance.specs.Json.{Json, list, Members, put, put_all, no_members, map_of}
 use Rattle.acceptance.specs.Data.{data_of, items_data, members_data}
 use Rattle.schema_core.specs.declared.tree.Tree.{Tree, the_lemmas}
+use Rattle.schema_core.specs.declared.tree.Array.{Array}
 use Rattle.schema_core.specs.declared.tree.Object.{Object}
 use Rattle.schema_core.specs.declared.tree.RefLeaf.{RefLeaf}
-use Rattle.schema_core.specs.Schema.{Facts, object, object_view, schema_view, tree_views, named_views}
-use Rattle.schema_core.specs.Form.{form, schema_forms, property_forms, texts_form, entries_form}
+use Rattle.schema_core.specs.Schema.{Facts, ArrayFacts, object, array, object_view, array_view, additional_view, array_items_view, optional_view, schema_view, tree_views, named_views}
+use Rattle.schema_core.specs.Form.{form, schema_forms, property_forms, texts_form, value_items, schemas_form, entries_form}
 use Rattle.schema_core.proofs.Puts.{data_put}
 
 pub texts_items : (ts : List (List ℕ)) → items_of (map_list string ts) ≡ items_data (texts_form ts)
@@ -49,11 +50,27 @@ put_step f xs i x h here name d old new n e o p =
     ∙ data_put (f x).0 (f x).1 before ∙ ap members_data (sym more)
 
 abbrev pub facts_of : Object RefLeaf → Facts
-facts_of o = record { type_word = o.ty; format = o.format; required = o.required; minimum = o.minimum }
+facts_of o = record { type_word = o.ty; format = o.format; required = o.required; enum_values = o.enum_values; minimum = o.minimum; notes = o.notes }
 
 -- an object by its fields
-pub object_view-is : (o : Object RefLeaf) → object_view (λ l. l) o ≡ object (facts_of o) (named_views (λ l. l) o.properties)
+pub object_view-is : (o : Object RefLeaf) →
+    object_view (λ l. l) o ≡ object (facts_of o) (named_views (λ l. l) o.properties) (additional_view (λ l. l) o.additional) (optional_view (λ l. l) o.property_names)
 object_view-is o = search (rules, the_lemmas)
+
+abbrev pub array_facts_of : Array RefLeaf → ArrayFacts
+array_facts_of a = record { nullable = a.nullable; unique = a.unique; max_items = a.max_items; min_items = a.min_items; notes = a.notes }
+
+pub array_view-is : (a : Array RefLeaf) → array_view (λ l. l) a ≡ array (array_facts_of a) (tree_views (λ l. l) a.prefix_items) (array_items_view (λ l. l) a.items)
+array_view-is a = search (rules, the_lemmas)
+
+pub values_items : (xs : List Json) → items_of (map_list data_of xs) ≡ items_data (value_items xs)
+values_items [] = refl
+values_items (x ∷ xs) = ap (data_item (data_of x)) (values_items xs)
+
+-- a list of schemas, of which there is one
+pub some_schemas : (ss : List (Tree RefLeaf)) → 0 < length ss → schemas_form (schema_forms (tree_views (λ l. l) ss)) ≡ Some (list (schema_forms (tree_views (λ l. l) ss)))
+some_schemas [] h = absurd (omega arith)
+some_schemas (s ∷ ss) h = refl
 
 -- a map of entries, of which there is one
 pub some_entries : (es : List (List ℕ × Json)) (n : ℕ) → n ≡ length es → 0 < n → entries_form es ≡ Some (map_of es)

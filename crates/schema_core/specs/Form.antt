@@ -1,12 +1,13 @@
 -- The JSON of a schema (JSON Schema 2020-12; OpenAPI 3.1, "Schema Object", "Reference Object").
 use Rattle.std.specs.Prelude.{ℕ, Bool, true, false, List, [], ◌∷◌, ◌++◌, Option, Some, None, option_map, codes}
-use Rattle.acceptance.specs.Json.{Json, number, text, list, map, Items, no_items, item, Members, no_members, put_given, map_of}
+use Rattle.acceptance.specs.Json.{Json, boolean, number, text, list, map, Items, no_items, item, Members, no_members, put_given, map_of}
+use Rattle.schema_core.specs.declared.notes.Notes.{Notes}
 use Rattle.schema_core.specs.declared.tree.SchemaTypeInner.{SchemaTypeInner}
 use Rattle.schema_core.specs.declared.tree.SchemaTypeInner.TheVariants as word
 use Rattle.schema_core.specs.declared.tree.TypeWord.{TypeWord}
 use Rattle.schema_core.specs.declared.tree.TypeWord.TheVariants.{Any, One, Nullable}
 use Rattle.schema_core.specs.declared.tree.RefLeaf.{RefLeaf}
-use Rattle.schema_core.specs.Schema.{Facts, SchemaOf, leaf, object, array, one_of, SchemasOf, no_schemas, schema, PropertiesOf, no_properties, property}
+use Rattle.schema_core.specs.Schema.{Facts, ArrayFacts, SchemaOf, leaf, object, array, one_of, all_of, SchemasOf, no_schemas, schema, PropertiesOf, no_properties, property, PartOf, no_part, truth, part}
 
 abbrev pub word_text : SchemaTypeInner → List ℕ
 word_text word.Object = codes "object"
@@ -37,6 +38,25 @@ abbrev pub entries_form : List (List ℕ × Json) → Option Json
 entries_form [] = None
 entries_form (e ∷ es) = Some (map_of (e ∷ es))
 
+-- the list of the schemas, where there are any
+abbrev pub schemas_form : Items → Option Json
+schemas_form no_items = None
+schemas_form (item x xs) = Some (list (item x xs))
+
+abbrev pub value_items : List Json → Items
+value_items [] = no_items
+value_items (x ∷ xs) = item x (value_items xs)
+
+-- the list of the values, an empty one too
+abbrev pub values_form : Option (List Json) → Option Json
+values_form None = None
+values_form (Some xs) = Some (list (value_items xs))
+
+-- where it is true
+abbrev pub true_form : Bool → Option Json
+true_form false = None
+true_form true = Some (boolean true)
+
 -- the word of an array, with null or without
 abbrev pub array_word : Bool → TypeWord
 array_word false = One word.Array
@@ -50,21 +70,50 @@ put_fields (f ∷ fs) ms = put_fields fs (put_given f.0 f.1 ms)
 abbrev pub fields_form : List (List ℕ × Option Json) → Json
 fields_form fs = map (put_fields fs no_members)
 
-abbrev pub object_fields : Facts → List (List ℕ × Json) → List (List ℕ × Option Json)
-object_fields facts properties =
-    (codes "type", type_form facts.type_word) ∷ (codes "format", option_map text facts.format) ∷ (codes "properties", entries_form properties)
-    ∷ (codes "required", required_form facts.required) ∷ (codes "minimum", option_map number facts.minimum) ∷ []
+abbrev pub note_fields : Notes → List (List ℕ × Option Json)
+note_fields notes =
+    (codes "title", option_map text notes.title) ∷ (codes "description", option_map text notes.description)
+    ∷ (codes "default", notes.default) ∷ (codes "example", notes.example) ∷ (codes "examples", values_form notes.examples)
+    ∷ (codes "deprecated", option_map boolean notes.deprecated) ∷ (codes "readOnly", option_map boolean notes.read_only) ∷ (codes "writeOnly", option_map boolean notes.write_only)
+    ∷ (codes "contentEncoding", option_map text notes.content_encoding) ∷ (codes "contentMediaType", option_map text notes.content_media_type) ∷ []
+
+abbrev pub object_fields : Facts → List (List ℕ × Json) → (additional names : Option Json) → List (List ℕ × Option Json)
+object_fields facts properties additional names =
+    (codes "type", type_form facts.type_word) ∷ (codes "format", option_map text facts.format) ∷ (codes "enum", values_form facts.enum_values)
+    ∷ (codes "properties", entries_form properties) ∷ (codes "additionalProperties", additional) ∷ (codes "propertyNames", names)
+    ∷ (codes "required", required_form facts.required) ∷ (codes "minimum", option_map number facts.minimum) ∷ note_fields facts.notes
+
+abbrev pub array_fields : ArrayFacts → Items → Option Json → List (List ℕ × Option Json)
+array_fields facts front rest =
+    (codes "type", type_form (array_word facts.nullable)) ∷ (codes "uniqueItems", true_form facts.unique)
+    ∷ (codes "maxItems", option_map number facts.max_items) ∷ (codes "minItems", option_map number facts.min_items)
+    ∷ (codes "prefixItems", schemas_form front) ∷ (codes "items", rest) ∷ note_fields facts.notes
+
+abbrev pub one_of_fields : Notes → Items → List (List ℕ × Option Json)
+one_of_fields notes schemas = (codes "oneOf", Some (list schemas)) ∷ note_fields notes
+
+abbrev pub all_of_fields : Notes → Items → List (List ℕ × Option Json)
+all_of_fields notes schemas = (codes "allOf", Some (list schemas)) ∷ note_fields notes
 
 abbrev pub reference_text : List ℕ → List ℕ
 reference_text name = codes "#/components/schemas/" ++ name
 
+abbrev pub reference_fields : RefLeaf → List (List ℕ × Option Json)
+reference_fields r = (codes "$ref", Some (text (reference_text r.name))) ∷ note_fields r.notes
+
 -- The JSON of a schema: the members that are given, in byte order of their names.
 abbrev mutual
   pub form : SchemaOf RefLeaf → Json
-  form (leaf r) = fields_form ((codes "$ref", Some (text (reference_text r.name))) ∷ [])
-  form (object facts ps) = fields_form (object_fields facts (property_forms ps))
-  form (array n s) = fields_form ((codes "type", type_form (array_word n)) ∷ (codes "items", Some (form s)) ∷ [])
-  form (one_of ss) = fields_form ((codes "oneOf", Some (list (schema_forms ss))) ∷ [])
+  form (leaf r) = fields_form (reference_fields r)
+  form (object facts ps additional names) = fields_form (object_fields facts (property_forms ps) (part_form additional) (part_form names))
+  form (array facts front rest) = fields_form (array_fields facts (schema_forms front) (part_form rest))
+  form (one_of notes ss) = fields_form (one_of_fields notes (schema_forms ss))
+  form (all_of notes ss) = fields_form (all_of_fields notes (schema_forms ss))
+
+  pub part_form : PartOf RefLeaf → Option Json
+  part_form no_part = None
+  part_form (truth b) = Some (boolean b)
+  part_form (part s) = Some (form s)
 
   pub schema_forms : SchemasOf RefLeaf → Items
   schema_forms no_schemas = no_items

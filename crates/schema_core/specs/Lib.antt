@@ -3,6 +3,9 @@ pub mod Code
 pub mod Document
 pub mod Entries
 pub mod Form
+pub mod JsonCode
 pub mod Meaning
 pub mod Members
+pub mod Notes
 pub mod Schema
+pub mod Whole

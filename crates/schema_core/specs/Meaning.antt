@@ -1,13 +1,13 @@
 -- What a schema accepts, told on the tree, and the laws that the JSON of the tree says the same.
-use Rattle.std.specs.Prelude.{◌≡◌, ℕ, ℤ, List, [], ◌∷◌, Bool, true, false, ◌&&◌, ◌||◌, Option, Some, None, option_map, codes, int_le, IsTrue}
-use Rattle.std.specs.List.{list_all}
-use Rattle.acceptance.specs.Json.{Json, names, is_in, look, on_map, on_list, on_number, if_there}
-use Rattle.acceptance.specs.Acceptance.{kinds_of, accepts_with, component_schema}
+use Rattle.std.specs.Prelude.{◌≡◌, ℕ, ℤ, List, [], ◌∷◌, Bool, true, false, ◌&&◌, ◌||◌, Option, Some, None, option_map, codes, int_le, pos, length, drop, IsTrue}
+use Rattle.std.specs.List.{list_all, list_any}
+use Rattle.acceptance.specs.Json.{Json, names, is_in, look, same, distinct, on_map, on_list, on_number, if_there}
+use Rattle.acceptance.specs.Acceptance.{kinds_of, others_pass, names_pass, accepts_with, component_schema}
 use Rattle.acceptance.specs.References.{EachReference}
 use Rattle.schema_core.specs.declared.tree.TypeWord.{TypeWord}
 use Rattle.schema_core.specs.declared.tree.TypeWord.TheVariants.{Any, One, Nullable}
 use Rattle.schema_core.specs.declared.tree.RefLeaf.{RefLeaf}
-use Rattle.schema_core.specs.Schema.{SchemaOf, leaf, object, array, one_of, SchemasOf, no_schemas, schema, PropertiesOf, no_properties, property, property_names, EachLeaf}
+use Rattle.schema_core.specs.Schema.{SchemaOf, leaf, object, array, one_of, all_of, SchemasOf, no_schemas, schema, schema_count, PropertiesOf, no_properties, property, property_names, PartOf, no_part, truth, part, EachLeaf}
 use Rattle.schema_core.specs.Form.{word_text, array_word, form}
 use Rattle.schema_core.specs.Document.{Entry, document}
 use Rattle.schema_core.specs.Entries.{names_of, find}
@@ -17,6 +17,25 @@ abbrev pub word_accepts : TypeWord → Json → Bool
 word_accepts Any v = true
 word_accepts (One w) v = is_in (word_text w) (kinds_of v)
 word_accepts (Nullable w) v = is_in (word_text w) (kinds_of v) || is_in (codes "null") (kinds_of v)
+
+-- the value is one of the values
+abbrev pub enum_accepts : Option (List Json) → Json → Bool
+enum_accepts None v = true
+enum_accepts (Some xs) v = list_any (same v) xs
+
+-- no two elements are equal
+abbrev pub unique_accepts : Bool → Json → Bool
+unique_accepts false v = true
+unique_accepts true v = on_list v distinct
+
+-- there are no more elements, and no fewer
+abbrev pub max_items_accepts : Option ℤ → Json → Bool
+max_items_accepts None v = true
+max_items_accepts (Some n) v = on_list v (λ xs. int_le (pos (length xs)) n)
+
+abbrev pub min_items_accepts : Option ℤ → Json → Bool
+min_items_accepts None v = true
+min_items_accepts (Some n) v = on_list v (λ xs. int_le n (pos (length xs)))
 
 -- a number is at least the minimum
 abbrev pub minimum_accepts : Option ℤ → Json → Bool
@@ -31,10 +50,33 @@ required_accepts ks v = on_map v (λ es. list_all (λ k. is_in k (names es)) ks)
 abbrev mutual
   pub tree_accepts : {X : Type 0} → (X → Json → Bool) → SchemaOf X → Json → Bool
   tree_accepts leaf_accepts (leaf x) v = leaf_accepts x v
-  tree_accepts leaf_accepts (object facts ps) v =
-      word_accepts facts.type_word v && (on_map v (properties_accept leaf_accepts ps) && (required_accepts facts.required v && minimum_accepts facts.minimum v))
-  tree_accepts leaf_accepts (array n s) v = word_accepts (array_word n) v && on_list v (list_all (tree_accepts leaf_accepts s))
-  tree_accepts leaf_accepts (one_of ss) v = some_accepts leaf_accepts ss v
+  tree_accepts leaf_accepts (object facts ps additional names) v =
+      word_accepts facts.type_word v && (enum_accepts facts.enum_values v && (on_map v (properties_accept leaf_accepts ps)
+      && (where_given leaf_accepts additional (λ accepts. on_map v (others_pass (property_names ps) accepts))
+      && (where_given leaf_accepts names (λ accepts. on_map v (names_pass accepts))
+      && (required_accepts facts.required v && minimum_accepts facts.minimum v)))))
+  tree_accepts leaf_accepts (array facts front rest) v =
+      word_accepts (array_word facts.nullable) v && (unique_accepts facts.unique v && (max_items_accepts facts.max_items v && (min_items_accepts facts.min_items v
+      && (on_list v (each_in_order leaf_accepts front) && where_given leaf_accepts rest (λ accepts. on_list v (λ xs. list_all accepts (drop (schema_count front) xs)))))))
+  tree_accepts leaf_accepts (one_of notes ss) v = some_accepts leaf_accepts ss v
+  tree_accepts leaf_accepts (all_of notes ss) v = all_accept leaf_accepts ss v
+
+  -- what is asked of the values that a part accepts, where it is given
+  pub where_given : {X : Type 0} → (X → Json → Bool) → PartOf X → ((Json → Bool) → Bool) → Bool
+  where_given leaf_accepts no_part asked = true
+  where_given leaf_accepts (truth b) asked = asked (λ v. b)
+  where_given leaf_accepts (part s) asked = asked (tree_accepts leaf_accepts s)
+
+  -- the elements in front are accepted by position, as far as both go
+  pub each_in_order : {X : Type 0} → (X → Json → Bool) → SchemasOf X → List Json → Bool
+  each_in_order leaf_accepts no_schemas vs = true
+  each_in_order leaf_accepts (schema s ss) [] = true
+  each_in_order leaf_accepts (schema s ss) (v ∷ vs) = tree_accepts leaf_accepts s v && each_in_order leaf_accepts ss vs
+
+  -- each of the schemas accepts
+  pub all_accept : {X : Type 0} → (X → Json → Bool) → SchemasOf X → Json → Bool
+  all_accept leaf_accepts no_schemas v = true
+  all_accept leaf_accepts (schema s ss) v = tree_accepts leaf_accepts s v && all_accept leaf_accepts ss v
 
   -- at least one of the schemas accepts
   pub some_accepts : {X : Type 0} → (X → Json → Bool) → SchemasOf X → Json → Bool
@@ -54,9 +96,15 @@ IsDistinct (k ∷ ks) = (is_in k ks ≡ false) × IsDistinct ks
 abbrev mutual
   pub IsProper : {X : Type 0} → SchemaOf X → Type 0
   IsProper (leaf x) = Unit {0}
-  IsProper (object facts ps) = IsDistinct (property_names ps) × ArePropertiesProper ps
-  IsProper (array n s) = IsProper s
-  IsProper (one_of ss) = AreProper ss
+  IsProper (object facts ps additional names) = IsDistinct (property_names ps) × (ArePropertiesProper ps × (IsPartProper additional × IsPartProper names))
+  IsProper (array facts front rest) = AreProper front × IsPartProper rest
+  IsProper (one_of notes ss) = AreProper ss
+  IsProper (all_of notes ss) = AreProper ss
+
+  pub IsPartProper : {X : Type 0} → PartOf X → Type 0
+  IsPartProper no_part = Unit {0}
+  IsPartProper (truth b) = Unit {0}
+  IsPartProper (part s) = IsProper s
 
   pub AreProper : {X : Type 0} → SchemasOf X → Type 0
   AreProper no_schemas = Unit {0}

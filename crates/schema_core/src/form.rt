@@ -5,13 +5,20 @@ ghost use Rattle.serde_json.specs.View.{view, members_view, items_view};
 ghost use Rattle.serde_json.specs.Data.{put as put_data};
 ghost use Rattle.acceptance.specs.Json.{Json, text as json_text, number, list as json_list, put_given, put_all, no_members, map_of};
 ghost use Rattle.acceptance.specs.Data.{data_of, members_data, items_data};
-ghost use Rattle.schema_core.specs.Schema.{leaf, schema_view, object_view, array_view, one_of_view, tree_views, named_views};
-ghost use Rattle.schema_core.specs.Form.{form, schema_forms, property_forms, word_text, type_form, texts_form, required_form, entries_form, reference_text, array_word};
+ghost use Rattle.schema_core.specs.Schema.{leaf, schema_view, object_view, array_view, one_of_view, all_of_view, additional_view, array_items_view, optional_view, tree_views, named_views};
+ghost use Rattle.schema_core.specs.Form.{form, note_fields, schema_forms, part_form, value_items, values_form, schemas_form, property_forms, word_text, type_form, texts_form, required_form, entries_form, reference_text, array_word};
+ghost use Rattle.schema_core.specs.Members.{Puts};
 
-use crate::bound::Bound;
-use crate::members::{put, put_given, text_value};
-use crate::tree::{Array, Object, OneOfSchema, RefLeaf, Schema, SchemaTypeInner, Tree, TypeWord};
-use diag::Text;
+use crate::json_value::Json;
+use crate::members::{
+    put, put_bound, put_given, put_json, put_text, put_true, put_truth, text_value,
+};
+use crate::notes::Notes;
+use crate::tree::{
+    Additional, AllOfSchema, Array, ArrayItems, Object, OneOfSchema, RefLeaf, Schema,
+    SchemaTypeInner, Tree, TypeWord,
+};
+use diag::{List, Text};
 use serde_json::{Map, Value};
 use std::alloc::{AllocError, Global};
 
@@ -46,26 +53,6 @@ fn type_value(alloc: Global, ty: TypeWord) -> Result<Option<Value>, AllocError>
     }
 }
 
-/// The value of an optional text.
-fn format_value(alloc: Global, format: &Option<Text>) -> Result<Option<Value>, AllocError>
-    ensures { IfOk result (λ value. option_map view value ≡ option_map data_of (option_map json_text format.now)) }
-{
-    match format {
-        None => Ok(None),
-        Some(format) => Ok(Some(text_value(alloc, format.as_str())?)),
-    }
-}
-
-/// The value of an optional number.
-fn minimum_value(minimum: &Option<Bound>) -> Option<Value>
-    ensures { option_map view result ≡ option_map data_of (option_map number minimum.now) }
-{
-    match minimum {
-        None => None,
-        Some(minimum) => Some(Value::Number(minimum.number())),
-    }
-}
-
 /// The values of the texts.
 fn text_values(alloc: Global, texts: &[Text]) -> Result<Vec<Value>, AllocError>
     ensures { IfOk result (λ values. items_view values.items ≡ items_data (texts_form texts.now)) }
@@ -87,6 +74,65 @@ fn required_value(alloc: Global, required: &[Text]) -> Result<Option<Value>, All
     Ok(Some(Value::Array(text_values(alloc, required)?)))
 }
 
+/// The values of the values.
+fn json_values(alloc: Global, jsons: &[Json]) -> Result<Vec<Value>, AllocError>
+    ensures { IfOk result (λ values. items_view values.items ≡ items_data (value_items jsons.now)) }
+{
+    let mut values = Vec::new(alloc);
+    for json in jsons {
+        values.push(json.value().clone()?)?;
+    }
+    Ok(values)
+}
+
+/// The list of the values, where there is one.
+fn jsons_value(alloc: Global, jsons: &Option<List<Json>>) -> Result<Option<Value>, AllocError>
+    ensures { IfOk result (λ value. option_map view value ≡ option_map data_of (values_form jsons.now)) }
+{
+    match jsons {
+        None => Ok(None),
+        Some(jsons) => Ok(Some(Value::Array(json_values(alloc, jsons.as_slice())?))),
+    }
+}
+
+/// The word of an array.
+fn array_word(nullable: bool) -> TypeWord
+    ensures { result ≡ array_word nullable }
+{
+    if nullable {
+        TypeWord::Nullable(SchemaTypeInner::Array)
+    } else {
+        TypeWord::One(SchemaTypeInner::Array)
+    }
+}
+
+/// Puts each note that is given at its name.
+fn put_notes(
+    alloc: Global,
+    members: &mut Map<String, Value>,
+    notes: &Notes,
+) -> Result<(), AllocError>
+    ensures { OnOk result (Puts (note_fields notes.now) (members_view members.old.entries) (members_view members.new.entries)) }
+{
+    put_text(alloc, members, "title", &notes.title)?;
+    put_text(alloc, members, "description", &notes.description)?;
+    put_json(alloc, members, "default", &notes.default)?;
+    put_json(alloc, members, "example", &notes.example)?;
+    let examples = jsons_value(alloc, &notes.examples)?;
+    put_given(alloc, members, "examples", examples)?;
+    put_truth(alloc, members, "deprecated", notes.deprecated)?;
+    put_truth(alloc, members, "readOnly", notes.read_only)?;
+    put_truth(alloc, members, "writeOnly", notes.write_only)?;
+    put_text(alloc, members, "contentEncoding", &notes.content_encoding)?;
+    put_text(
+        alloc,
+        members,
+        "contentMediaType",
+        &notes.content_media_type,
+    )?;
+    Ok(())
+}
+
 /// The value of a reference.
 fn reference_value(alloc: Global, reference: &RefLeaf) -> Result<Value, AllocError>
     ensures { IfOk result (λ value. view value ≡ data_of (form (leaf reference.now))) }
@@ -95,6 +141,7 @@ fn reference_value(alloc: Global, reference: &RefLeaf) -> Result<Value, AllocErr
     target.push_str(reference.name.as_str())?;
     let mut members = Map::new(alloc);
     put(alloc, &mut members, "$ref", Value::String(target))?;
+    put_notes(alloc, &mut members, &reference.notes)?;
     Ok(Value::Object(members))
 }
 
@@ -107,6 +154,7 @@ pub(crate) fn schema_value(alloc: Global, schema: &Schema) -> Result<Value, Allo
         Tree::Object(object) => object_value(alloc, object),
         Tree::Array(array) => array_value(alloc, array),
         Tree::OneOf(one_of) => one_of_value(alloc, one_of),
+        Tree::AllOf(all_of) => all_of_value(alloc, all_of),
         Tree::Leaf(reference) => reference_value(alloc, reference),
     }
 }
@@ -117,22 +165,19 @@ fn object_value(alloc: Global, object: &Object<RefLeaf>) -> Result<Value, AllocE
 {
     let mut members = Map::new(alloc);
     put_given(alloc, &mut members, "type", type_value(alloc, object.ty)?)?;
-    put_given(
-        alloc,
-        &mut members,
-        "format",
-        format_value(alloc, &object.format)?,
-    )?;
+    put_text(alloc, &mut members, "format", &object.format)?;
+    let enum_values = jsons_value(alloc, &object.enum_values)?;
+    put_given(alloc, &mut members, "enum", enum_values)?;
     let properties = properties_value(alloc, object.properties.as_slice())?;
     put_given(alloc, &mut members, "properties", properties)?;
+    let additional = additional_value(alloc, &object.additional)?;
+    put_given(alloc, &mut members, "additionalProperties", additional)?;
+    let names = optional_value(alloc, &object.property_names)?;
+    put_given(alloc, &mut members, "propertyNames", names)?;
     let required = required_value(alloc, object.required.as_slice())?;
     put_given(alloc, &mut members, "required", required)?;
-    put_given(
-        alloc,
-        &mut members,
-        "minimum",
-        minimum_value(&object.minimum),
-    )?;
+    put_bound(alloc, &mut members, "minimum", &object.minimum)?;
+    put_notes(alloc, &mut members, &object.notes)?;
     Ok(Value::Object(members))
 }
 
@@ -166,23 +211,69 @@ fn property_values(
     Ok(values)
 }
 
+/// The value of `additionalProperties`, where it says something.
+#[cycle(value)]
+fn additional_value(
+    alloc: Global,
+    additional: &Additional<RefLeaf>,
+) -> Result<Option<Value>, AllocError>
+    ensures { IfOk result (λ value. option_map view value ≡ option_map data_of (part_form (additional_view (λ l. l) additional.now))) }
+{
+    match additional {
+        Additional::Absent => Ok(None),
+        Additional::Truth(truth) => Ok(Some(Value::Bool(*truth))),
+        Additional::Of(schema) => Ok(Some(schema_value(alloc, schema)?)),
+    }
+}
+
+/// The value of a schema that may be left out.
+#[cycle(value)]
+fn optional_value(alloc: Global, schema: &Option<Schema>) -> Result<Option<Value>, AllocError>
+    ensures { IfOk result (λ value. option_map view value ≡ option_map data_of (part_form (optional_view (λ l. l) schema.now))) }
+{
+    match schema {
+        None => Ok(None),
+        Some(schema) => Ok(Some(schema_value(alloc, schema)?)),
+    }
+}
+
+/// The value of `items`.
+#[cycle(value)]
+fn items_value(alloc: Global, items: &ArrayItems<RefLeaf>) -> Result<Value, AllocError>
+    ensures { IfOk result (λ value. Some (view value) ≡ option_map data_of (part_form (array_items_view (λ l. l) items.now))) }
+{
+    match items {
+        ArrayItems::False => Ok(Value::Bool(false)),
+        ArrayItems::Each(schema) => schema_value(alloc, schema),
+    }
+}
+
+/// The value of `prefixItems`, where there is a schema.
+#[cycle(value)]
+fn front_value(alloc: Global, schemas: &[Schema]) -> Result<Option<Value>, AllocError>
+    ensures { IfOk result (λ value. option_map view value ≡ option_map data_of (schemas_form (schema_forms (tree_views (λ l. l) schemas.now)))) }
+{
+    if schemas.is_empty() {
+        return Ok(None);
+    }
+    Ok(Some(Value::Array(schema_values(alloc, schemas)?)))
+}
+
 #[cycle(value)]
 fn array_value(alloc: Global, array: &Array<RefLeaf>) -> Result<Value, AllocError>
     ensures { IfOk result (λ value. view value ≡ data_of (form (array_view (λ l. l) array.now))) }
 {
-    let word = if array.nullable {
-        TypeWord::Nullable(SchemaTypeInner::Array)
-    } else {
-        TypeWord::One(SchemaTypeInner::Array)
-    };
+    let word = type_value(alloc, array_word(array.nullable))?;
     let mut members = Map::new(alloc);
-    put_given(alloc, &mut members, "type", type_value(alloc, word)?)?;
-    put(
-        alloc,
-        &mut members,
-        "items",
-        schema_value(alloc, &array.items)?,
-    )?;
+    put_given(alloc, &mut members, "type", word)?;
+    put_true(alloc, &mut members, "uniqueItems", array.unique)?;
+    put_bound(alloc, &mut members, "maxItems", &array.max_items)?;
+    put_bound(alloc, &mut members, "minItems", &array.min_items)?;
+    let front = front_value(alloc, array.prefix_items.as_slice())?;
+    put_given(alloc, &mut members, "prefixItems", front)?;
+    let rest = items_value(alloc, &array.items)?;
+    put_given(alloc, &mut members, "items", Some(rest))?;
+    put_notes(alloc, &mut members, &array.notes)?;
     Ok(Value::Object(members))
 }
 
@@ -193,6 +284,18 @@ fn one_of_value(alloc: Global, one_of: &OneOfSchema<RefLeaf>) -> Result<Value, A
     let mut members = Map::new(alloc);
     let items = schema_values(alloc, one_of.items.as_slice())?;
     put(alloc, &mut members, "oneOf", Value::Array(items))?;
+    put_notes(alloc, &mut members, &one_of.notes)?;
+    Ok(Value::Object(members))
+}
+
+#[cycle(value)]
+fn all_of_value(alloc: Global, all_of: &AllOfSchema<RefLeaf>) -> Result<Value, AllocError>
+    ensures { IfOk result (λ value. view value ≡ data_of (form (all_of_view (λ l. l) all_of.now))) }
+{
+    let mut members = Map::new(alloc);
+    let items = schema_values(alloc, all_of.items.as_slice())?;
+    put(alloc, &mut members, "allOf", Value::Array(items))?;
+    put_notes(alloc, &mut members, &all_of.notes)?;
     Ok(Value::Object(members))
 }
 

@@ -1,4 +1,6 @@
 use crate::bound::Bound;
+use crate::json_value::Json;
+use crate::notes::Notes;
 use diag::{List, Text};
 
 /// A word of `type` (JSON Schema 2020-12, Validation, 6.1.1).
@@ -28,6 +30,7 @@ pub enum Tree<L> {
     Object(Box<Object<L>>),
     Array(Box<Array<L>>),
     OneOf(Box<OneOfSchema<L>>),
+    AllOf(Box<AllOfSchema<L>>),
     Leaf(L),
 }
 
@@ -38,20 +41,52 @@ pub struct Object<L> {
     pub ty: TypeWord,
     /// The printed name of the format. It binds nothing.
     pub format: Option<Text>,
+    /// The values that may stand; none may where the list is empty.
+    pub enum_values: Option<List<Json>>,
     /// Names and their schemas; the names are distinct.
     pub properties: List<(Text, Tree<L>)>,
     /// The names that must be there.
     pub required: List<Text>,
+    /// What the members that `properties` does not name are.
+    pub additional: Additional<L>,
+    /// What the names of the members are, as texts.
+    pub property_names: Option<Tree<L>>,
     /// The least number, inclusive.
     pub minimum: Option<Bound>,
+    pub notes: Notes,
 }
 
-/// Lists whose elements are all of one schema, and null where `nullable`.
+/// What `additionalProperties` says: nothing, a truth value, or a schema.
+#[cycle(tree)]
+#[derive(Drop)]
+pub enum Additional<L> {
+    Absent,
+    Truth(bool),
+    Of(Tree<L>),
+}
+
+/// What `items` says: that there are no further elements, or their schema.
+#[cycle(tree)]
+#[derive(Drop)]
+pub enum ArrayItems<L> {
+    False,
+    Each(Tree<L>),
+}
+
+/// Lists, and null where `nullable`.
 #[cycle(tree)]
 #[derive(Drop)]
 pub struct Array<L> {
     pub nullable: bool,
-    pub items: Tree<L>,
+    /// The elements after those that `prefix_items` speaks of.
+    pub items: ArrayItems<L>,
+    /// The schemas of the elements in front, by position.
+    pub prefix_items: List<Tree<L>>,
+    /// Whether no two elements are equal.
+    pub unique: bool,
+    pub max_items: Option<Bound>,
+    pub min_items: Option<Bound>,
+    pub notes: Notes,
 }
 
 /// What at least one of the schemas accepts.
@@ -59,12 +94,22 @@ pub struct Array<L> {
 #[derive(Drop)]
 pub struct OneOfSchema<L> {
     pub items: List<Tree<L>>,
+    pub notes: Notes,
+}
+
+/// What each of the schemas accepts.
+#[cycle(tree)]
+#[derive(Drop)]
+pub struct AllOfSchema<L> {
+    pub items: List<Tree<L>>,
+    pub notes: Notes,
 }
 
 /// A reference to the component of the name.
 #[derive(Debug, Drop)]
 pub struct RefLeaf {
     pub name: Text,
+    pub notes: Notes,
 }
 
 /// A schema of a document: its leaves are references.

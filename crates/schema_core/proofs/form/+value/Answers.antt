@@ -1,33 +1,55 @@
-use Rattle.std.proofs.Common.{◌≡◌, ◌<◌, length, ap, sym, ◌∙◌, codes, take, map, option_map, arith, Some}
+use Rattle.std.proofs.Common.{◌≡◌, ◌<◌, length, ap, sym, ◌∙◌, take, map, option_map, arith, Some}
 use Rattle.std.proofs.lemmas.Grind.{common_steps}
-use Rattle.serde_json.specs.Data.{object as data_object}
+use Rattle.serde_json.specs.Data.{object as data_object, array as data_array}
 use Rattle.serde_json.specs.View.{view, members_view, items_of}
-use Rattle.acceptance.specs.Json.{number, text, put_given, put_all, no_members, Members}
+use Rattle.acceptance.specs.Json.{put_all, no_members}
 use Rattle.acceptance.specs.Data.{data_of, members_data}
-use Rattle.schema_core.specs.Schema.{named_views}
-use Rattle.schema_core.specs.Form.{form, type_form, required_form, entries_form, property_forms}
-use Rattle.schema_core.proofs.Puts.{given_put, object_is}
-use Rattle.schema_core.proofs.Values.{property_form, properties_are, put_step, schema_data, schemas_items, object_view-is, some_entries, length-properties}
+use Rattle.schema_core.specs.Schema.{named_views, tree_views, additional_view, optional_view, array_items_view}
+use Rattle.schema_core.specs.Form.{form, type_form, required_form, entries_form, values_form, schemas_form, array_word, part_form, schema_forms, property_forms}
+use Rattle.serde_json.proofs.Views.{view-Array}
+use Rattle.schema_core.proofs.Puts.{object_is}
+use Rattle.schema_core.proofs.Values.{property_form, properties_are, put_step, schema_data, schemas_items, object_view-is, array_view-is, some_schemas, some_entries, length-properties}
 use Rattle.schema_core.proofs.form.+value.Goals as goal
 
 pub object_value-returns : goal.object_value-returns
 object_value-returns t c =
     let o = c.args.object.now in
-    let properties = property_forms (named_views (λ l. l) o.properties) in
-    let m1 : Members = put_given (codes "type") (type_form o.ty) no_members in
-    let m2 : Members = put_given (codes "format") (option_map text o.format) m1 in
-    let m3 : Members = put_given (codes "properties") (entries_form properties) m2 in
-    let m4 : Members = put_given (codes "required") (required_form o.required) m3 in
-    let m5 : Members = put_given (codes "minimum") (option_map number o.minimum) m4 in
     let e0 : members_view c.new-members.result.entries ≡ members_data no_members = ap members_view c.new-members.ensures.empty in
-    let e1 = given_put (codes "type") (type_form o.ty) _ no_members _ _ e0 c.in_ok-type_value.ensures c.in_ok-put_given.ensures in
-    let e2 = given_put (codes "format") (option_map text o.format) _ m1 _ _ e1 c.in_ok-format_value.ensures c.in_ok-put_given-2.ensures in
+    let e1 = c.in_ok-put_given.ensures (type_form o.ty) c.in_ok-type_value.ensures no_members e0 in
+    let e2 = c.in_ok-put_text.ensures _ e1 in
+    let e3 = c.in_ok-put_given-2.ensures (values_form o.enum_values) c.in_ok-enum_values.ensures _ e2 in
+    let properties = property_forms (named_views (λ l. l) o.properties) in
     let given : option_map view c.in_ok-properties.properties ≡ option_map data_of (entries_form properties) = rw c.as_slice.ensures at c.in_ok-properties.ensures in
-    let e3 = given_put (codes "properties") (entries_form properties) _ m2 _ _ e2 given c.in_ok-put_given-3.ensures in
+    let e4 = c.in_ok-put_given-3.ensures (entries_form properties) given _ e3 in
+    let e5 = c.in_ok-put_given-4.ensures (part_form (additional_view (λ l. l) o.additional)) c.in_ok-additional.ensures _ e4 in
+    let e6 = c.in_ok-put_given-5.ensures (part_form (optional_view (λ l. l) o.property_names)) c.in_ok-names.ensures _ e5 in
     let needed : option_map view c.in_ok-required.required ≡ option_map data_of (required_form o.required) = rw c.as_slice-2.ensures at c.in_ok-required.ensures in
-    let e4 = given_put (codes "required") (required_form o.required) _ m3 _ _ e3 needed c.in_ok-put_given-4.ensures in
-    let e5 = given_put (codes "minimum") (option_map number o.minimum) _ m4 _ _ e4 c.minimum_value.ensures c.in_ok-put_given-5.ensures in
-    object_is c.put_given-5.new.members ∙ ap data_object e5 ∙ ap (λ s. data_of (form s)) (sym (object_view-is o))
+    let e7 = c.in_ok-put_given-6.ensures (required_form o.required) needed _ e6 in
+    let e8 = c.in_ok-put_bound.ensures _ e7 in
+    let e9 = c.in_ok-put_notes.ensures _ e8 in
+    object_is c.put_notes.new.members ∙ ap data_object e9 ∙ ap (λ s. data_of (form s)) (sym (object_view-is o))
+
+pub array_value-returns : goal.array_value-returns
+array_value-returns t c =
+    let a = c.args.array.now in
+    let e0 : members_view c.new-members.result.entries ≡ members_data no_members = ap members_view c.new-members.ensures.empty in
+    let word : option_map view c.in_ok-word.word ≡ option_map data_of (type_form (array_word a.nullable)) = c.in_ok-word.ensures ∙ ap (λ w. option_map data_of (type_form w)) c.array_word.ensures in
+    let e1 = c.in_ok-put_given.ensures (type_form (array_word a.nullable)) word no_members e0 in
+    let e2 = c.in_ok-put_true.ensures _ e1 in
+    let e3 = c.in_ok-put_bound.ensures _ e2 in
+    let e4 = c.in_ok-put_bound-2.ensures _ e3 in
+    let schemas = schema_forms (tree_views (λ l. l) a.prefix_items) in
+    let front : option_map view c.in_ok-front.front ≡ option_map data_of (schemas_form schemas) = rw c.as_slice.ensures at c.in_ok-front.ensures in
+    let e5 = c.in_ok-put_given-2.ensures (schemas_form schemas) front _ e4 in
+    let e6 = c.in_ok-put_given-3.ensures (part_form (array_items_view (λ l. l) a.items)) c.in_ok-rest.ensures _ e5 in
+    let e7 = c.in_ok-put_notes.ensures _ e6 in
+    object_is c.put_notes.new.members ∙ ap data_object e7 ∙ ap (λ s. data_of (form s)) (sym (array_view-is a))
+
+pub front_value-returns : goal.front_value-returns
+front_value-returns t c =
+    let ss = c.args.schemas.now in
+    let some : 0 < length ss = grind arith in
+    ap Some (view-Array c.in_ok-schema_values.field-0 ∙ ap data_array c.in_ok-schema_values.ensures) ∙ ap (option_map data_of) (sym (some_schemas ss some))
 
 pub properties_value-returns : goal.properties_value-returns
 properties_value-returns t c =

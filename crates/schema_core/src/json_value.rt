@@ -1,0 +1,107 @@
+ghost use Rattle.std.specs.Prelude.{◌≡◌, true, false, not, IfOk, MatchResult};
+ghost use Rattle.serde_json.specs.View.{view, number_view, items_view, members_view};
+ghost use Rattle.serde_json.specs.Find.{is_float};
+ghost use Rattle.serde_json.specs.Written.{has_float, items_have_float, members_have_float};
+ghost use Rattle.acceptance.specs.Data.{data_of};
+ghost use Rattle.schema_core.specs.Whole.{is_whole_number, is_whole, are_items_whole, are_members_whole};
+
+use serde_json::{Map, Number, Value};
+use std::alloc::{AllocError, Global};
+use std::marker::Model;
+
+/// A value of `serde_json` without floats.
+#[derive(Debug, Drop)]
+pub struct Json {
+    value: Value,
+}
+
+impl Model for Json {
+    ghost use Rattle.std.specs.Prelude.{◌≡◌};
+    ghost use Rattle.serde_json.specs.View.{view as view_of};
+    ghost use Rattle.acceptance.specs.Json.{Json as Meant};
+    ghost use Rattle.acceptance.specs.Data.{data_of, json_of};
+    ghost use Rattle.schema_core.specs.JsonCode.{coded_json};
+
+    ghost Value = { Meant };
+
+    ghost coded = { coded_json };
+
+    ghost view = { λ json. json_of (view_of json.value) };
+
+    ghost invariant = { λ json. data_of (json_of (view_of json.value)) ≡ view_of json.value };
+}
+
+impl Json {
+    /// The value, or the value back, exactly where it holds a float at any depth. It takes no memory.
+    pub fn new(value: Value) -> Result<Json, Value>
+        ensures { MatchResult result (λ json. view value ≡ data_of json) (λ back. (back ≡ value) × (has_float (view value) ≡ true)) }
+    {
+        if holds_float(&value) {
+            return Err(value);
+        }
+        Ok(Json { value })
+    }
+
+    /// The value as `serde_json` holds it.
+    pub fn value(&self) -> &Value
+        ensures { view result.now ≡ data_of self.now }
+    {
+        &self.value
+    }
+
+    /// Another value that is equal.
+    pub fn copy(&self, alloc: Global) -> Result<Json, AllocError>
+        ensures { IfOk result (λ copy. copy ≡ self.now) }
+    {
+        let value = self.value.clone()?;
+        Ok(Json { value })
+    }
+}
+
+/// Whether the number is a float.
+fn is_float_number(number: &Number) -> bool
+    ensures float { result ≡ is_float (number_view number.now) }
+    ensures whole { not result ≡ is_whole_number (number_view number.now) }
+{
+    number.is_f64()
+}
+
+/// Whether the value holds a float at any depth.
+#[cycle(float)]
+fn holds_float(value: &Value) -> bool
+    ensures float { result ≡ has_float (view value.now) }
+    ensures whole { not result ≡ is_whole (view value.now) }
+{
+    match value {
+        Value::Null | Value::Bool(_) | Value::String(_) => false,
+        Value::Number(number) => is_float_number(number),
+        Value::Array(items) => items_hold_float(items),
+        Value::Object(members) => members_hold_float(members),
+    }
+}
+
+#[cycle(float)]
+fn items_hold_float(items: &[Value]) -> bool
+    ensures float { result ≡ items_have_float (items_view items.now) }
+    ensures whole { not result ≡ are_items_whole (items_view items.now) }
+{
+    for item in items {
+        if holds_float(item) {
+            return true;
+        }
+    }
+    false
+}
+
+#[cycle(float)]
+fn members_hold_float(members: &Map<String, Value>) -> bool
+    ensures float { result ≡ members_have_float (members_view members.now.entries) }
+    ensures whole { not result ≡ are_members_whole (members_view members.now.entries) }
+{
+    for (_key, member) in members.iter() {
+        if holds_float(member) {
+            return true;
+        }
+    }
+    false
+}
