@@ -2,10 +2,10 @@
 # Sources of plain structs from 64 KiB to 1 MiB, each twice the one before: the time that the program takes for each, its
 # peak memory, and the ratio of the time to that of the one before. By hand; no test rests on it.
 #
-#     bench/derive.sh [ascending|descending|references|wide]
+#     bench/derive.sh [ascending|descending|references|wide|documented]
 set -eu
 here=$(cd "$(dirname "$0")/.." && pwd)
-program=$here/crates/schema_gen_cli/out/schema_gen_cli
+program=${PROGRAM:-$here/crates/schema_gen_cli/out/schema_gen_cli}
 [ -x "$program" ] || echo 'struct First { it: bool }' | "$here/schema_gen" derive >/dev/null
 folder=$(mktemp -d)
 trap 'rm -rf "$folder"' EXIT
@@ -15,6 +15,9 @@ import os, resource, subprocess, sys, time
 program, folder, form = sys.argv[1:]
 
 def struct(name, fields):
+    if form == "documented":
+        lines = "".join("    /// What it is\n    ///   in short.\n    pub(crate) %s: %s, // kept\n" % f for f in fields)
+        return "use std::fmt;\n\n/** A thing of the shop. */\npub struct %s {\n%s}\n\n" % (name, lines)
     return "pub struct %s {\n%s}\n\n" % (name, "".join("    pub %s: %s,\n" % f for f in fields))
 
 def source(size):
@@ -29,7 +32,7 @@ def source(size):
     while True:
         number = 999999 - i if form == "descending" else i
         fields = [("id", "u64"), ("name", "Option<String>"), ("tags", "Vec<Vec<String>>"), ("size", "i32")]
-        if form == "references":
+        if form in ("references", "documented"):
             fields += [("owner", "Item%06d" % (i // 2)), ("next", "Option<Item%06d>" % max(0, i - 1)), ("all", "Vec<Item%06d>" % (i // 3))]
         part = struct("Item%06d" % number, fields)
         if length + len(part) > size:
