@@ -89,7 +89,7 @@ fields_in (named fs) = fs
 fields_in (unnamed fs) = []
 fields_in unit = []
 
--- the fields with names, and whether the declaration has another form
+-- the fields with names, and whether the declaration has that form
 abbrev pub body_fields : BodyItem → List FieldItem
 body_fields (struct_body fs) = fields_in fs
 
@@ -135,7 +135,7 @@ pub record Describes (ss : List StructOf) (doc : Json) : Type 0 where
   pub references : (name : List ℕ) (s : Json) → component_schema doc name ≡ Some s → EachReference (HasComponent doc) s
   pub accepts : (d : ℕ) → d < length ss → IsPlain ss d → (s v : Json) → component_schema doc (struct_at ss d).name ≡ Some s → Accepts doc s v ↔ HasShape ss d v
 
--- The law: a document of components describes the structs, where each name leads to one of them.
+-- each declaration that a type names is one of the first n
 abbrev pub IsWithinType : ℕ → Resolved → Type 0
 IsWithinType n (leaf x) = Unit {0}
 IsWithinType n (items t) = IsWithinType n t
@@ -150,5 +150,6 @@ abbrev pub AreWithin : ℕ → List StructOf → Type 0
 AreWithin n [] = Unit {0}
 AreWithin n (s ∷ ss) = MembersWithin n s.members × AreWithin n ss
 
+-- The law: a document of components describes the structs, where each name leads to one of them.
 abbrev pub ComponentsDescribe : Type 0
 ComponentsDescribe = (ss : List StructOf) (components : List Entry) → IsApart ss → AreWithin (length ss) ss → AreComponents ss components → Describes ss (document components)

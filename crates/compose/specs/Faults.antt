@@ -78,9 +78,13 @@ IsFaulty ds e =
     ⊎ ((fault : Fault) × IsFaultOf ds fault × IsRefusedFor fault e)
     ⊎ ((span : Span) × IsUnbuilt ds span × IsRefusal Syntax span unbuilt_message e)
 
--- the error refuses the source: it nests too deep, it has no reading, or its declarations are at fault
+-- the error refuses a source that is read and nests no deeper than it may, whose declarations are at fault
+abbrev pub IsFaultySource : List ℕ → DeriveError → Type 0
+IsFaultySource source e = (ds : List DeclaredItem) × Reads source ds × ((span : Span) → ¬ (NestsTooDeep source span)) × IsFaulty ds e
+
+-- the error refuses the source: it nests too deep, or it has no reading, or else its declarations are at fault
 abbrev pub IsRefused : List ℕ → DeriveError → Type 0
-IsRefused source e = IsTooDeep source e ⊎ IsUnreadable source e ⊎ ((ds : List DeclaredItem) × Reads source ds × IsFaulty ds e)
+IsRefused source e = IsTooDeep source e ⊎ IsUnreadable source e ⊎ IsFaultySource source e
 
 -- no condition holds of the declarations
 pub record AreClear (ds : List DeclaredItem) : Type 0 where

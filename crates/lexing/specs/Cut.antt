@@ -5,12 +5,15 @@ use Rattle.diag.specs.declared.error.DeriveError.{DeriveError}
 use Rattle.diag.specs.declared.kind.Kind.TheVariants as kinds
 use Rattle.diag.specs.declared.span.Span.{Span}
 use Rattle.tokens.specs.Trees.{Trees}
-use Rattle.lexing.specs.declared.nest.TheConstants.{MAX_DEPTH}
 use Rattle.lexing.specs.declared.piece.LexError.{LexError}
 use Rattle.lexing.specs.declared.piece.LexError.TheVariants.{Memory, TooDeep, Stopped}
 use Rattle.lexing.specs.declared.piece.Piece.{Piece}
 use Rattle.lexing.specs.Pieces.{Cuts}
 use Rattle.lexing.specs.Nesting.{IsTrees, Opens}
+
+-- the most brackets that may be open at a place
+abbrev pub most_open : ℕ
+most_open = 64
 
 -- the source's pieces nest as these trees
 abbrev pub IsCut : List ℕ → Trees → Type 0
@@ -18,9 +21,9 @@ IsCut source trees = (pieces : List Piece) × Cuts pieces 0 (chars source) × Is
 
 -- among the source's pieces, the bracket of the span opens inside as many as may be open
 abbrev pub OpensTooDeep : List ℕ → Span → Type 0
-OpensTooDeep source span = (pieces : List Piece) × Cuts pieces 0 (chars source) × Opens source MAX_DEPTH pieces span
+OpensTooDeep source span = (pieces : List Piece) × Cuts pieces 0 (chars source) × Opens source most_open pieces span
 
--- the span lies in the source, which has no token trees
+-- the span is one of the source, which has no token trees
 abbrev pub StopsAt : List ℕ → Span → Type 0
 StopsAt source span = (span.end ≤ length source) × ((trees : Trees) → ¬ (IsCut source trees))
 
@@ -32,7 +35,7 @@ IsDepthError source e = (span : Span) × IsRefusal kinds.TooDeep span (codes "ne
 abbrev pub IsSyntaxError : List ℕ → DeriveError → Type 0
 IsSyntaxError source e = (span : Span) × IsRefusal kinds.Syntax span (codes "unexpected text in a declaration") e × StopsAt source span
 
--- why a source is not read: its span is that of such a bracket, or of where reading stopped
+-- why a source is not read: its span is that of such a bracket, or one of a source without token trees
 abbrev pub IsUnread : List ℕ → LexError → Type 0
 IsUnread source Memory = Unit {0}
 IsUnread source (TooDeep span) = OpensTooDeep source span

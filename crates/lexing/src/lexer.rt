@@ -2,8 +2,7 @@
 
 ghost use Rattle.std.specs.Prelude.{◌≡◌, ◌≤◌, ◌⊎◌, IfOk, IfErr};
 ghost use Rattle.tokens.specs.Trees.{trees_view, depth};
-ghost use Rattle.lexing.specs.declared.nest.TheConstants.{MAX_DEPTH};
-ghost use Rattle.lexing.specs.Cut.{IsCut, IsDepthError, IsSyntaxError, IsUnread};
+ghost use Rattle.lexing.specs.Cut.{most_open, IsCut, IsDepthError, IsSyntaxError, IsUnread};
 
 use crate::nest::{self, MAX_DEPTH};
 use crate::piece::LexError;
@@ -13,14 +12,14 @@ use std::alloc::Global;
 use tokens::TokenTree;
 
 /// The token trees of the source, whose pieces are cut and nested with white space and comments dropped. Brackets
-/// nest at most `MAX_DEPTH` deep.
+/// nest at most 64 deep.
 ///
-/// A refusal of kind `Syntax` has the span where reading stopped: a character that begins no piece, a closing bracket
-/// that matches nothing or the wrong bracket, or the end of the source where a bracket is never closed. One of kind
-/// `TooDeep` has the span of the first bracket past `MAX_DEPTH` levels.
+/// A refusal of kind `Syntax` has a span of the source: that of the first character at which it cannot be cut, or else
+/// of a closing bracket that matches nothing or the wrong bracket, or of the end of the source where a bracket is never
+/// closed. One of kind `TooDeep` has the span of a bracket that opens inside 64 others.
 pub fn lex(alloc: Global, source: &str) -> Result<List<TokenTree>, DeriveError>
     ensures found { IfOk result (λ trees. IsCut source.now (trees_view trees)) }
-    ensures shallow { IfOk result (λ trees. depth (trees_view trees) ≤ MAX_DEPTH) }
+    ensures shallow { IfOk result (λ trees. depth (trees_view trees) ≤ most_open) }
     ensures refused { IfErr result (λ e. (e ≡ DeriveError.Memory) ⊎ IsDepthError source.now e ⊎ IsSyntaxError source.now e) }
 {
     match token_trees(alloc, source) {
@@ -49,7 +48,7 @@ pub fn lex(alloc: Global, source: &str) -> Result<List<TokenTree>, DeriveError>
 
 pub fn token_trees(alloc: Global, source: &str) -> Result<List<TokenTree>, LexError>
     ensures found { IfOk result (λ trees. IsCut source.now (trees_view trees)) }
-    ensures shallow { IfOk result (λ trees. depth (trees_view trees) ≤ MAX_DEPTH) }
+    ensures shallow { IfOk result (λ trees. depth (trees_view trees) ≤ most_open) }
     ensures refused { IfErr result (λ e. IsUnread source.now e) }
 {
     let pieces = scan::cut(alloc, source)?;

@@ -11,7 +11,7 @@ use diag::{List, Span, Text};
 use std::alloc::{AllocError, Global};
 use tokens::{Bracket, Group, Token, TokenKind, TokenTree};
 
-/// How deep brackets may nest.
+/// How deep brackets may nest: 64 of them may be open.
 pub const MAX_DEPTH: usize = 64;
 
 /// The piece at the front, and those after it.

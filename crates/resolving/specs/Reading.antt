@@ -12,7 +12,7 @@ abbrev pub segment_arguments : (List ℕ → Option ℕ) → Segment → Option 
 segment_arguments place_of (plain x) = Some no_types
 segment_arguments place_of (applied x args) = argument_types place_of args
 
--- the error refuses the segment's name, which is not known or has another number of type arguments than it takes
+-- the error refuses the segment's name, which is not known or has other type arguments than it takes
 abbrev pub IsAtFault : (List ℕ → Option ℕ) → Segment → DeriveError → Type 0
 IsAtFault place_of s e =
     ((meaning place_of s ≡ meanings.Unknown) × IsRefusedFor (unknown_type (ident_of s)) e)

@@ -158,7 +158,7 @@ abbrev pub Somewhere : {A : Type 0} → (A → Type 0) → List A → Type 0
 Somewhere P [] = ⊥
 Somewhere P (x ∷ xs) = P x ⊎ Somewhere P xs
 
--- a name in the type is not known, or has another number of type arguments than it takes; or the type has too many names
+-- a name in the type is not known, or has other type arguments than it takes; or the type has too many names
 abbrev pub IsFault : (List ℕ → Option ℕ) → Written → Fault → Type 0
 IsFault place_of t (unknown_type x) = Somewhere (λ s. (x ≡ ident_of s) × (meaning place_of s ≡ meanings.Unknown)) (names_in t)
 IsFault place_of t (wrong_arity x) = Somewhere (λ s. (x ≡ ident_of s) × IsTrue (are_wrong (meaning place_of s) (types_of (arguments_of s)))) (names_in t)

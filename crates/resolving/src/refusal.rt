@@ -21,7 +21,7 @@ pub(crate) fn unknown(alloc: Global, ident: &Ident) -> Result<DeriveError, Alloc
     Ok(DeriveError::Refused(diagnostics))
 }
 
-/// The refusal of a name with another number of type arguments than it takes.
+/// The refusal of a name with other type arguments than it takes.
 pub(crate) fn arity(alloc: Global, ident: &Ident) -> Result<DeriveError, AllocError>
     ensures { IfOk result (λ e. IsRefusedFor (wrong_arity ident.now) e) }
 {

@@ -41,7 +41,7 @@ pub data IsList {A : Type 0} (IsItem : List Word → A → List Word → Type 0)
   last_item : {ws : List Word} {x : A} → IsItem ws x [] → IsList IsItem ws (x ∷ [])
   more_items : {s : Span} {ws mid : List Word} {x : A} {xs : List A} → IsItem ws x (sign Comma s ∷ mid) → IsList IsItem mid xs → IsList IsItem ws (x ∷ xs)
 
--- what follows the name of a struct: "{" list of named ... "}" | "(" list of unnamed ")" ";" | ";"
+-- what follows the name of a struct: "{" list of named "}" | "(" list of unnamed ")" ";" | ";"
 pub data IsFields : List Word → FieldItems → List Word → Type 0 where
   named_fields : {inside : Trees} {s : Span} {rest : List Word} {fs : List FieldItem} → IsList IsNamedField (words_of inside) fs → IsFields (group Curly inside s ∷ rest) (named fs) rest
   unnamed_fields : {inside : Trees} {s end : Span} {rest : List Word} {fs : List FieldItem} → IsList IsUnnamedField (words_of inside) fs

@@ -85,9 +85,10 @@ fn source_of(alloc: Global, trees: &[TokenTree]) -> Result<List<Declaration>, St
 
 /// The declarations of the source, by the grammar of items.
 ///
-/// A refusal of kind `Syntax` has the span of the token or opening bracket that reading could not go on with, of the
-/// closing bracket of a group that ended too soon, or of the end of the source. One of kind `TooDeep` has the span of
-/// the first bracket or part of a type past 64 levels.
+/// A refusal of kind `Syntax` has a span of the source: where it cannot be cut, as `lex` says; or that of the token or
+/// opening bracket that reading could not go on with, of the closing bracket of a group that ended too soon, or of the
+/// end of the source. One of kind `TooDeep` has the span of a bracket that opens inside 64 others, or of the first token
+/// of a part of a type that begins 64 levels further in.
 pub fn parse_declarations(alloc: Global, source: &str) -> Result<Declarations, DeriveError>
     ensures found { IfOk result (λ ds. Reads source.now (declarations_view ds)) }
     ensures shallow { IfOk result (λ _. (span : Span) → ¬ (NestsTooDeep source.now span)) }

@@ -26,7 +26,7 @@ returns-in_err-settled-clause-refused c =
     rw (p.1, p.2)
     (elim c.in_err-settled.ensures.refused [
       | inl memory ↦ inl memory
-      | inr fault ↦ inr (inr (inr (ds, c.in_ok-declarations.ensures.found, subst (λ (xs : List Declaration). IsFaulty (map declaration_view xs) e) c.as_slice.ensures fault)))
+      | inr fault ↦ inr (inr (inr (ds, c.in_ok-declarations.ensures.found, c.in_ok-declarations.ensures.shallow, subst (λ (xs : List Declaration). IsFaulty (map declaration_view xs) e) c.as_slice.ensures fault)))
     ])
 
 pub returns-clause-describes : goal.returns-clause-describes
