@@ -1,37 +1,59 @@
-use crate::{Leaf, ListHead, MapHead, OpenType, substitute};
+ghost use Rattle.std.specs.Prelude.{IfOk};
+ghost use Rattle.open_types.specs.Open.{open_view, IsOverFirst};
+
+use crate::{ClosedType, Leaf, ListHead, MapHead, OpenType, substitute};
 use diag::List;
 use std::alloc::{AllocError, Global};
 use std::test::Fail;
 
 /// `Vec<T>`, where `T` is the first parameter.
-fn list_of_first(alloc: Global) -> Result<OpenType, AllocError> {
+fn list_of_first(alloc: Global) -> Result<OpenType, AllocError>
+    ensures { IfOk result (λ t. IsOverFirst 1 (open_view t)) }
+{
     Ok(OpenType::Items(ListHead::Vec, Box::new(alloc, OpenType::Param(0))?))
 }
 
-/// `HashMap<String, (Vec<T>,)>`.
-fn map_of_tuples(alloc: Global) -> Result<OpenType, AllocError> {
-    let mut items = List::new(alloc);
-    items.push(list_of_first(alloc)?)?;
+/// `HashMap<String, Vec<T>>`.
+fn map_of_lists(alloc: Global) -> Result<OpenType, AllocError>
+    ensures { IfOk result (λ t. IsOverFirst 1 (open_view t)) }
+{
     let key = Box::new(alloc, OpenType::Leaf(Leaf::String))?;
-    let value = Box::new(alloc, OpenType::Tuple(items))?;
+    let value = Box::new(alloc, list_of_first(alloc)?)?;
     Ok(OpenType::Map(MapHead::HashMap, key, value))
+}
+
+/// The type with `bool` in the place of its one parameter.
+fn of_bool(alloc: Global, ty: &OpenType) -> Result<ClosedType, AllocError>
+    requires { IsOverFirst 1 (open_view ty.now) }
+{
+    let closed = substitute(alloc, &OpenType::Leaf(Leaf::Bool), &[])?;
+    let arguments = [closed];
+    substitute(alloc, ty, arguments.as_slice())
 }
 
 #[test]
 fn puts_arguments_in_place(rt: HostRuntime) -> Result<(), Fail> {
     let alloc = rt.alloc();
-    let closed = substitute(alloc, &OpenType::Leaf(Leaf::Bool), &[])?;
-    let arguments = [closed.copy(alloc)?];
-    let list = substitute(alloc, &list_of_first(alloc)?, arguments.as_slice())?;
+    let list = of_bool(alloc, &list_of_first(alloc)?)?.copy(alloc)?;
     let shown = format!(in alloc; "{:?}", list.as_open())?;
     assert_eq!(rt; shown.as_str(), "Items(Vec, Leaf(Bool))");
-    let open = map_of_tuples(alloc)?;
-    let same = format!(in alloc; "{:?}", open.copy(alloc)?)?;
-    let text = format!(in alloc; "{open:?}")?;
-    assert_eq!(rt; same.as_str(), text.as_str());
-    let map = substitute(alloc, &open, arguments.as_slice())?;
+    let map = of_bool(alloc, &map_of_lists(alloc)?)?;
     let shown = format!(in alloc; "{:?}", map.as_open())?;
-    assert!(rt; shown.as_str().find("Leaf(Bool)").is_some());
-    assert!(rt; shown.as_str().find("Param").is_none());
+    assert_eq!(rt;
+        shown.as_str(),
+        "Map(HashMap, Leaf(String), Items(Vec, Leaf(Bool)))"
+    );
+    Ok(())
+}
+
+#[test]
+fn copies_show_the_same(rt: HostRuntime) -> Result<(), Fail> {
+    let alloc = rt.alloc();
+    let mut items = List::new(alloc);
+    items.push(map_of_lists(alloc)?)?;
+    let open = OpenType::Named(3, items);
+    let copy = format!(in alloc; "{:?}", open.copy(alloc)?)?;
+    let text = format!(in alloc; "{open:?}")?;
+    assert_eq!(rt; copy.as_str(), text.as_str());
     Ok(())
 }

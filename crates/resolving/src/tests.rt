@@ -5,22 +5,12 @@ use std::collections::BTreeMap;
 use std::test::Fail;
 use written_types::{GenericArgument, Ident, Path, PathSegment, WrittenType};
 
-/// `NAME`, or `NAME<ARGUMENT, ..>` with as many arguments as `count`.
-fn named(
+/// A path of one segment with these arguments.
+fn path_of(
     alloc: Global,
     name: &str,
-    argument: &str,
-    count: usize,
+    arguments: Option<List<GenericArgument>>,
 ) -> Result<WrittenType, AllocError> {
-    let arguments = if count == 0 {
-        None
-    } else {
-        let mut arguments = List::new(alloc);
-        for _ in 0..count {
-            arguments.push(GenericArgument::Ty(named(alloc, argument, "", 0)?))?;
-        }
-        Some(arguments)
-    };
     let ident = Ident {
         text: Text::new(alloc, name)?,
         raw: false,
@@ -33,6 +23,23 @@ fn named(
         segments,
         span: Span { start: 3, end: 9 },
     }))
+}
+
+/// `NAME`, or `NAME<ARGUMENT, ..>` with as many arguments as `count`.
+fn named(
+    alloc: Global,
+    name: &str,
+    argument: &str,
+    count: usize,
+) -> Result<WrittenType, AllocError> {
+    if count == 0 {
+        return path_of(alloc, name, None);
+    }
+    let mut arguments = List::new(alloc);
+    for _ in 0..count {
+        arguments.push(GenericArgument::Ty(path_of(alloc, argument, None)?))?;
+    }
+    path_of(alloc, name, Some(arguments))
 }
 
 /// What the type stands for, or the kind and message of its refusal.

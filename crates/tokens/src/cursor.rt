@@ -4,6 +4,7 @@ use crate::token::TokenTree;
 use std::marker::Model;
 
 /// A place in a list of token trees. Contracts see the trees that are not read yet.
+#[derive(Drop)]
 pub struct Cursor<'a> {
     trees: &'a [TokenTree],
 }
