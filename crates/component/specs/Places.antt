@@ -1,0 +1,162 @@
+-- The schema of a place by its type (JSON Schema 2020-12; OpenAPI 3.1, "Schema Object"), over parameters and declarations.
+use Rattle.std.specs.Prelude.{ℕ, List, [], ◌∷◌, Bool, true, false, cond, ℤ, pos, Option, Some, None}
+use Rattle.acceptance.specs.Json.{null}
+use Rattle.schema_core.specs.declared.tree.SchemaTypeInner.{SchemaTypeInner}
+use Rattle.schema_core.specs.declared.tree.SchemaTypeInner.TheVariants as word
+use Rattle.schema_core.specs.declared.tree.TypeWord.{TypeWord}
+use Rattle.schema_core.specs.declared.tree.TypeWord.TheVariants.{Any, One, Nullable}
+use Rattle.schema_core.specs.declared.notes.Notes.{Notes}
+use Rattle.schema_core.specs.Notes.{no_notes}
+use Rattle.schema_core.specs.Schema.{Facts, ArrayFacts, SchemaOf, object, array, one_of, all_of, SchemasOf, no_schemas, schema, PropertiesOf, no_properties, PartOf, no_part, truth, part}
+use Rattle.schema_core.specs.Schema as tree
+use Rattle.leaves.specs.declared.leaf.Leaf.{Leaf}
+use Rattle.leaves.specs.declared.leaf.LeafKind.{LeafKind}
+use Rattle.leaves.specs.declared.leaf.LeafKind.TheVariants as kinds
+use Rattle.leaves.specs.Leaves.{kind_of, format_of}
+use Rattle.open_types.specs.Open.{Open, Opens, leaf, any_value, free_object, unit, tuple, items, set, map_of, option, through, no_types, more_types}
+use Rattle.open_types.specs.Open as types
+use Rattle.component.specs.Leaves.{LeafOf, param, named}
+
+-- the word of `type` for a kind, and the least number
+abbrev pub word_of : LeafKind → SchemaTypeInner
+word_of kinds.Text = word.String
+word_of kinds.Boolean = word.Boolean
+word_of kinds.Signed = word.Integer
+word_of kinds.Unsigned = word.Integer
+word_of kinds.Float = word.Number
+
+abbrev pub minimum_of : LeafKind → Option ℤ
+minimum_of kinds.Text = None
+minimum_of kinds.Boolean = None
+minimum_of kinds.Signed = None
+minimum_of kinds.Unsigned = Some (pos 0)
+minimum_of kinds.Float = None
+
+abbrev pub type_word : Bool → SchemaTypeInner → TypeWord
+type_word false w = One w
+type_word true w = Nullable w
+
+-- ---- notes
+
+abbrev pub where_true : Bool → Option Bool
+where_true false = None
+where_true true = Some true
+
+-- that the place is deprecated, and its description
+abbrev pub noted : Bool → Option (List ℕ) → Notes
+noted deprecated description = record {
+  title = None;
+  description = description;
+  default = None;
+  example = None;
+  examples = None;
+  deprecated = where_true deprecated;
+  read_only = None;
+  write_only = None;
+  content_encoding = None;
+  content_media_type = None;
+}
+
+abbrev pub described : Option (List ℕ) → Notes
+described = noted false
+
+-- a description, and null as the default
+abbrev pub null_default : Option (List ℕ) → Notes
+null_default description = record {
+  title = None;
+  description = description;
+  default = Some null;
+  example = None;
+  examples = None;
+  deprecated = None;
+  read_only = None;
+  write_only = None;
+  content_encoding = None;
+  content_media_type = None;
+}
+
+-- ---- schemas
+
+-- a word and notes alone
+abbrev pub only_word : {X : Type 0} → TypeWord → Notes → SchemaOf X
+only_word w notes = object (record { type_word = w; format = None; enum_values = None; required = []; minimum = None; notes = notes }) no_properties no_part no_part
+
+abbrev pub null_alone : {X : Type 0} → SchemaOf X
+null_alone = only_word (One word.Null) no_notes
+
+-- the schema or null
+abbrev pub one_of_null : {X : Type 0} → Notes → SchemaOf X → SchemaOf X
+one_of_null notes s = one_of notes (schema s (schema null_alone no_schemas))
+
+-- the schema, or null where it may be
+abbrev pub or_null : {X : Type 0} → Bool → SchemaOf X → SchemaOf X
+or_null false s = s
+or_null true s = one_of_null no_notes s
+
+-- the schema beside a description, where there is one
+abbrev pub beside : {X : Type 0} → Option (List ℕ) → SchemaOf X → SchemaOf X
+beside None s = s
+beside (Some text) s = all_of no_notes (schema s (schema (only_word Any (described (Some text))) no_schemas))
+
+-- a schema that stands there itself: with null, or beside its description
+abbrev pub in_place : {X : Type 0} → Bool → Option (List ℕ) → SchemaOf X → SchemaOf X
+in_place false description s = beside description s
+in_place true description s = one_of_null (described description) s
+
+abbrev pub leaf_object : {X : Type 0} → Bool → Notes → Leaf → SchemaOf X
+leaf_object nullable notes x =
+    object (record { type_word = type_word nullable (word_of (kind_of x)); format = format_of x; enum_values = None; required = []; minimum = minimum_of (kind_of x); notes = notes }) no_properties no_part no_part
+
+-- a list of what the schema accepts, whose elements are distinct where it is `unique`
+abbrev pub list_of : {X : Type 0} → Bool → Bool → Notes → SchemaOf X → SchemaOf X
+list_of unique nullable notes s = array (record { nullable = nullable; unique = unique; max_items = None; min_items = None; notes = notes }) no_schemas (part s)
+
+-- a list of no more elements than the schemas, which accept them by position
+abbrev pub tuple_of : {X : Type 0} → Bool → Notes → SchemasOf X → SchemaOf X
+tuple_of nullable notes ss = array (record { nullable = nullable; unique = false; max_items = None; min_items = None; notes = notes }) ss (truth false)
+
+-- a map whose names and values the schemas accept
+abbrev pub map_object : {X : Type 0} → Bool → Notes → (names values : SchemaOf X) → SchemaOf X
+map_object nullable notes names values =
+    object (record { type_word = type_word nullable word.Object; format = None; enum_values = None; required = []; minimum = None; notes = notes }) no_properties (part values) (part names)
+
+-- ---- places
+
+-- a declaration: a reference, or its schema in place
+abbrev pub declared : Bool → Bool → Option (List ℕ) → Open → SchemaOf LeafOf
+declared nullable false description t = or_null nullable (tree.leaf (named t false (described description)))
+declared nullable true description t = in_place nullable description (tree.leaf (named t true no_notes))
+
+-- the schema of an argument, which has no description but where it is inline
+abbrev pub argument : Bool → Bool → Option (List ℕ) → ℕ → SchemaOf LeafOf
+argument nullable false description i = or_null nullable (tree.leaf (param i))
+argument nullable true description i = in_place nullable description (tree.leaf (param i))
+
+-- The schema of a place of the type: whether null may stand there, whether declarations are inline, whether it is deprecated, and its description.
+abbrev mutual
+  pub place : (nullable inline deprecated : Bool) → Option (List ℕ) → Open → SchemaOf LeafOf
+  place nullable inline deprecated description (leaf x) = leaf_object nullable (noted deprecated description) x
+  place nullable inline deprecated description any_value = only_word Any (noted deprecated description)
+  place nullable inline deprecated description free_object = only_word (type_word nullable word.Object) (noted deprecated description)
+  place nullable inline deprecated description unit = only_word Any (null_default None)
+  place nullable inline deprecated description (tuple ts) = tuple_of nullable (noted deprecated description) (inline_places ts)
+  place nullable inline deprecated description (items h t) = list_of false nullable (noted deprecated description) (place false inline false None t)
+  place nullable inline deprecated description (set h t) = list_of true nullable (noted deprecated description) (place false inline false None t)
+  place nullable inline deprecated description (map_of h k t) = map_object nullable (noted deprecated description) (place false true false None k) (place false inline false None t)
+  place nullable inline deprecated description (option t) = place true inline deprecated description t
+  place nullable inline deprecated description (through h t) = place nullable inline deprecated description t
+  place nullable inline deprecated description (types.param i) = argument nullable inline description i
+  place nullable inline deprecated description (types.named d ts) = declared nullable inline description (types.named d ts)
+
+  -- the items of a tuple
+  pub inline_places : Opens → SchemasOf LeafOf
+  inline_places no_types = no_schemas
+  inline_places (more_types t ts) = schema (place false true false None t) (inline_places ts)
+
+-- the type of a parameter of a request: where it is an option, null need not be said
+abbrev pub without_option : Open → Open
+without_option (option t) = t
+without_option t = t
+
+abbrev pub parameter_type : Bool → Open → Open
+parameter_type option_is_nullable t = cond option_is_nullable t (without_option t)

@@ -1,0 +1,15 @@
+//! The schema of a place: a term over the parameters and declarations that its type names.
+#![tactic(auto)]
+
+mod copies;
+mod fill;
+mod place;
+mod references;
+mod schemas;
+mod term;
+
+pub use fill::{Fill, filled};
+pub use place::{Place, place_term};
+pub use references::SchemaReference;
+pub use schemas::{noted, null_default};
+pub use term::{Term, TermLeaf, ToTerm};

@@ -1,0 +1,255 @@
+//! Schemas of one keyword or two, with leaves of any type.
+
+ghost use Rattle.std.specs.Prelude.{◌≡◌, IfOk};
+ghost use Rattle.schema_core.specs.Schema.{SchemaOf, tree_view, object_view, tree_views, named_views};
+ghost use Rattle.component.specs.Leaves.{leaf_view, term_view};
+ghost use Rattle.component.specs.Places.{word_of, minimum_of, type_word, where_true, noted, null_default, only_word, one_of_null, or_null, beside, in_place, leaf_object, list_of, tuple_of, map_object};
+
+use crate::term::{Term, TermLeaf};
+use diag::{List, Text};
+use leaves::{Leaf, LeafKind};
+use schema_core::{
+    Additional, AllOfSchema, Array, ArrayItems, Bound, Json, Notes, Object, OneOfSchema,
+    SchemaTypeInner, Tree, TypeWord,
+};
+use serde_json::Value;
+use std::alloc::{AllocError, Global};
+
+fn type_word(nullable: bool, word: SchemaTypeInner) -> TypeWord
+    ensures { result ≡ type_word nullable word }
+{
+    if nullable {
+        TypeWord::Nullable(word)
+    } else {
+        TypeWord::One(word)
+    }
+}
+
+fn word_of(kind: LeafKind) -> SchemaTypeInner
+    ensures { result ≡ word_of kind }
+{
+    match kind {
+        LeafKind::Text => SchemaTypeInner::String,
+        LeafKind::Boolean => SchemaTypeInner::Boolean,
+        LeafKind::Signed | LeafKind::Unsigned => SchemaTypeInner::Integer,
+        LeafKind::Float => SchemaTypeInner::Number,
+    }
+}
+
+/// The least number: 0 for an unsigned integer.
+fn minimum_of(kind: LeafKind) -> Option<Bound>
+    ensures { result ≡ minimum_of kind }
+{
+    match kind {
+        LeafKind::Unsigned => Some(Bound::zero()),
+        LeafKind::Text | LeafKind::Boolean | LeafKind::Signed | LeafKind::Float => None,
+    }
+}
+
+/// Notes that a place is deprecated, and of its description.
+pub fn noted(
+    alloc: Global,
+    deprecated: bool,
+    description: &Option<Text>,
+) -> Result<Notes, AllocError>
+    ensures { IfOk result (λ notes. notes ≡ noted deprecated description.now) }
+{
+    let mut notes = Notes::new();
+    if deprecated {
+        notes.deprecated = Some(true);
+    }
+    if let Some(text) = description {
+        notes.description = Some(text.copy(alloc)?);
+    }
+    Ok(notes)
+}
+
+fn object(alloc: Global, ty: TypeWord, notes: Notes) -> Object<TermLeaf>
+    ensures { object_view leaf_view result ≡ only_word ty notes }
+{
+    Object {
+        ty,
+        format: None,
+        enum_values: None,
+        properties: List::new(alloc),
+        required: List::new(alloc),
+        additional: Additional::Absent,
+        property_names: None,
+        minimum: None,
+        notes,
+    }
+}
+
+pub(crate) fn boxed(alloc: Global, object: Object<TermLeaf>) -> Result<Term, AllocError>
+    ensures { IfOk result (λ s. term_view s ≡ object_view leaf_view object) }
+{
+    Ok(Tree::Object(Box::new(alloc, object)?))
+}
+
+/// A word of `type` and notes alone.
+pub(crate) fn only_word(alloc: Global, ty: TypeWord, notes: Notes) -> Result<Term, AllocError>
+    ensures { IfOk result (λ s. term_view s ≡ only_word ty notes) }
+{
+    boxed(alloc, object(alloc, ty, notes))
+}
+
+/// Any object, or null where it may be.
+pub(crate) fn any_object(
+    alloc: Global,
+    nullable: bool,
+    notes: Notes,
+) -> Result<Term, AllocError>
+    ensures { IfOk result (λ s. term_view s ≡ only_word (type_word nullable SchemaTypeInner.Object) notes) }
+{
+    only_word(alloc, type_word(nullable, SchemaTypeInner::Object), notes)
+}
+
+/// Null as the default of any value, with a description.
+pub fn null_default(alloc: Global, description: &Option<Text>) -> Result<Term, AllocError>
+    ensures { IfOk result (λ s. term_view s ≡ only_word TypeWord.Any (null_default description.now)) }
+{
+    let mut notes = noted(alloc, false, description)?;
+    notes.default = match Json::new(Value::Null) {
+        Ok(null) => Some(null),
+        Err(_) => None,
+    };
+    only_word(alloc, TypeWord::Any, notes)
+}
+
+/// The schema of a built-in name.
+pub(crate) fn leaf_object(
+    alloc: Global,
+    nullable: bool,
+    notes: Notes,
+    leaf: Leaf,
+) -> Result<Term, AllocError>
+    ensures { IfOk result (λ s. term_view s ≡ leaf_object nullable notes leaf) }
+{
+    let mut object = object(alloc, type_word(nullable, word_of(leaf.kind())), notes);
+    object.format = match leaf.format() {
+        Some(name) => Some(Text::new(alloc, name)?),
+        None => None,
+    };
+    object.minimum = minimum_of(leaf.kind());
+    boxed(alloc, object)
+}
+
+/// One of the schema and null.
+fn one_of_null(alloc: Global, schema: Term, notes: Notes) -> Result<Term, AllocError>
+    ensures { IfOk result (λ s. term_view s ≡ one_of_null notes (term_view schema)) }
+{
+    let null = only_word(
+        alloc,
+        TypeWord::One(SchemaTypeInner::Null),
+        Notes::new(),
+    )?;
+    let mut items = List::new(alloc);
+    items.push(schema)?;
+    items.push(null)?;
+    Ok(Tree::OneOf(Box::new(alloc, OneOfSchema { items, notes })?))
+}
+
+/// The schema, or null where it may be.
+pub(crate) fn or_null(alloc: Global, nullable: bool, schema: Term) -> Result<Term, AllocError>
+    ensures { IfOk result (λ s. term_view s ≡ or_null nullable (term_view schema)) }
+{
+    if nullable {
+        one_of_null(alloc, schema, Notes::new())
+    } else {
+        Ok(schema)
+    }
+}
+
+/// The schema beside its description, where there is one.
+fn beside(
+    alloc: Global,
+    description: &Option<Text>,
+    schema: Term,
+) -> Result<Term, AllocError>
+    ensures { IfOk result (λ s. term_view s ≡ beside description.now (term_view schema)) }
+{
+    if description.is_none() {
+        return Ok(schema);
+    }
+    let said = only_word(alloc, TypeWord::Any, noted(alloc, false, description)?)?;
+    let mut items = List::new(alloc);
+    items.push(schema)?;
+    items.push(said)?;
+    let notes = Notes::new();
+    Ok(Tree::AllOf(Box::new(alloc, AllOfSchema { items, notes })?))
+}
+
+/// A schema that stands there itself, with null where it may be, and with its description.
+pub(crate) fn in_place(
+    alloc: Global,
+    nullable: bool,
+    description: &Option<Text>,
+    schema: Term,
+) -> Result<Term, AllocError>
+    ensures { IfOk result (λ s. term_view s ≡ in_place nullable description.now (term_view schema)) }
+{
+    if nullable {
+        one_of_null(alloc, schema, noted(alloc, false, description)?)
+    } else {
+        beside(alloc, description, schema)
+    }
+}
+
+/// A list of what the schema accepts, whose elements are distinct where it is `unique`.
+pub(crate) fn list_of(
+    alloc: Global,
+    unique: bool,
+    nullable: bool,
+    notes: Notes,
+    items: Term,
+) -> Result<Term, AllocError>
+    ensures { IfOk result (λ s. term_view s ≡ list_of unique nullable notes (term_view items)) }
+{
+    let array = Array {
+        nullable,
+        items: ArrayItems::Each(items),
+        prefix_items: List::new(alloc),
+        unique,
+        max_items: None,
+        min_items: None,
+        notes,
+    };
+    Ok(Tree::Array(Box::new(alloc, array)?))
+}
+
+/// A list of no more elements than the schemas, which accept them by position.
+pub(crate) fn tuple_of(
+    alloc: Global,
+    nullable: bool,
+    notes: Notes,
+    items: List<Term>,
+) -> Result<Term, AllocError>
+    ensures { IfOk result (λ s. term_view s ≡ tuple_of nullable notes (tree_views leaf_view items)) }
+{
+    let array = Array {
+        nullable,
+        items: ArrayItems::False,
+        prefix_items: items,
+        unique: false,
+        max_items: None,
+        min_items: None,
+        notes,
+    };
+    Ok(Tree::Array(Box::new(alloc, array)?))
+}
+
+/// A map whose names and values the schemas accept.
+pub(crate) fn map_object(
+    alloc: Global,
+    nullable: bool,
+    notes: Notes,
+    names: Term,
+    values: Term,
+) -> Result<Term, AllocError>
+    ensures { IfOk result (λ s. term_view s ≡ map_object nullable notes (term_view names) (term_view values)) }
+{
+    let mut object = object(alloc, type_word(nullable, SchemaTypeInner::Object), notes);
+    object.property_names = Some(names);
+    object.additional = Additional::Of(values);
+    boxed(alloc, object)
+}
