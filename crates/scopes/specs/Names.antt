@@ -1,0 +1,33 @@
+-- The names that declarations give, and the places where they stand.
+use Rattle.std.specs.Prelude.{◌≡◌, ℕ, suc, List, [], ◌∷◌, ◌++◌, Option, Some, None, option_map, bytes_eq, cond, IsTrue, codes}
+use Rattle.acceptance.specs.Json.{is_in}
+use Rattle.written_types.specs.declared.written.Ident.{Ident}
+use Rattle.syntax.specs.Items.{DeclaredItem}
+
+-- the place of the first equal name
+abbrev pub place_in : List ℕ → List (List ℕ) → Option ℕ
+place_in k [] = None
+place_in k (n ∷ ns) = cond (bytes_eq k n) (Some 0) (option_map suc (place_in k ns))
+
+abbrev pub declared_names : List DeclaredItem → List (List ℕ)
+declared_names [] = []
+declared_names (d ∷ ds) = d.ident.text ∷ declared_names ds
+
+-- the place of the first declaration of the name
+abbrev pub place_among : List DeclaredItem → List ℕ → Option ℕ
+place_among ds name = place_in name (declared_names ds)
+
+abbrev pub declared_idents : List DeclaredItem → List Ident
+declared_idents [] = []
+declared_idents (d ∷ ds) = d.ident ∷ declared_idents ds
+
+abbrev pub texts : List Ident → List (List ℕ)
+texts [] = []
+texts (x ∷ xs) = x.text ∷ texts xs
+
+-- the identifier stands in the list, and one of its name stands before it
+abbrev pub Repeats : List Ident → Ident → Type 0
+Repeats xs x = (before : List Ident) × (behind : List Ident) × (xs ≡ before ++ x ∷ behind) × IsTrue (is_in x.text (texts before))
+
+abbrev pub duplicate_message : List ℕ → List ℕ
+duplicate_message name = codes "name " ++ (name ++ codes " is given twice")

@@ -1,0 +1,10 @@
+//! Where the names of a source are looked up: the places of its declarations, and what a written type stands for there.
+#![tactic(auto)]
+
+mod names;
+mod scope;
+#[cfg(test)]
+mod tests;
+
+pub use names::{Named, declared_places, places_of};
+pub use scope::{Scope, resolve};

@@ -1,0 +1,79 @@
+//! Names and their places.
+
+ghost use Rattle.std.specs.Prelude.{◌≡◌, ◌⊎◌, ℕ, List, map, IfOk, IfErr};
+ghost use Rattle.std.specs.BTreeMap.{get_by_text};
+ghost use Rattle.diag.specs.Refusal.{IsRefusal};
+ghost use Rattle.schema_core.specs.Meaning.{IsDistinct};
+ghost use Rattle.written_types.specs.declared.written.Ident.{Ident as AnyIdent};
+ghost use Rattle.syntax.specs.Items.{declarations_view};
+ghost use Rattle.scopes.specs.Names.{place_in, place_among, declared_names, declared_idents, texts, Repeats, duplicate_message};
+
+use diag::{DeriveError, Diagnostics, Kind};
+use std::alloc::{AllocError, Global};
+use std::collections::BTreeMap;
+use syntax::{Declaration, Declarations, Ident};
+
+/// What is declared under an identifier.
+pub trait Named {
+    ghost ident_of: { Self → AnyIdent };
+
+    fn ident(&self) -> &Ident
+        ensures { result.now ≡ ident_of self.now };
+}
+
+impl Named for Declaration {
+    ghost ident_of = { λ declaration. declaration.ident };
+
+    fn ident(&self) -> &Ident {
+        &self.ident
+    }
+}
+
+/// The refusal of a name that was given before.
+fn duplicate(alloc: Global, ident: &Ident) -> Result<DeriveError, AllocError>
+    ensures { IfOk result (λ e. IsRefusal Kind.DuplicateName ident.now.span (duplicate_message ident.now.text) e) }
+{
+    let message = format!(in alloc; "name {} is given twice", ident.text.as_str())?;
+    let diagnostics = Diagnostics::with_span(
+        alloc,
+        Kind::DuplicateName,
+        ident.span,
+        message.as_str(),
+    )?;
+    Ok(DeriveError::Refused(diagnostics))
+}
+
+/// The place of each name, where no two are equal. A name given twice is refused with the kind `DuplicateName`, at the
+/// second identifier.
+pub fn places_of<T: Named>(
+    alloc: Global,
+    items: &[T],
+) -> Result<BTreeMap<String, usize>, DeriveError>
+    ensures places { IfOk result (λ places. (name : List ℕ) → get_by_text places name ≡ place_in name (texts (map T.ident_of items.now))) }
+    ensures distinct { IfOk result (λ _. IsDistinct (texts (map T.ident_of items.now))) }
+    ensures refused { IfErr result (λ e. (e ≡ DeriveError.Memory) ⊎ ((x : AnyIdent) × Repeats (map T.ident_of items.now) x
+        × IsRefusal Kind.DuplicateName x.span (duplicate_message x.text) e)) }
+{
+    let mut places = BTreeMap::new(alloc);
+    for at in 0..items.len() {
+        let ident = items[at].ident();
+        let name = String::from_str(alloc, ident.text.as_str())?;
+        if let Some(_) = places.insert(name, at).map_err(AllocError::from)? {
+            return Err(duplicate(alloc, ident)?);
+        }
+    }
+    Ok(places)
+}
+
+/// The place of the name of each declaration, as `places_of`.
+pub fn declared_places(
+    alloc: Global,
+    declarations: &Declarations,
+) -> Result<BTreeMap<String, usize>, DeriveError>
+    ensures places { IfOk result (λ places. (name : List ℕ) → get_by_text places name ≡ place_among (declarations_view declarations.now) name) }
+    ensures distinct { IfOk result (λ _. IsDistinct (declared_names (declarations_view declarations.now))) }
+    ensures refused { IfErr result (λ e. (e ≡ DeriveError.Memory) ⊎ ((x : AnyIdent) × Repeats (declared_idents (declarations_view declarations.now)) x
+        × IsRefusal Kind.DuplicateName x.span (duplicate_message x.text) e)) }
+{
+    places_of(alloc, declarations.items.as_slice())
+}
