@@ -7,7 +7,7 @@ use serde_json::Number;
 use std::marker::Model;
 
 /// A whole number from -2^63 to 2^64 - 1, as `serde_json` holds them.
-#[derive(Debug, Drop)]
+#[derive(Clone, Copy, Debug)]
 pub struct Bound {
     value: i128,
 }
@@ -18,6 +18,8 @@ impl Model for Bound {
     ghost view = { λ bound. bound.value };
 
     ghost invariant = { λ bound. IsShort bound.value };
+
+    ghost inverse = { λ value. record { value = value } };
 }
 
 impl Bound {

@@ -3,6 +3,7 @@
 
 mod bound;
 mod components;
+mod copies;
 mod form;
 mod json_value;
 mod law;
@@ -14,6 +15,7 @@ mod tree;
 
 pub use bound::Bound;
 pub use components::Components;
+pub use copies::{copy_json, copy_jsons, copy_text, copy_texts};
 pub use json_value::Json;
 pub use law::{documents_hold, forms_accept, forms_refer};
 pub use notes::Notes;

@@ -1,6 +1,7 @@
 ghost use Rattle.std.specs.Prelude.{◌≡◌, IfOk};
 ghost use Rattle.schema_core.specs.Notes.{no_notes};
 
+use crate::copies::{copy_json, copy_jsons, copy_text};
 use crate::json_value::Json;
 use diag::{List, Text};
 use std::alloc::{AllocError, Global};
@@ -18,42 +19,6 @@ pub struct Notes {
     pub write_only: Option<bool>,
     pub content_encoding: Option<Text>,
     pub content_media_type: Option<Text>,
-}
-
-/// Another text with the same bytes, where there is one.
-fn copy_text(alloc: Global, text: &Option<Text>) -> Result<Option<Text>, AllocError>
-    ensures { IfOk result (λ copy. copy ≡ text.now) }
-{
-    match text {
-        None => Ok(None),
-        Some(text) => Ok(Some(text.copy(alloc)?)),
-    }
-}
-
-/// Another value that is equal, where there is one.
-fn copy_json(alloc: Global, json: &Option<Json>) -> Result<Option<Json>, AllocError>
-    ensures { IfOk result (λ copy. copy ≡ json.now) }
-{
-    match json {
-        None => Ok(None),
-        Some(json) => Ok(Some(json.copy(alloc)?)),
-    }
-}
-
-/// Other values that are equal, where there is a list.
-fn copy_jsons(alloc: Global, list: &Option<List<Json>>) -> Result<Option<List<Json>>, AllocError>
-    ensures { IfOk result (λ copies. copies ≡ list.now) }
-{
-    match list {
-        None => Ok(None),
-        Some(list) => {
-            let mut copies = List::new(alloc);
-            for json in list.as_slice() {
-                copies.push(json.copy(alloc)?)?;
-            }
-            Ok(Some(copies))
-        }
-    }
 }
 
 impl Notes {
