@@ -4,10 +4,12 @@ ghost use Rattle.std.specs.Prelude.{◌≡◌, IfOk};
 ghost use Rattle.schema_core.specs.Schema.{SchemaOf, bind, bind_schemas, bind_properties, bind_part, tree_view, object_view, array_view, one_of_view, all_of_view, additional_view, array_items_view, optional_view, tree_views, named_views};
 ghost use Rattle.component.specs.Leaves.{LeafOf, leaf_view, term_view};
 
-use crate::copies::{copy_jsons, copy_text, copy_texts, same_bound};
 use crate::term::{Term, TermLeaf};
 use diag::{List, Text};
-use schema_core::{Additional, AllOfSchema, Array, ArrayItems, Object, OneOfSchema, Tree};
+use schema_core::{
+    Additional, AllOfSchema, Array, ArrayItems, Object, OneOfSchema, Tree, copy_jsons, copy_text,
+    copy_texts,
+};
 use std::alloc::{AllocError, Global};
 
 /// What is put at each leaf of a term.
@@ -75,7 +77,7 @@ fn filled_object<F: Fill>(
         required: copy_texts(alloc, &object.required)?,
         additional: filled_additional(alloc, &object.additional, fill)?,
         property_names: filled_option(alloc, &object.property_names, fill)?,
-        minimum: same_bound(&object.minimum),
+        minimum: object.minimum,
         notes: object.notes.copy(alloc)?,
     })
 }
@@ -138,8 +140,8 @@ fn filled_array<F: Fill>(
         items: filled_items(alloc, &array.items, fill)?,
         prefix_items: filled_trees(alloc, array.prefix_items.as_slice(), fill)?,
         unique: array.unique,
-        max_items: same_bound(&array.max_items),
-        min_items: same_bound(&array.min_items),
+        max_items: array.max_items,
+        min_items: array.min_items,
         notes: array.notes.copy(alloc)?,
     })
 }

@@ -1,7 +1,6 @@
 //! The schema of a place: a term over the parameters and declarations that its type names.
 #![tactic(auto)]
 
-mod copies;
 mod fill;
 mod place;
 mod references;

@@ -8,7 +8,7 @@ use Rattle.component.proofs.fill.+filled.Goals as goal
 pub filled_object-returns : goal.filled_object-returns
 filled_object-returns g t c =
     object_view-is g.F.Fill.meaning _
-    ∙ rw (c.in_ok-copy_text.ensures, c.in_ok-copy_jsons.ensures, c.in_ok-filled_properties.ensures, c.as_slice.ensures, c.in_ok-copy_texts.ensures, c.in_ok-filled_additional.ensures, c.in_ok-filled_option.ensures, c.same_bound.ensures, c.in_ok-copy.ensures)
+    ∙ rw (c.in_ok-copy_text.ensures, c.in_ok-copy_jsons.ensures, c.in_ok-filled_properties.ensures, c.as_slice.ensures, c.in_ok-copy_texts.ensures, c.in_ok-filled_additional.ensures, c.in_ok-filled_option.ensures, c.in_ok-copy.ensures)
     (sym (ap (bind (g.F.Fill.put c.args.fill.now)) (object_view-is leaf_view c.args.object.now)))
 
 pub filled_properties-returns : goal.filled_properties-returns
