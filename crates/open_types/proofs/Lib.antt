@@ -1,1 +1,2 @@
 pub mod OpenLists
+pub mod SameLists

@@ -1,7 +1,7 @@
 //! Types without parameters.
 
 ghost use Rattle.std.specs.Prelude.{◌≡◌, ◌<◌, IfOk, length};
-ghost use Rattle.open_types.specs.Open.{open_view, opens_view, IsClosed, AreClosed, IsOverFirst, AreOverFirst, argument_at, substituted, all_substituted};
+ghost use Rattle.open_types.specs.Open.{named, no_types, open_view, opens_view, IsClosed, AreClosed, IsOverFirst, AreOverFirst, argument_at, substituted, all_substituted};
 
 use crate::open_type::OpenType;
 use diag::List;
@@ -29,6 +29,15 @@ impl Model for ClosedType {
 }
 
 impl ClosedType {
+    /// The declaration at a place of the source, without arguments. It takes no memory.
+    pub fn declared(alloc: Global, place: usize) -> ClosedType
+        ensures { open_view result ≡ named place no_types }
+    {
+        ClosedType {
+            ty: OpenType::Named(place, List::new(alloc)),
+        }
+    }
+
     /// The type, as an open one.
     pub fn as_open(&self) -> &OpenType
         ensures same { result.now ≡ self.now }

@@ -1,7 +1,7 @@
 ghost use Rattle.std.specs.Prelude.{IfOk};
 ghost use Rattle.open_types.specs.Open.{open_view, IsOverFirst};
 
-use crate::{ClosedType, Leaf, ListHead, MapHead, OpenType, substitute};
+use crate::{ClosedType, Leaf, ListHead, MapHead, OpenType, SetHead, ThroughHead, substitute};
 use diag::List;
 use std::alloc::{AllocError, Global};
 use std::test::Fail;
@@ -55,5 +55,108 @@ fn copies_show_the_same(rt: HostRuntime) -> Result<(), Fail> {
     let copy = format!(in alloc; "{:?}", open.copy(alloc)?)?;
     let text = format!(in alloc; "{open:?}")?;
     assert_eq!(rt; copy.as_str(), text.as_str());
+    Ok(())
+}
+
+/// The built-in names, the unit, parameters and declarations.
+fn push_plain(alloc: Global, types: &mut List<OpenType>) -> Result<(), AllocError> {
+    types.push(OpenType::Leaf(Leaf::Bool))?;
+    types.push(OpenType::Leaf(Leaf::Char))?;
+    types.push(OpenType::AnyValue)?;
+    types.push(OpenType::FreeObject)?;
+    types.push(OpenType::Unit)?;
+    types.push(OpenType::Param(0))?;
+    types.push(OpenType::Param(1))?;
+    types.push(OpenType::Named(0, List::new(alloc)))?;
+    types.push(OpenType::Named(1, List::new(alloc)))
+}
+
+/// As many times `bool` as are asked for.
+fn bools(alloc: Global, count: usize) -> Result<List<OpenType>, AllocError> {
+    let mut types = List::new(alloc);
+    for _ in 0..count {
+        types.push(OpenType::Leaf(Leaf::Bool))?;
+    }
+    Ok(types)
+}
+
+/// Types that differ in how many types they hold.
+fn push_counted(alloc: Global, types: &mut List<OpenType>) -> Result<(), AllocError> {
+    types.push(OpenType::Tuple(bools(alloc, 1)?))?;
+    types.push(OpenType::Tuple(bools(alloc, 2)?))?;
+    types.push(OpenType::Tuple(bools(alloc, 3)?))?;
+    types.push(OpenType::Named(0, bools(alloc, 1)?))?;
+    types.push(OpenType::Named(0, bools(alloc, 2)?))?;
+    types.push(OpenType::Named(1, bools(alloc, 2)?))
+}
+
+/// The type under each container.
+fn push_around(alloc: Global, types: &mut List<OpenType>, of: &OpenType) -> Result<(), AllocError> {
+    for head in [ListHead::Vec, ListHead::LinkedList] {
+        types.push(OpenType::Items(head, Box::new(alloc, of.copy(alloc)?)?))?;
+    }
+    for head in [SetHead::BTreeSet, SetHead::HashSet] {
+        types.push(OpenType::Set(head, Box::new(alloc, of.copy(alloc)?)?))?;
+    }
+    for head in [ThroughHead::Box, ThroughHead::Rc] {
+        types.push(OpenType::Through(head, Box::new(alloc, of.copy(alloc)?)?))?;
+    }
+    types.push(OpenType::Option(Box::new(alloc, of.copy(alloc)?)?))
+}
+
+/// Maps of `String` and the type, either way round.
+fn push_maps(alloc: Global, types: &mut List<OpenType>, of: &OpenType) -> Result<(), AllocError> {
+    for head in [MapHead::HashMap, MapHead::IndexMap] {
+        let key = Box::new(alloc, OpenType::Leaf(Leaf::String))?;
+        let value = Box::new(alloc, of.copy(alloc)?)?;
+        types.push(OpenType::Map(head, key, value))?;
+        let key = Box::new(alloc, of.copy(alloc)?)?;
+        let value = Box::new(alloc, OpenType::Leaf(Leaf::String))?;
+        types.push(OpenType::Map(head, key, value))?;
+    }
+    Ok(())
+}
+
+/// Types of which no two are the same.
+fn table(alloc: Global) -> Result<List<OpenType>, AllocError> {
+    let mut types = List::new(alloc);
+    push_plain(alloc, &mut types)?;
+    push_counted(alloc, &mut types)?;
+    for of in [
+        OpenType::Leaf(Leaf::Bool),
+        OpenType::Unit,
+        list_of_first(alloc)?,
+    ] {
+        push_around(alloc, &mut types, &of)?;
+        push_maps(alloc, &mut types, &of)?;
+    }
+    Ok(types)
+}
+
+#[test]
+fn same_types_are_told(rt: HostRuntime) -> Result<(), Fail> {
+    let alloc = rt.alloc();
+    let types = table(alloc)?;
+    let others = table(alloc)?;
+    assert_eq!(rt; types.len(), 48);
+    for (place, ty) in types.as_slice().iter().enumerate() {
+        for (other_place, other) in others.as_slice().iter().enumerate() {
+            assert_eq!(rt; ty.is_same(other), place == other_place, "{ty:?} {other:?}");
+            assert_eq!(rt; ty == other, place == other_place, "{ty:?} {other:?}");
+        }
+    }
+    crate::same_types_are_equal();
+    Ok(())
+}
+
+#[test]
+fn declarations_are_closed(rt: HostRuntime) -> Result<(), Fail> {
+    let alloc = rt.alloc();
+    let declared = ClosedType::declared(alloc, 3);
+    assert_eq!(rt; declared.as_open(), &OpenType::Named(3, List::new(alloc)));
+    let again = substitute(alloc, declared.as_open(), &[])?;
+    crate::closed_types_stay();
+    assert!(rt; again.as_open() == declared.as_open());
+    assert!(rt; again.as_open() != &OpenType::Named(4, List::new(alloc)));
     Ok(())
 }

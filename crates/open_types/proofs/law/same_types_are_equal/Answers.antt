@@ -1,0 +1,5 @@
+use Rattle.open_types.specs.SameLaws.{same_decides}
+use Rattle.open_types.proofs.law.same_types_are_equal.Goals as goal
+
+pub returns : goal.returns
+returns c = same_decides
