@@ -1,1 +1,3 @@
+pub mod Copied
 pub mod Filling
+pub mod Places

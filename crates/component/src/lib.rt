@@ -1,14 +1,18 @@
 //! The schema of a place: a term over the parameters and declarations that its type names.
 #![tactic(auto)]
 
+mod component_schema;
+mod container;
 mod fill;
 mod place;
 mod references;
 mod schemas;
 mod term;
 
+pub use component_schema::{ComponentSchema, ComponentSchemaProps};
+pub use container::{ComponentDescription, Container};
 pub use fill::{Fill, filled};
 pub use place::{Place, place_term};
 pub use references::SchemaReference;
 pub use schemas::{noted, null_default};
-pub use term::{Term, TermLeaf, ToTerm};
+pub use term::{Term, TermLeaf, ToTerm, copy_term};

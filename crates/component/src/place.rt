@@ -29,7 +29,7 @@ pub struct Place<'d> {
 
 /// The schema of a declaration: a reference to it, or its schema in place.
 fn declared(alloc: Global, at: Place<'_>, ty: &OpenType) -> Result<Term, AllocError>
-    ensures { IfOk result (λ s. term_view s ≡ declared at.nullable at.inline at.description.now (open_view ty.now)) }
+    ensures { IfOk result (λ s. term_view s ≡ declared at.entry.nullable at.entry.inline at.entry.description.now (open_view ty.now)) }
 {
     let of = ty.copy(alloc)?;
     if at.inline {
@@ -45,7 +45,7 @@ fn declared(alloc: Global, at: Place<'_>, ty: &OpenType) -> Result<Term, AllocEr
 
 /// The schema of the argument for the parameter at a place.
 fn argument(alloc: Global, at: Place<'_>, parameter: usize) -> Result<Term, AllocError>
-    ensures { IfOk result (λ s. term_view s ≡ argument at.nullable at.inline at.description.now parameter) }
+    ensures { IfOk result (λ s. term_view s ≡ argument at.entry.nullable at.entry.inline at.entry.description.now parameter) }
 {
     let leaf = Tree::Leaf(TermLeaf::Param(parameter));
     if at.inline {
@@ -57,7 +57,7 @@ fn argument(alloc: Global, at: Place<'_>, parameter: usize) -> Result<Term, Allo
 
 /// The schema of a place of the type.
 pub fn place_term(alloc: Global, at: Place<'_>, ty: &OpenType) -> Result<Term, AllocError>
-    ensures { IfOk result (λ s. term_view s ≡ place at.nullable at.inline at.deprecated at.description.now (open_view ty.now)) }
+    ensures { IfOk result (λ s. term_view s ≡ place at.entry.nullable at.entry.inline at.entry.deprecated at.entry.description.now (open_view ty.now)) }
 {
     typed_place(alloc, at, ty)
 }
@@ -78,7 +78,7 @@ fn inner_place(alloc: Global, inline: bool, ty: &OpenType) -> Result<Term, Alloc
 
 #[cycle(place)]
 fn typed_place(alloc: Global, at: Place<'_>, ty: &OpenType) -> Result<Term, AllocError>
-    ensures { IfOk result (λ s. term_view s ≡ place at.nullable at.inline at.deprecated at.description.now (open_view ty.now)) }
+    ensures { IfOk result (λ s. term_view s ≡ place at.entry.nullable at.entry.inline at.entry.deprecated at.entry.description.now (open_view ty.now)) }
 {
     let nullable = at.nullable;
     match ty {
@@ -124,7 +124,7 @@ fn inline_places(alloc: Global, types: &[OpenType]) -> Result<List<Term>, AllocE
 
 /// Notes of what is said of the place.
 fn notes_of(alloc: Global, at: Place<'_>) -> Result<Notes, AllocError>
-    ensures { IfOk result (λ notes. notes ≡ noted at.deprecated at.description.now) }
+    ensures { IfOk result (λ notes. notes ≡ noted at.entry.deprecated at.entry.description.now) }
 {
     noted(alloc, at.deprecated, at.description)
 }

@@ -1,0 +1,6 @@
+pub mod Faults
+pub mod Meaning
+pub mod Plain
+pub mod Shape
+pub mod Structs
+pub mod Terms
