@@ -25,7 +25,7 @@ impl Model for Config {
 }
 
 impl Config {
-    /// The configuration of nothing. It takes no memory.
+    /// The empty configuration: what holds where nothing is configured. It takes no memory.
     pub fn new(_alloc: Global) -> Config
         ensures { result ≡ empty_configuration }
     {

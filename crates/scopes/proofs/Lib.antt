@@ -1,3 +1,4 @@
 pub mod Closed
 pub mod Declared
 pub mod PlaceLaws
+pub mod TextLaws

@@ -1,2 +1,3 @@
 pub mod Names
 pub mod Scopes
+pub mod Texts

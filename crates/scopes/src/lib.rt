@@ -1,10 +1,13 @@
 //! Where the names of a source are looked up: the places of its declarations, and what a written type stands for there.
 #![tactic(auto)]
 
+mod heads;
 mod names;
 mod scope;
 #[cfg(test)]
 mod tests;
+mod text;
 
 pub use names::{Named, declared_places, places_of};
 pub use scope::{Scope, resolve};
+pub use text::type_text;

@@ -1,6 +1,12 @@
-use crate::{Scope, declared_places, resolve};
+ghost use Rattle.std.specs.Prelude.{◌≡◌, IfOk};
+ghost use Rattle.open_types.specs.Open.{open_view, opens_view, items, named, no_types, more_types};
+ghost use Rattle.open_types.specs.declared.open_type.ListHead.TheVariants.{Vec as AnyVec};
+
+use crate::text::push_type;
+use crate::{Scope, declared_places, resolve, type_text};
 use configuration::Config;
-use diag::DeriveError;
+use diag::{DeriveError, List, Text};
+use open_types::{ListHead, OpenType, substitute};
 use std::alloc::{AllocError, Global};
 use std::test::Fail;
 use syntax::{parse_declarations, parse_type};
@@ -67,5 +73,59 @@ fn refuses_a_name_given_twice(rt: HostRuntime) -> Result<(), Fail> {
         found.as_str(),
         "DuplicateName 31..32 name A is given twice"
     );
+    Ok(())
+}
+
+/// Types as they are written, and how what they stand for reads.
+const TEXTS: [(&str, &str); 8] = [
+    ("::std::string::String", "String"),
+    ("&'static [Value]", "Array<Value>"),
+    ("HashMap<String, Vec<User>>", "HashMap<String, Vec<User>>"),
+    ("SmallVec<[u8; 4]>", "SmallVec<u8>"),
+    ("()", "()"),
+    ("(Page,)", "(Page,)"),
+    ("(Option<i8>, bool, Object)", "(Option<i8>, bool, Object)"),
+    ("BTreeSet<Cow<'a, str>>", "BTreeSet<Cow<str>>"),
+];
+
+#[test]
+fn writes_types(rt: HostRuntime) -> Result<(), Fail> {
+    let alloc = rt.alloc();
+    let declarations = parse_declarations(alloc, SOURCE)?;
+    let places = declared_places(alloc, &declarations)?;
+    assert_eq!(rt; declarations.items.len(), 2);
+    let scope = Scope {
+        declarations: &declarations,
+        places: &places,
+        owner: 0,
+    };
+    for (written, expected) in TEXTS {
+        let ty = parse_type(alloc, written)?;
+        let open = resolve(alloc, &scope, &ty, &Config::new(alloc))?;
+        let mut text = Text::new(alloc, "")?;
+        push_type(&mut text, &declarations, &open)?;
+        assert_eq!(rt; text.as_str(), expected);
+    }
+    Ok(())
+}
+
+/// `Page<Vec<User>>`, where these are the first and the second declaration.
+fn page_of_users(alloc: Global) -> Result<OpenType, AllocError>
+    ensures { IfOk result (λ t. open_view t ≡ named 0 (more_types (items AnyVec (named 1 no_types)) no_types)) }
+{
+    let user = OpenType::Named(1, List::new(alloc));
+    let mut arguments = List::new(alloc);
+    arguments.push(OpenType::Items(ListHead::Vec, Box::new(alloc, user)?))?;
+    Ok(OpenType::Named(0, arguments))
+}
+
+#[test]
+fn writes_arguments(rt: HostRuntime) -> Result<(), Fail> {
+    let alloc = rt.alloc();
+    let declarations = parse_declarations(alloc, SOURCE)?;
+    assert_eq!(rt; declarations.items.len(), 2);
+    let closed = substitute(alloc, &page_of_users(alloc)?, &[])?;
+    let text = type_text(alloc, &declarations, &closed)?;
+    assert_eq!(rt; text.as_str(), "Page<Vec<User>>");
     Ok(())
 }

@@ -1,0 +1,87 @@
+-- How a resolved type reads, as in `Page<Vec<User>>`.
+use Rattle.std.specs.Prelude.{ℕ, zero, suc, List, [], ◌∷◌, ◌++◌, codes}
+use Rattle.leaves.specs.Leaves.{name_of}
+use Rattle.open_types.specs.declared.open_type.ListHead.{ListHead}
+use Rattle.open_types.specs.declared.open_type.ListHead.TheVariants as lists
+use Rattle.open_types.specs.declared.open_type.SetHead.{SetHead}
+use Rattle.open_types.specs.declared.open_type.SetHead.TheVariants as sets
+use Rattle.open_types.specs.declared.open_type.MapHead.{MapHead}
+use Rattle.open_types.specs.declared.open_type.MapHead.TheVariants as maps
+use Rattle.open_types.specs.declared.open_type.ThroughHead.{ThroughHead}
+use Rattle.open_types.specs.declared.open_type.ThroughHead.TheVariants as throughs
+use Rattle.open_types.specs.Open.{Open, Opens, leaf, any_value, free_object, unit, tuple, items, set, map_of, option, through, param, named, no_types, more_types}
+use Rattle.syntax.specs.Items.{DeclaredItem}
+
+-- ---- names
+
+abbrev pub list_name : ListHead → List ℕ
+list_name lists.Vec = codes "Vec"
+list_name lists.LinkedList = codes "LinkedList"
+list_name lists.SmallVec = codes "SmallVec"
+list_name lists.Array = codes "Array"
+
+abbrev pub set_name : SetHead → List ℕ
+set_name sets.BTreeSet = codes "BTreeSet"
+set_name sets.HashSet = codes "HashSet"
+
+abbrev pub map_name : MapHead → List ℕ
+map_name maps.HashMap = codes "HashMap"
+map_name maps.BTreeMap = codes "BTreeMap"
+map_name maps.Map = codes "Map"
+map_name maps.IndexMap = codes "IndexMap"
+
+abbrev pub through_name : ThroughHead → List ℕ
+through_name throughs.Cow = codes "Cow"
+through_name throughs.Box = codes "Box"
+through_name throughs.RefCell = codes "RefCell"
+through_name throughs.Arc = codes "Arc"
+through_name throughs.Rc = codes "Rc"
+
+-- the name of the declaration at a place; past the end, none
+abbrev pub name_at : List DeclaredItem → ℕ → List ℕ
+name_at [] d = []
+name_at (x ∷ ds) zero = x.ident.text
+name_at (x ∷ ds) (suc d) = name_at ds d
+
+-- ---- types
+
+-- a name with arguments
+abbrev pub applied : List ℕ → List ℕ → List ℕ
+applied name arguments = name ++ (codes "<" ++ (arguments ++ codes ">"))
+
+-- a name with as many arguments as there are
+abbrev pub applied_to : List ℕ → Opens → List ℕ → List ℕ
+applied_to name no_types arguments = name
+applied_to name (more_types t ts) arguments = applied name arguments
+
+-- what ends a tuple: one item has a comma behind it
+abbrev pub tuple_end : Opens → List ℕ
+tuple_end no_types = codes ")"
+tuple_end (more_types t no_types) = codes ",)"
+tuple_end (more_types t (more_types u us)) = codes ")"
+
+-- what stands before the type at a place
+abbrev pub separator : ℕ → List ℕ
+separator zero = []
+separator (suc at) = codes ", "
+
+abbrev mutual
+  -- a parameter has no text: a closed type has none
+  pub type_text : List DeclaredItem → Open → List ℕ
+  type_text ds (leaf x) = name_of x
+  type_text ds any_value = codes "Value"
+  type_text ds free_object = codes "Object"
+  type_text ds unit = codes "()"
+  type_text ds (tuple ts) = codes "(" ++ (texts_from ds 0 ts ++ tuple_end ts)
+  type_text ds (items h t) = applied (list_name h) (type_text ds t)
+  type_text ds (set h t) = applied (set_name h) (type_text ds t)
+  type_text ds (map_of h k t) = applied (map_name h) (type_text ds k ++ (codes ", " ++ type_text ds t))
+  type_text ds (option t) = applied (codes "Option") (type_text ds t)
+  type_text ds (through h t) = applied (through_name h) (type_text ds t)
+  type_text ds (param i) = []
+  type_text ds (named d ts) = applied_to (name_at ds d) ts (texts_from ds 0 ts)
+
+  -- the types from a place on, with `, ` between them
+  pub texts_from : List DeclaredItem → ℕ → Opens → List ℕ
+  texts_from ds at no_types = []
+  texts_from ds at (more_types t ts) = separator at ++ (type_text ds t ++ texts_from ds (suc at) ts)
