@@ -14,5 +14,5 @@ pub use container::{ComponentDescription, Container};
 pub use fill::{Fill, filled};
 pub use place::{Place, place_term};
 pub use references::SchemaReference;
-pub use schemas::{noted, null_default};
+pub use schemas::{any_object, noted, null_default};
 pub use term::{Term, TermLeaf, ToTerm, copy_term};

@@ -94,7 +94,7 @@ pub(crate) fn only_word(alloc: Global, ty: TypeWord, notes: Notes) -> Result<Ter
 }
 
 /// Any object, or null where it may be.
-pub(crate) fn any_object(
+pub fn any_object(
     alloc: Global,
     nullable: bool,
     notes: Notes,

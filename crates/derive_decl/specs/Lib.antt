@@ -4,3 +4,4 @@ pub mod Plain
 pub mod Shape
 pub mod Structs
 pub mod Terms
+pub mod Views

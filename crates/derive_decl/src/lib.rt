@@ -2,5 +2,19 @@
 #![tactic(auto)]
 
 mod law;
+mod member;
+mod named_struct;
+mod root;
+mod schema;
+mod structs;
+mod unit_struct;
+mod unnamed_struct;
 
 pub use law::{shapes_deepen, terms_accept};
+pub use member::Member;
+pub use named_struct::NamedStructSchema;
+pub use root::Root;
+pub use schema::Schema;
+pub use structs::{Form, Struct};
+pub use unit_struct::UnitStructVariant;
+pub use unnamed_struct::UnnamedStructSchema;

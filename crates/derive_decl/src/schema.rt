@@ -1,0 +1,109 @@
+//! The schema of a declaration.
+
+ghost use Rattle.std.specs.Prelude.{◌≡◌, ◌⊎◌, map, IfOk, IfErr, Some, option_map};
+ghost use Rattle.std.specs.List.{AllByRecursion};
+ghost use Rattle.schema_core.specs.Meaning.{IsDistinct};
+ghost use Rattle.scopes.specs.Scopes.{IsScope};
+ghost use Rattle.syntax.specs.Items.{fields_view, body_view};
+ghost use Rattle.derive_decl.specs.Structs.{form_of, body_form, description_of, struct_from, names_of};
+ghost use Rattle.derive_decl.specs.Faults.{fields_in, IsSmall, HasSmall, AreFaulty, IsFaultyBody};
+ghost use Rattle.derive_decl.specs.Views.{known, form_view, form_description, struct_view};
+
+use crate::named_struct::NamedStructSchema;
+use crate::root::Root;
+use crate::structs::{Form, Struct};
+use crate::unit_struct::UnitStructVariant;
+use crate::unnamed_struct::UnnamedStructSchema;
+use component::Container;
+use diag::DeriveError;
+use std::alloc::Global;
+use syntax::{Attribute, Body, Fields, Ident};
+
+/// A declaration whose schema is asked for.
+#[derive(Clone, Copy)]
+pub struct Schema<'a> {
+    pub body: &'a Body,
+    pub attributes: &'a [Attribute],
+    pub ident: &'a Ident,
+    pub container: &'a Container<'a>,
+}
+
+fn fields_form(alloc: Global, root: &Root<'_>, fields: &Fields) -> Result<Form, DeriveError>
+    requires { IsScope root.now.container.now.scope.now }
+    ensures form { IfOk result (λ f. form_of (known root.now.container.now) (fields_view fields.now) ≡ Some (form_view f)) }
+    ensures description { IfOk result (λ f. form_description f ≡ description_of root.now.attributes.now) }
+    ensures distinct { IfOk result (λ f. IsDistinct (names_of (form_view f))) }
+    ensures small { IfOk result (λ _. AllByRecursion IsSmall (fields_in (fields_view fields.now))) }
+    ensures refused { IfErr result (λ e. (e ≡ DeriveError.Memory) ⊎ AreFaulty (known root.now.container.now) root.now.ident.now (fields_view fields.now) e) }
+{
+    match fields {
+        Fields::Named(fields) => Ok(Form::Named(NamedStructSchema::new(
+            alloc,
+            root,
+            fields.as_slice(),
+        )?)),
+        Fields::Unnamed(fields) => Ok(Form::Unnamed(UnnamedStructSchema::new(
+            alloc,
+            root,
+            fields.as_slice(),
+        )?)),
+        Fields::Unit => Ok(Form::Unit(UnitStructVariant::new(alloc, root)?)),
+    }
+}
+
+fn body_form(alloc: Global, root: &Root<'_>, body: &Body) -> Result<Form, DeriveError>
+    requires { IsScope root.now.container.now.scope.now }
+    ensures form { IfOk result (λ f. body_form (known root.now.container.now) (body_view body.now) ≡ Some (form_view f)) }
+    ensures description { IfOk result (λ f. form_description f ≡ description_of root.now.attributes.now) }
+    ensures distinct { IfOk result (λ f. IsDistinct (names_of (form_view f))) }
+    ensures small { IfOk result (λ _. HasSmall (body_view body.now)) }
+    ensures refused { IfErr result (λ e. (e ≡ DeriveError.Memory) ⊎ IsFaultyBody (known root.now.container.now) root.now.ident.now (body_view body.now) e) }
+{
+    match body {
+        Body::Struct(fields) => fields_form(alloc, root, fields),
+    }
+}
+
+impl<'a> Schema<'a> {
+    /// The declaration with this body, these attributes and this name, where it stands.
+    pub fn new(
+        body: &'a Body,
+        attributes: &'a [Attribute],
+        ident: &'a Ident,
+        container: &'a Container<'a>,
+    ) -> Schema<'a>
+        ensures body { result.body.now ≡ body.now }
+        ensures attributes { result.attributes.now ≡ attributes.now }
+        ensures ident { result.ident.now ≡ ident.now }
+        ensures container { result.container.now ≡ container.now }
+    {
+        Schema {
+            body,
+            attributes,
+            ident,
+            container,
+        }
+    }
+
+    /// The declaration with its types resolved.
+    ///
+    /// A refusal is of kind `UnknownType`, `Arity` or `TypeSize`, for the type of a field; `DuplicateName`, at the second
+    /// of two names that are equal; or `Arity`, at the name of a declaration whose form is unnamed fields without a field.
+    pub fn resolve(&self, alloc: Global) -> Result<Struct, DeriveError>
+        requires { IsScope self.now.container.now.scope.now }
+        ensures resolved { IfOk result (λ s. option_map (struct_from self.now.attributes.now self.now.ident.now) (body_form (known self.now.container.now) (body_view self.now.body.now)) ≡ Some (struct_view s)) }
+        ensures distinct { IfOk result (λ s. IsDistinct (names_of (struct_view s).form)) }
+        ensures small { IfOk result (λ _. HasSmall (body_view self.now.body.now)) }
+        ensures refused { IfErr result (λ e. (e ≡ DeriveError.Memory) ⊎ IsFaultyBody (known self.now.container.now) self.now.ident.now (body_view self.now.body.now) e) }
+    {
+        let root = Root {
+            ident: self.ident,
+            attributes: self.attributes,
+            container: self.container,
+        };
+        Ok(Struct {
+            form: body_form(alloc, &root, self.body)?,
+            name: self.ident.text.copy(alloc)?,
+        })
+    }
+}

@@ -1,0 +1,44 @@
+//! Structs without fields.
+
+ghost use Rattle.std.specs.Prelude.{◌≡◌, IfOk, IfErr};
+ghost use Rattle.derive_decl.specs.Structs.{description_of};
+
+use crate::member::description_of;
+use crate::root::Root;
+use component::{Term, ToTerm, null_default};
+use diag::{DeriveError, Text};
+use std::alloc::Global;
+
+/// A struct without fields. Its schema has null as its default.
+#[derive(Debug, Drop)]
+pub struct UnitStructVariant {
+    pub description: Option<Text>,
+}
+
+impl UnitStructVariant {
+    /// The struct of the declaration.
+    pub fn new(alloc: Global, root: &Root<'_>) -> Result<UnitStructVariant, DeriveError>
+        ensures description { IfOk result (λ s. s.description ≡ description_of root.now.attributes.now) }
+        ensures refused { IfErr result (λ e. e ≡ DeriveError.Memory) }
+    {
+        Ok(UnitStructVariant {
+            description: description_of(alloc, root.attributes)?,
+        })
+    }
+}
+
+impl ToTerm for UnitStructVariant {
+    ghost use Rattle.std.specs.Prelude.{◌≡◌};
+    ghost use Rattle.derive_decl.specs.Structs.{no_fields};
+    ghost use Rattle.derive_decl.specs.Terms.{form_term};
+
+    ghost is_ready = { λ _. Unit {0} };
+
+    ghost has_term = { λ s t. t ≡ form_term s.description no_fields };
+
+    ghost is_refused = { λ _ _. ⊥ };
+
+    fn to_term(&self, alloc: Global) -> Result<Term, DeriveError> {
+        Ok(null_default(alloc, &self.description)?)
+    }
+}

@@ -1,0 +1,160 @@
+//! Structs with unnamed fields.
+
+ghost use Rattle.std.specs.Prelude.{◌≡◌, ◌⊎◌, pos, map, length, IfOk, IfErr, Some};
+ghost use Rattle.std.specs.List.{AllByRecursion};
+ghost use Rattle.diag.specs.Refusal.{IsRefusal};
+ghost use Rattle.open_types.specs.Open.{open_view};
+ghost use Rattle.resolving.specs.Resolved.{Somewhere, type_of};
+ghost use Rattle.scopes.specs.Scopes.{IsScope};
+ghost use Rattle.syntax.specs.Items.{field_view, unnamed};
+ghost use Rattle.component.specs.Leaves.{term_view};
+ghost use Rattle.derive_decl.specs.Structs.{all_of, description_of, form_of};
+ghost use Rattle.derive_decl.specs.Terms.{are_all, any_object, list_of_length, unnamed_term};
+ghost use Rattle.derive_decl.specs.Faults.{IsFaultyType, AreFaultyTypes, IsSmall, fieldless_message};
+ghost use Rattle.derive_decl.specs.Views.{known, unnamed_view};
+
+use crate::member::description_of;
+use crate::root::Root;
+use component::{Container, Place, Term, ToTerm, any_object, noted, place_term};
+use diag::{DeriveError, Diagnostics, Kind, List, Span, Text};
+use open_types::OpenType;
+use schema_core::{Array, ArrayItems, Bound, Notes, Tree};
+use scopes::resolve;
+use std::alloc::{AllocError, Global};
+use syntax::Field;
+
+/// A struct with unnamed fields. One field is read as its content, several as a list.
+#[derive(Debug, Drop)]
+pub struct UnnamedStructSchema {
+    pub description: Option<Text>,
+    pub types: List<OpenType>,
+}
+
+/// The refusal of a form without a field.
+fn fieldless(alloc: Global, span: Span) -> Result<DeriveError, AllocError>
+    ensures { IfOk result (λ e. IsRefusal Kind.Arity span fieldless_message e) }
+{
+    let diagnostics = Diagnostics::with_span(
+        alloc,
+        Kind::Arity,
+        span,
+        "a tuple form without a field",
+    )?;
+    Ok(DeriveError::Refused(diagnostics))
+}
+
+/// The types of the fields, resolved.
+fn resolve_types(
+    alloc: Global,
+    container: &Container<'_>,
+    fields: &[Field],
+) -> Result<List<OpenType>, DeriveError>
+    requires { IsScope container.now.scope.now }
+    ensures types { IfOk result (λ ts. all_of (λ f. type_of (known container.now) f.ty) (map field_view fields.now) ≡ Some (map open_view ts)) }
+    ensures small { IfOk result (λ _. AllByRecursion IsSmall (map field_view fields.now)) }
+    ensures refused { IfErr result (λ e. (e ≡ DeriveError.Memory) ⊎ Somewhere (λ f. IsFaultyType (known container.now) f e) (map field_view fields.now)) }
+{
+    let mut types = List::new(alloc);
+    for field in fields {
+        types.push(resolve(alloc, container.scope, &field.ty, container.config)?)?;
+    }
+    Ok(types)
+}
+
+impl UnnamedStructSchema {
+    /// The struct with these fields.
+    ///
+    /// A refusal is of kind `UnknownType`, `Arity` or `TypeSize`, for the type of a field; or `Arity`, at the name of the
+    /// declaration, where there is no field.
+    pub fn new(
+        alloc: Global,
+        root: &Root<'_>,
+        fields: &[Field],
+    ) -> Result<UnnamedStructSchema, DeriveError>
+        requires { IsScope root.now.container.now.scope.now }
+        ensures form { IfOk result (λ s. form_of (known root.now.container.now) (unnamed (map field_view fields.now)) ≡ Some (unnamed_view s)) }
+        ensures description { IfOk result (λ s. s.description ≡ description_of root.now.attributes.now) }
+        ensures small { IfOk result (λ _. AllByRecursion IsSmall (map field_view fields.now)) }
+        ensures refused { IfErr result (λ e. (e ≡ DeriveError.Memory) ⊎ AreFaultyTypes (known root.now.container.now) root.now.ident.now (map field_view fields.now) e) }
+    {
+        if fields.is_empty() {
+            return Err(fieldless(alloc, root.ident.span)?);
+        }
+        Ok(UnnamedStructSchema {
+            types: resolve_types(alloc, root.container, fields)?,
+            description: description_of(alloc, root.attributes)?,
+        })
+    }
+}
+
+/// Whether the types are all the same.
+fn are_all(first: &OpenType, others: &[OpenType]) -> bool
+    ensures { result ≡ are_all (open_view first.now) (map open_view others.now) }
+{
+    for other in others {
+        if first != other {
+            return false;
+        }
+    }
+    true
+}
+
+/// A list of so many elements that the schema accepts.
+fn list_of_length(
+    alloc: Global,
+    count: usize,
+    notes: Notes,
+    items: Term,
+) -> Result<Term, AllocError>
+    ensures { IfOk result (λ s. term_view s ≡ list_of_length count notes (term_view items)) }
+{
+    let array = Array {
+        nullable: false,
+        items: ArrayItems::Each(items),
+        prefix_items: List::new(alloc),
+        unique: false,
+        max_items: Bound::new(count as i128),
+        min_items: Bound::new(count as i128),
+        notes,
+    };
+    Ok(Tree::Array(Box::new(alloc, array)?))
+}
+
+impl ToTerm for UnnamedStructSchema {
+    ghost use Rattle.std.specs.Prelude.{◌≡◌};
+    ghost use Rattle.derive_decl.specs.Terms.{form_term};
+    ghost use Rattle.derive_decl.specs.Views.{unnamed_view};
+
+    ghost is_ready = { λ _. Unit {0} };
+
+    ghost has_term = { λ s t. t ≡ form_term s.description (unnamed_view s) };
+
+    ghost is_refused = { λ _ _. ⊥ };
+
+    fn to_term(&self, alloc: Global) -> Result<Term, DeriveError> {
+        Ok(unnamed_term(alloc, &self.description, self.types.as_slice())?)
+    }
+}
+
+/// The schema of unnamed fields of these types.
+fn unnamed_term(
+    alloc: Global,
+    description: &Option<Text>,
+    types: &[OpenType],
+) -> Result<Term, AllocError>
+    ensures { IfOk result (λ s. term_view s ≡ unnamed_term description.now (map open_view types.now)) }
+{
+    let place = Place {
+        nullable: false,
+        inline: false,
+        deprecated: false,
+        description,
+    };
+    let items = match types {
+        [ty] => return place_term(alloc, place, ty),
+        [first, others @ ..] if are_all(first, others) => place_term(alloc, place, first)?,
+        _ => any_object(alloc, false, Notes::new())?,
+    };
+    let notes = noted(alloc, false, description)?;
+    list_of_length(alloc, types.len(), notes, items)
+}
