@@ -1,3 +1,5 @@
+pub mod Accepted
 pub mod Alike
+pub mod Deeper
 pub mod Growing
 pub mod Members

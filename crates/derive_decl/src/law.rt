@@ -7,7 +7,9 @@ ghost use Rattle.derive_decl.specs.Shape.{ShapesDeepen};
 /// leaf accepts what has the shape of its own.
 pub fn terms_accept()
     ensures { TermsAccept }
-{}
+{
+    open_types::same_types_are_equal();
+}
 
 /// What has the shape of a declaration at a depth has it at each greater depth.
 pub fn shapes_deepen()

@@ -1,0 +1,334 @@
+-- What the schemas of declarations accept: a place accepts what has the shape of its type, a term what has the shape of its declaration.
+use Rattle.std.proofs.Common.{ℕ, suc, drop, length, None, Option, pos, int_le, List, [], ◌∷◌, Bool, true, false, not, ◌&&◌, ◌||◌, cond, Some, IsTrue, ◌≡◌, ◌≢◌, refl, ap, sym, ◌∙◌}
+use Rattle.std.specs.List.{list_all}
+use Rattle.std.proofs.Math.Dec.{leb-zero, leb-suc-zero, leb-suc-suc}
+use Rattle.acceptance.specs.Acceptance.{others_pass, names_pass}
+use Rattle.acceptance.specs.Json.{Json, null, boolean, number, text, list, map, entries, names, is_in, look, distinct, on_map, on_list, if_there}
+use Rattle.schema_core.specs.declared.tree.SchemaTypeInner.TheVariants as word
+use Rattle.schema_core.specs.declared.tree.TypeWord.TheVariants.{Any}
+use Rattle.schema_core.specs.declared.notes.Notes.{Notes}
+use Rattle.schema_core.specs.Notes.{no_notes}
+use Rattle.schema_core.specs.Schema.{SchemaOf, schema_count}
+use Rattle.schema_core.specs.Schema as tree
+use Rattle.schema_core.specs.Form.{array_word}
+use Rattle.schema_core.specs.Meaning.{each_in_order, word_accepts, minimum_accepts, required_accepts, tree_accepts, properties_accept}
+use Rattle.leaves.specs.declared.leaf.LeafKind.{LeafKind}
+use Rattle.leaves.specs.declared.leaf.LeafKind.TheVariants as kinds
+use Rattle.leaves.specs.Leaves.{kind_of}
+use Rattle.open_types.specs.Open.{Open, Opens, leaf, any_value, free_object, unit, tuple, items, set, map_of, option, through, param, named, no_types, more_types}
+use Rattle.open_types.specs.Same.{same_type}
+use Rattle.open_types.specs.Laws.{SameIsEqual}
+use Rattle.component.specs.Leaves as named_leaf
+use Rattle.component.specs.Places.{word_of, minimum_of, type_word, noted, described, only_word, null_alone, one_of_null, or_null, beside, in_place, declared, place, inline_places}
+use Rattle.derive_decl.specs.Structs.{MemberOf, FormOf, named_fields, unnamed_fields, no_fields, is_required, member_types}
+use Rattle.derive_decl.specs.Shape.{is_null, is_text, is_boolean, is_number, is_list, is_map, reads, type_shape, items_fit, member_fits, elements_fit, unnamed_shape, form_shape}
+use Rattle.derive_decl.specs.Plain.{IsTextKey, IsPlainType, ArePlainTypes, AreAllPlain, AreAlike, IsPlainForm}
+use Rattle.derive_decl.specs.Terms.{properties_of, required_names, list_of_length, are_all, any_object, unnamed_term, form_term}
+use Rattle.derive_decl.specs.Meaning.{leaf_shape, TermsAccept}
+
+-- ---- conditions
+
+and-true : (a : Bool) → (a && true) ≡ a
+and-true true = refl
+and-true false = refl
+
+and-swap : (a b : Bool) → (a && b) ≡ (b && a)
+and-swap true true = refl
+and-swap true false = refl
+and-swap false true = refl
+and-swap false false = refl
+
+and-assoc : (a b c : Bool) → ((a && b) && c) ≡ (a && (b && c))
+and-assoc true b c = refl
+and-assoc false b c = refl
+
+and-left : (a b : Bool) → IsTrue (a && b) → IsTrue a
+and-left true b h = refl
+and-left false b h = h
+
+and-right : (a b : Bool) → IsTrue (a && b) → IsTrue b
+and-right true b h = h
+and-right false b h = cc
+
+and-both : (a b : Bool) → IsTrue a → IsTrue b → IsTrue (a && b)
+and-both true b f g = g
+and-both false b f g = f
+
+-- two pairs of conditions, taken the other way
+and-cross : (a b c d : Bool) → ((a && b) && (c && d)) ≡ ((c && a) && (b && d))
+and-cross true b true d = refl
+and-cross true true false d = refl
+and-cross true false false d = refl
+and-cross false b true d = refl
+and-cross false b false d = refl
+
+-- two conditions, and a third before them
+and-third : (a b c d : Bool) → (a && (b && (c && d))) ≡ (c && (a && (b && d)))
+and-third true true c d = refl
+and-third true false true d = refl
+and-third true false false d = refl
+and-third false b true d = refl
+and-third false b false d = refl
+
+or-swap : (a b : Bool) → (a || (b || false)) ≡ (b || a)
+or-swap true true = refl
+or-swap true false = refl
+or-swap false true = refl
+or-swap false false = refl
+
+or-twice : (n a b : Bool) → (a || b) ≡ ((n && a) || (a || b))
+or-twice true true b = refl
+or-twice true false b = refl
+or-twice false a b = refl
+
+or-true : (n a : Bool) → true ≡ ((n && a) || true)
+or-true true true = refl
+or-true true false = refl
+or-true false a = refl
+
+-- ---- leaves
+
+-- each kind: what its word and its minimum accept, is what serde reads, or null where it may be
+text-accepts : (n : Bool) (v : Json) → (word_accepts (type_word n word.String) v && (on_map v (λ es. true) && (required_accepts [] v && true))) ≡ ((n && is_null v) || is_text v)
+text-accepts true null = refl
+text-accepts false null = refl
+text-accepts _ _ = refl
+
+boolean-accepts : (n : Bool) (v : Json) → (word_accepts (type_word n word.Boolean) v && (on_map v (λ es. true) && (required_accepts [] v && true))) ≡ ((n && is_null v) || is_boolean v)
+boolean-accepts true null = refl
+boolean-accepts false null = refl
+boolean-accepts _ _ = refl
+
+signed-accepts : (n : Bool) (v : Json) → (word_accepts (type_word n word.Integer) v && (on_map v (λ es. true) && (required_accepts [] v && true))) ≡ ((n && is_null v) || is_number v (λ m. true))
+signed-accepts true null = refl
+signed-accepts false null = refl
+signed-accepts _ _ = refl
+
+unsigned-accepts : (n : Bool) (v : Json) →
+    (word_accepts (type_word n word.Integer) v && (on_map v (λ es. true) && (required_accepts [] v && minimum_accepts (Some (pos 0)) v))) ≡ ((n && is_null v) || is_number v (λ m. int_le (pos 0) m))
+unsigned-accepts true null = refl
+unsigned-accepts false null = refl
+unsigned-accepts _ _ = refl
+
+kind-accepts : (n : Bool) (x : LeafKind) (v : Json) → x ≢ kinds.Float →
+    (word_accepts (type_word n (word_of x)) v && (on_map v (λ es. true) && (required_accepts [] v && minimum_accepts (minimum_of x) v))) ≡ ((n && is_null v) || reads x v)
+kind-accepts n kinds.Text v h = text-accepts n v
+kind-accepts n kinds.Boolean v h = boolean-accepts n v
+kind-accepts n kinds.Signed v h = signed-accepts n v
+kind-accepts n kinds.Unsigned v h = unsigned-accepts n v
+kind-accepts n kinds.Float v h = absurd (h refl)
+
+object-accepts : (n : Bool) (v : Json) → (word_accepts (type_word n word.Object) v && (on_map v (λ es. true) && (required_accepts [] v && true))) ≡ ((n && is_null v) || is_map v (λ es. true))
+object-accepts true null = refl
+object-accepts false null = refl
+object-accepts _ _ = refl
+
+-- ---- null and descriptions
+module _ {X : Type 0} (says : X → Json → Bool) where
+  any-accepts : (notes : Notes) (v : Json) → tree_accepts says (only_word Any notes) v ≡ true
+  any-accepts notes null = refl
+  any-accepts notes _ = refl
+
+  null-accepts : (v : Json) → tree_accepts says null_alone v ≡ is_null v
+  null-accepts null = refl
+  null-accepts _ = refl
+
+  or-null-accepts : (notes : Notes) (s : SchemaOf X) (v : Json) → tree_accepts says (one_of_null notes s) v ≡ (is_null v || tree_accepts says s v)
+  or-null-accepts notes s v = (λ i. tree_accepts says s v || (null-accepts v i || false)) ∙ or-swap (tree_accepts says s v) (is_null v)
+
+  -- where null may be
+  nullable-accepts : (n : Bool) (s : SchemaOf X) (v : Json) → tree_accepts says (or_null n s) v ≡ ((n && is_null v) || tree_accepts says s v)
+  nullable-accepts false s v = refl
+  nullable-accepts true s v = or-null-accepts no_notes s v
+
+  -- a description says nothing
+  beside-accepts : (description : Option (List ℕ)) (s : SchemaOf X) (v : Json) → tree_accepts says (beside description s) v ≡ tree_accepts says s v
+  beside-accepts None s v = refl
+  beside-accepts (Some x) s v = (λ i. tree_accepts says s v && (any-accepts (described (Some x)) v i && true)) ∙ and-true (tree_accepts says s v)
+
+  in_place-accepts : (n : Bool) (description : Option (List ℕ)) (s : SchemaOf X) (v : Json) → tree_accepts says (in_place n description s) v ≡ ((n && is_null v) || tree_accepts says s v)
+  in_place-accepts false description s v = beside-accepts description s v
+  in_place-accepts true description s v = or-null-accepts (described description) s v
+
+-- ---- lists and maps
+
+-- two tests of a list are one of both
+both-lists : (v : Json) (p q : List Json → Bool) → (on_list v p && on_list v q) ≡ on_list v (λ vs. p vs && q vs)
+both-lists null p q = refl
+both-lists _ p q = refl
+
+list-accepts : (n : Bool) (v : Json) (p : List Json → Bool) → (word_accepts (array_word n) v && on_list v p) ≡ ((n && is_null v) || is_list v p)
+list-accepts true null p = refl
+list-accepts false null p = refl
+list-accepts _ _ p = refl
+
+-- elements that all pass
+items-accept : (n : Bool) (v : Json) (p : List Json → Bool) → (word_accepts (array_word n) v && (on_list v (λ vs. true) && on_list v p)) ≡ ((n && is_null v) || is_list v p)
+items-accept n v p = (λ i. word_accepts (array_word n) v && both-lists v (λ vs. true) p i) ∙ list-accepts n v p
+
+-- elements that all pass, no two of them equal
+distinct-accept : (n : Bool) (v : Json) (p : List Json → Bool) →
+    (word_accepts (array_word n) v && (on_list v distinct && (on_list v (λ vs. true) && on_list v p))) ≡ ((n && is_null v) || is_list v (λ vs. p vs && distinct vs))
+distinct-accept n v p =
+    (λ i. word_accepts (array_word n) v && (on_list v distinct && both-lists v (λ vs. true) p i))
+    ∙ (λ i. word_accepts (array_word n) v && both-lists v distinct p i)
+    ∙ (λ i. word_accepts (array_word n) v && on_list v (λ vs. and-swap (distinct vs) (p vs) i))
+    ∙ list-accepts n v (λ vs. p vs && distinct vs)
+
+-- elements that all pass, no more of them and no fewer
+exactly-accept : (v : Json) (more fewer p : List Json → Bool) →
+    (word_accepts (array_word false) v && (on_list v more && (on_list v fewer && (on_list v (λ vs. true) && on_list v p)))) ≡ is_list v (λ vs. more vs && (fewer vs && p vs))
+exactly-accept v more fewer p =
+    (λ i. word_accepts (array_word false) v && (on_list v more && (on_list v fewer && both-lists v (λ vs. true) p i)))
+    ∙ (λ i. word_accepts (array_word false) v && (on_list v more && both-lists v fewer p i))
+    ∙ (λ i. word_accepts (array_word false) v && both-lists v more (λ vs. fewer vs && p vs) i)
+    ∙ list-accepts false v (λ vs. more vs && (fewer vs && p vs))
+
+-- a map whose values pass, and whose names
+map-accepts : (n : Bool) (v : Json) (p q : List (List ℕ × Json) → Bool) →
+    (word_accepts (type_word n word.Object) v && (on_map v (λ es. true) && (on_map v p && (on_map v q && (required_accepts [] v && true))))) ≡ ((n && is_null v) || is_map v (λ es. p es && q es))
+map-accepts true (map ms) p q = ap (λ b. p (entries ms) && b) (and-true (q (entries ms)))
+map-accepts false (map ms) p q = ap (λ b. p (entries ms) && b) (and-true (q (entries ms)))
+map-accepts true null p q = refl
+map-accepts false null p q = refl
+map-accepts _ _ p q = refl
+
+-- the names and the values of entries, tested apart or together
+entries-pass : (p q : Json → Bool) (es : List (List ℕ × Json)) → (others_pass [] q es && names_pass p es) ≡ list_all (λ e. p (text e.0) && q e.1) es
+entries-pass p q [] = refl
+entries-pass p q (e ∷ es) = and-cross (q e.1) (others_pass [] q es) (p (text e.0)) (names_pass p es) ∙ ap (λ b. (p (text e.0) && q e.1) && b) (entries-pass p q es)
+
+-- ---- required names
+
+needed : (a b p q : Bool) → ((a && p) && ((b && q) && true)) ≡ ((b && a) && (p && (q && true)))
+needed true true p q = refl
+needed true false true q = refl
+needed true false false q = refl
+needed false true p q = refl
+needed false false p q = refl
+
+not_needed : (a p q : Bool) → ((a && p) && (q && true)) ≡ (a && (p && (q && true)))
+not_needed true p q = refl
+not_needed false p q = refl
+
+-- the name of one more member, which may be required, beside the names of the others
+member-accepts : (required a p : Bool) (is : List ℕ → Bool) (k : List ℕ) (ks : List (List ℕ)) →
+    ((a && p) && (list_all is (cond required (k ∷ ks) ks) && true)) ≡ ((not required || is k) && a) && (p && (list_all is ks && true))
+member-accepts true a p is k ks = needed a (is k) p (list_all is ks)
+member-accepts false a p is k ks = not_needed a p (list_all is ks)
+
+-- ---- places
+
+-- a key of texts is plain
+key-plain : (k : Open) → IsTextKey k → IsPlainType k
+key-plain (leaf x) h = λ float. let other : kinds.Text ≡ kinds.Float = sym h ∙ float in cc
+key-plain (through x k) h = key-plain k h
+key-plain any_value h = absurd h
+key-plain free_object h = absurd h
+key-plain unit h = absurd h
+key-plain (tuple ts) h = absurd h
+key-plain (items x t) h = absurd h
+key-plain (set x t) h = absurd h
+key-plain (map_of x k t) h = absurd h
+key-plain (option t) h = absurd h
+key-plain (param i) h = absurd h
+key-plain (named d ts) h = absurd h
+
+module _ (instance : ℕ → Json → Bool) where
+  declared-accepts : (n inline : Bool) (description : Option (List ℕ)) (t : Open) (v : Json) → tree_accepts (leaf_shape instance) (declared n inline description t) v ≡ ((n && is_null v) || type_shape instance t v)
+  declared-accepts n false description t v = nullable-accepts (leaf_shape instance) n (tree.leaf (named_leaf.named t false (described description))) v
+  declared-accepts n true description t v = in_place-accepts (leaf_shape instance) n description (tree.leaf (named_leaf.named t true no_notes)) v
+
+  -- The schema of a place accepts null where it may be, and what has the shape of the type.
+  mutual
+    pub place-accepts : (n inline deprecated : Bool) (description : Option (List ℕ)) (t : Open) → IsPlainType t → (v : Json) →
+        tree_accepts (leaf_shape instance) (place n inline deprecated description t) v ≡ ((n && is_null v) || type_shape instance t v)
+    place-accepts n inline deprecated description (leaf x) h v = kind-accepts n (kind_of x) v h
+    place-accepts n inline deprecated description any_value h v = any-accepts (leaf_shape instance) (noted deprecated description) v ∙ or-true n (is_null v)
+    place-accepts n inline deprecated description free_object h v = object-accepts n v
+    place-accepts n inline deprecated description unit h v = absurd h
+    place-accepts n inline deprecated description (tuple ts) h v =
+        (λ i. word_accepts (array_word n) v && both-lists v (each_in_order (leaf_shape instance) (inline_places ts)) (λ vs. list_all (λ w. false) (drop (schema_count (inline_places ts)) vs)) i)
+        ∙ (λ i. word_accepts (array_word n) v && on_list v (λ vs. places-accept ts h vs i))
+        ∙ list-accepts n v (items_fit instance ts)
+    place-accepts n inline deprecated description (items x t) h v =
+        (λ i. word_accepts (array_word n) v && (on_list v (λ vs. true) && on_list v (list_all (λ w. place-accepts false inline false None t h w i)))) ∙ items-accept n v (list_all (type_shape instance t))
+    place-accepts n inline deprecated description (set x t) h v =
+        (λ i. word_accepts (array_word n) v && (on_list v distinct && (on_list v (λ vs. true) && on_list v (list_all (λ w. place-accepts false inline false None t h w i)))))
+        ∙ distinct-accept n v (list_all (type_shape instance t))
+    place-accepts n inline deprecated description (map_of x k t) h v =
+        (λ i. word_accepts (type_word n word.Object) v && (on_map v (λ es. true) && (on_map v (others_pass [] (λ w. place-accepts false inline false None t h.1 w i))
+        && (on_map v (names_pass (λ w. place-accepts false true false None k (key-plain k h.0) w i)) && (required_accepts [] v && true)))))
+        ∙ map-accepts n v (others_pass [] (type_shape instance t)) (names_pass (type_shape instance k))
+        ∙ (λ i. (n && is_null v) || is_map v (λ es. entries-pass (type_shape instance k) (type_shape instance t) es i))
+    place-accepts n inline deprecated description (option t) h v = place-accepts true inline deprecated description t h v ∙ or-twice n (is_null v) (type_shape instance t v)
+    place-accepts n inline deprecated description (through x t) h v = place-accepts n inline deprecated description t h v
+    place-accepts n inline deprecated description (param j) h v = absurd h
+    place-accepts n inline deprecated description (named d ts) h v = declared-accepts n inline description (named d ts) v
+
+    -- the items of a tuple, and no element behind them
+    places-accept : (ts : Opens) → ArePlainTypes ts → (vs : List Json) →
+        (each_in_order (leaf_shape instance) (inline_places ts) vs && list_all (λ w. false) (drop (schema_count (inline_places ts)) vs)) ≡ items_fit instance ts vs
+    places-accept no_types h [] = refl
+    places-accept no_types h (v ∷ vs) = refl
+    places-accept (more_types t ts) h [] = refl
+    places-accept (more_types t ts) h (v ∷ vs) =
+        and-assoc (tree_accepts (leaf_shape instance) (place false true false None t) v) (each_in_order (leaf_shape instance) (inline_places ts) vs) (list_all (λ w. false) (drop (schema_count (inline_places ts)) vs))
+        ∙ (λ i. place-accepts false true false None t h.0 v i && places-accept ts h.1 vs i)
+
+  -- ---- named fields
+
+  -- the properties of members and the names that are required ask what the members do
+  members-accept : (ms : List MemberOf) → AreAllPlain (member_types ms) → (es : List (List ℕ × Json)) →
+      (properties_accept (leaf_shape instance) (properties_of ms) es && (list_all (λ k. is_in k (names es)) (required_names ms) && true)) ≡ list_all (member_fits instance es) ms
+  members-accept [] h es = refl
+  members-accept (m ∷ ms) h es =
+      (λ i. (if_there (look m.name es) (λ v. place-accepts false false false m.description m.of h.0 v i) && properties_accept (leaf_shape instance) (properties_of ms) es)
+      && (list_all (λ k. is_in k (names es)) (required_names (m ∷ ms)) && true))
+      ∙ member-accepts (is_required m) (if_there (look m.name es) (type_shape instance m.of)) (properties_accept (leaf_shape instance) (properties_of ms) es) (λ k. is_in k (names es)) m.name (required_names ms)
+      ∙ ap (λ b. member_fits instance es m && b) (members-accept ms h.1 es)
+
+  -- ---- unnamed fields
+
+  -- Where the types are all t, elements fit them exactly if they are as many and each has the shape of t.
+  elements-accept : SameIsEqual → (t : Open) (ts : List Open) → IsTrue (are_all t ts) → (vs : List Json) →
+      (int_le (pos (length vs)) (pos (length ts)) && (int_le (pos (length ts)) (pos (length vs)) && list_all (type_shape instance t) vs)) ≡ elements_fit instance ts vs
+  elements-accept same t [] h [] = refl
+  elements-accept same t [] h (v ∷ vs) = λ i. leb-suc-zero (length vs) i && (int_le (pos 0) (pos (suc (length vs))) && list_all (type_shape instance t) (v ∷ vs))
+  elements-accept same t (u ∷ us) h [] = λ i. leb-zero (suc (length us)) i && (leb-suc-zero (length us) i && true)
+  elements-accept same t (u ∷ us) h (v ∷ vs) =
+      let equal : t ≡ u = (same t u).0 (and-left (same_type t u) (are_all t us) h) in
+      (λ i. leb-suc-suc (length vs) (length us) i && (leb-suc-suc (length us) (length vs) i && list_all (type_shape instance t) (v ∷ vs)))
+      ∙ and-third (int_le (pos (length vs)) (pos (length us))) (int_le (pos (length us)) (pos (length vs))) (type_shape instance t v) (list_all (type_shape instance t) vs)
+      ∙ (λ i. type_shape instance (equal i) v && elements-accept same t us (and-right (same_type t u) (are_all t us) h) vs i)
+
+  -- one place is the schema itself; of several alike, a list of so many
+  unnamed-accepts : SameIsEqual → (description : Option (List ℕ)) (ts : List Open) → AreAllPlain ts → AreAlike ts → (v : Json) →
+      tree_accepts (leaf_shape instance) (unnamed_term description ts) v ≡ unnamed_shape instance ts v
+  unnamed-accepts same description [] h alike v = absurd alike
+  unnamed-accepts same description (t ∷ []) h alike v = place-accepts false false false description t h.0 v
+  unnamed-accepts same description (t ∷ u ∷ us) h alike v =
+      let all_t : IsTrue (are_all t (t ∷ u ∷ us)) = and-both (same_type t t) (are_all t (u ∷ us)) ((same t t).1 refl) alike in
+      let n : ℕ = length (t ∷ u ∷ us) in
+      (λ i. tree_accepts (leaf_shape instance) (list_of_length n (described description) (cond (alike i) (place false false false description t) any_object)) v)
+      ∙ (λ i. word_accepts (array_word false) v && (on_list v (λ vs. int_le (pos (length vs)) (pos n)) && (on_list v (λ vs. int_le (pos n) (pos (length vs)))
+      && (on_list v (λ vs. true) && on_list v (list_all (λ w. place-accepts false false false description t h.0 w i))))))
+      ∙ exactly-accept v (λ vs. int_le (pos (length vs)) (pos n)) (λ vs. int_le (pos n) (pos (length vs))) (list_all (type_shape instance t))
+      ∙ (λ i. is_list v (λ vs. elements-accept same t (t ∷ u ∷ us) all_t vs i))
+
+  -- ---- declarations
+
+  form-accepts : SameIsEqual → (description : Option (List ℕ)) (form : FormOf) → IsPlainForm form → (v : Json) →
+      tree_accepts (leaf_shape instance) (form_term description form) v ≡ form_shape instance form v
+  form-accepts same description (named_fields ms) h (map es) = members-accept ms h (entries es)
+  form-accepts same description (named_fields ms) h null = refl
+  form-accepts same description (named_fields ms) h (boolean b) = refl
+  form-accepts same description (named_fields ms) h (number m) = refl
+  form-accepts same description (named_fields ms) h (text t) = refl
+  form-accepts same description (named_fields ms) h (list xs) = refl
+  form-accepts same description (unnamed_fields ts) h v = unnamed-accepts same description ts h.0 h.1 v
+  form-accepts same description no_fields h v = absurd h
+
+-- The term of a plain declaration accepts what has its shape.
+pub terms-accept : SameIsEqual → TermsAccept
+terms-accept same instance s h v = form-accepts instance same s.description s.form h v
