@@ -1,5 +1,5 @@
 -- Trees, read from the left, are one reading.
-use Rattle.std.proofs.Common.{◌≡◌, ℕ, suc, ◌-◌, ◌≤◌, arith, ◌⊎◌, inl, inr, List, [], ◌∷◌, ◌++◌, length, refl, ap, sym, subst, ◌∙◌, rules}
+use Rattle.std.proofs.Common.{◌≡◌, ℕ, suc, ◌-◌, ◌<◌, ◌≤◌, arith, ◌⊎◌, inl, inr, List, [], ◌∷◌, ◌++◌, length, refl, ap, sym, subst, ◌∙◌, rules}
 use Rattle.diag.specs.declared.span.Span.{Span}
 use Rattle.tokens.specs.declared.token.Bracket.{Bracket}
 use Rattle.tokens.specs.declared.token.TokenKind.{TokenKind}
@@ -96,6 +96,22 @@ module _ (source : List ℕ) where
       let spans : h.4 ≡ span = span_same h.4 span (h.7 ∙ sym a) (h.8 ∙ ap (λ v. v.span.end) (sym same) ∙ sym z) in
       let left = cancel t (subst (λ v. IsTrees source v h.3 rest) (sym tails) h.10) stops in
       (left.0, group_same b h.0 inner h.3 (joined after_group left.0) us h.4 span h.9 inners spans left.1, left.2)
+
+  -- where a bracket opens inside as many, trees nest deeper
+  pub opens_depth : {n : ℕ} {ps rest : List Piece} {ts : Trees} {at : Span} → Opens source n ps at → IsTrees source ps ts rest → Stops rest → n < depth ts
+  opens_depth {ts = ts} (here {p = p} {b = b} k) s stops =
+      let h = ruled s stops (Open b) k in let e : depth ts ≡ depth (group b h.0 h.4 ▸ h.3) = ap depth h.9 in omega arith
+  opens_depth {ts = ts} (inside {p = p} {b = b} k o) s stops =
+      let h = ruled s stops (Open b) k in
+      let within = opens_depth o h.5 (b, h.6) in
+      let e : depth ts ≡ depth (group b h.0 h.4 ▸ h.3) = ap depth h.9 in
+      omega arith
+  opens_depth {ts = ts} (later {ts = us} r o) s stops =
+      let left = cancel r s stops in
+      let within = opens_depth o left.2 stops in
+      let more = depth_later us left.0 in
+      let e : depth ts ≡ depth (joined us left.0) = ap depth left.1 in
+      omega arith
 
   at_end : {vs : Trees} {rest : List Piece} → IsTrees source [] vs rest → vs ≡ end
   at_end none = refl

@@ -1,10 +1,16 @@
 //! Laws of the definitions that contracts cite.
 
-ghost use Rattle.std.specs.Prelude.{◌≡◌, ℕ, List};
-ghost use Rattle.tokens.specs.Trees.{Trees};
-ghost use Rattle.lexing.specs.Cut.{IsCut};
+ghost use Rattle.std.specs.Prelude.{◌≡◌, ◌<◌, ℕ, List};
+ghost use Rattle.diag.specs.declared.span.Span.{Span};
+ghost use Rattle.tokens.specs.Trees.{Trees, depth};
+ghost use Rattle.lexing.specs.Cut.{IsCut, OpensTooDeep, most_open};
 
 /// A source has at most one list of token trees.
 pub fn one_cut()
     ensures { (source : List ℕ) (ts us : Trees) → IsCut source ts → IsCut source us → ts ≡ us }
+{}
+
+/// Where a bracket of a source opens too deep, the token trees nest deeper than brackets may.
+pub fn deep_brackets_nest_deep()
+    ensures { (source : List ℕ) (trees : Trees) (span : Span) → IsCut source trees → OpensTooDeep source span → most_open < depth trees }
 {}

@@ -13,7 +13,7 @@ mod tests;
 mod text;
 mod word;
 
-pub use laws::one_cut;
+pub use laws::{deep_brackets_nest_deep, one_cut};
 pub use lexer::lex;
 pub use nest::MAX_DEPTH;
 pub use tokens::{Bracket, Cursor, Group, Token, TokenKind, TokenTree, copy_trees};

@@ -1,12 +1,12 @@
 -- What the public readers ensure, from what was read.
-use Rattle.std.proofs.Common.{◌≡◌, ◌∙◌, ℕ, ◌≤◌, ◌⊎◌, inl, inr, List, length, codes, sym, subst, Result, Ok, Err}
+use Rattle.std.proofs.Common.{◌≡◌, ◌∙◌, ℕ, ◌<◌, ◌≤◌, arith, ◌⊎◌, inl, inr, List, length, codes, sym, subst, Result, Ok, Err}
 use Rattle.diag.specs.declared.span.Span.{Span}
 use Rattle.diag.specs.Refusal.{IsRefusal}
 use Rattle.diag.specs.declared.kind.Kind.TheVariants.{Syntax}
 use Rattle.diag.specs.declared.error.DeriveError.{DeriveError}
 use Rattle.diag.specs.declared.error.DeriveError.TheVariants as errors
 use Rattle.tokens.specs.Trees.{Trees, depth}
-use Rattle.lexing.specs.Cut.{IsCut, IsDepthError, IsSyntaxError}
+use Rattle.lexing.specs.Cut.{IsCut, OpensTooDeep, IsDepthError, IsSyntaxError}
 use Rattle.written_types.specs.Written.{Written}
 use Rattle.words.specs.declared.stopping.Stop.{Stop}
 use Rattle.words.specs.declared.stopping.Stop.TheVariants as stop
@@ -22,7 +22,6 @@ use Rattle.syntax.specs.ItemGrammar.{IsSource}
 use Rattle.syntax.specs.ItemReading.{source_at, IsRefusalOf, IsPlaced}
 use Rattle.syntax.specs.Source.{Reads, NestsTooDeep, IsUnreadable, IsTooDeep}
 use Rattle.syntax.proofs.Types.{type_sound, type_complete, opens_deep, deep_enough}
-use Rattle.syntax.proofs.Openings.{cut_shallow}
 use Rattle.syntax.proofs.Sound.{source_sound}
 use Rattle.syntax.proofs.Deep.{source_deep}
 use Rattle.syntax.proofs.Complete as complete
@@ -30,6 +29,10 @@ use Rattle.syntax.proofs.Complete as complete
 -- a source has at most one list of trees
 abbrev OneCut : Type 0
 OneCut = (source : List ℕ) (ts us : Trees) → IsCut source ts → IsCut source us → ts ≡ us
+
+-- where a bracket opens too deep, trees nest deeper
+abbrev DeepNest : Type 0
+DeepNest = (source : List ℕ) (ts : Trees) (at : Span) → IsCut source ts → OpensTooDeep source at → 64 < depth ts
 
 abbrev ty : List Word → Read Written
 ty = type_at most_levels
@@ -82,9 +85,9 @@ found source ts ds cut e = (ts, cut, source_sound ty (type_sound most_levels) (w
 no_opening : (ws : List Word) (ds : List DeclaredItem) (at : Span) → source_at ty ws ≡ Ok ds → OpensSource ws at → ⊥
 no_opening ws ds at e o = let d = complete.source_opens ty (type_sound most_levels) (type_found most_levels) opens_found o in let both : ◌≡◌ {A = Result (List DeclaredItem) Fault} (Ok ds) (Err (deep d.0)) = sym e ∙ d.1 in cc
 
-pub shallow : OneCut → (source : List ℕ) (ts : Trees) (ds : List DeclaredItem) (at : Span) → IsCut source ts → depth ts ≤ 64 → source_at ty (words_of ts) ≡ Ok ds → NestsTooDeep source at → ⊥
-shallow unique source ts ds at cut low e (inl o) = cut_shallow source ts at cut low o
-shallow unique source ts ds at cut low e (inr h) = no_opening (words_of ts) ds at e (subst (λ v. OpensSource (words_of v) at) (unique source h.0 ts h.1 cut) h.2)
+pub shallow : OneCut → DeepNest → (source : List ℕ) (ts : Trees) (ds : List DeclaredItem) (at : Span) → IsCut source ts → depth ts ≤ 64 → source_at ty (words_of ts) ≡ Ok ds → NestsTooDeep source at → ⊥
+shallow unique deeper source ts ds at cut low e (inl o) = let h = deeper source ts at cut o in absurd (omega arith)
+shallow unique deeper source ts ds at cut low e (inr h) = no_opening (words_of ts) ds at e (subst (λ v. OpensSource (words_of v) at) (unique source h.0 ts h.1 cut) h.2)
 
 -- ---- what was not read
 -- where the source has no trees, it has no reading

@@ -11,5 +11,4 @@ mod Shortening
 mod Deep
 mod Complete
 mod Answered
-mod Openings
 mod TypeText

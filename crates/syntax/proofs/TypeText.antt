@@ -1,10 +1,10 @@
 -- What the reader of a type's text ensures.
-use Rattle.std.proofs.Common.{◌≡◌, ℕ, ◌≤◌, ◌⊎◌, inl, inr, List, [], length, refl, subst}
+use Rattle.std.proofs.Common.{◌≡◌, ℕ, ◌<◌, ◌≤◌, arith, ◌⊎◌, inl, inr, List, [], length, refl, subst}
 use Rattle.diag.specs.declared.span.Span.{Span}
 use Rattle.diag.specs.declared.error.DeriveError.{DeriveError}
 use Rattle.diag.specs.declared.error.DeriveError.TheVariants as errors
 use Rattle.tokens.specs.Trees.{Trees, depth}
-use Rattle.lexing.specs.Cut.{IsCut, IsDepthError, IsSyntaxError}
+use Rattle.lexing.specs.Cut.{IsCut, OpensTooDeep, IsDepthError, IsSyntaxError}
 use Rattle.written_types.specs.Written.{Written}
 use Rattle.words.specs.declared.stopping.Stop.{Stop}
 use Rattle.words.specs.declared.stopping.Stop.TheVariants as stop
@@ -16,17 +16,19 @@ use Rattle.type_grammar.proofs.Unique.{type_one}
 use Rattle.syntax.specs.ItemDepth.{most_levels}
 use Rattle.syntax.specs.ItemReading.{IsRefusalOf}
 use Rattle.syntax.specs.Source.{ReadsType, TypeNestsTooDeep, IsNoType, IsDeepType}
-use Rattle.syntax.proofs.Openings.{cut_shallow}
 
 abbrev OneCut : Type 0
 OneCut = (source : List ℕ) (ts us : Trees) → IsCut source ts → IsCut source us → ts ≡ us
 
+abbrev DeepNest : Type 0
+DeepNest = (source : List ℕ) (ts : Trees) (at : Span) → IsCut source ts → OpensTooDeep source at → 64 < depth ts
+
 pub one_type : OneCut → (text : List ℕ) (t u : Written) → ReadsType text t → ReadsType text u → t ≡ u
 one_type unique text t u r s = (type_one (subst (λ v. IsType (words_of v) t []) (unique text r.0 s.0 r.1 s.1) r.2) refl s.2 refl).0
 
-pub type_shallow : OneCut → (text : List ℕ) (ts : Trees) (at : Span) → IsCut text ts → depth ts ≤ 64 → ((at : Span) → OpensType 64 (words_of ts) at → ⊥) → TypeNestsTooDeep text at → ⊥
-type_shallow unique text ts at cut low none (inl o) = cut_shallow text ts at cut low o
-type_shallow unique text ts at cut low none (inr h) = none at (subst (λ v. OpensType most_levels (words_of v) at) (unique text h.0 ts h.1 cut) h.2)
+pub type_shallow : OneCut → DeepNest → (text : List ℕ) (ts : Trees) (at : Span) → IsCut text ts → depth ts ≤ 64 → ((at : Span) → OpensType 64 (words_of ts) at → ⊥) → TypeNestsTooDeep text at → ⊥
+type_shallow unique deeper text ts at cut low none (inl o) = let h = deeper text ts at cut o in absurd (omega arith)
+type_shallow unique deeper text ts at cut low none (inr h) = none at (subst (λ v. OpensType most_levels (words_of v) at) (unique text h.0 ts h.1 cut) h.2)
 
 -- where the text has no trees, it is no type
 pub type_passed_on : (text : List ℕ) (e : DeriveError) → (e ≡ errors.Memory) ⊎ IsDepthError text e ⊎ IsSyntaxError text e → (e ≡ errors.Memory) ⊎ IsDeepType text e ⊎ IsNoType text e

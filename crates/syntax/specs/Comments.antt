@@ -14,7 +14,7 @@ said (Doc text) = text
 abbrev pub docs_of : List Attribute → List (List ℕ)
 docs_of attributes = map (λ attribute. said attribute.meta) attributes
 
--- how many ASCII white space characters the line begins with
+-- how many ASCII white space characters the text begins with
 abbrev pub indent : List ℕ → ℕ
 indent line = prefix_len is_ascii_whitespace line
 
@@ -22,15 +22,15 @@ abbrev pub has_text : List ℕ → Bool
 has_text [] = false
 has_text (b ∷ bs) = true
 
--- the least indent of the lines that are not empty
+-- the least indent of the texts that are not empty
 abbrev pub margin : List (List ℕ) → Option ℕ
 margin lines = reduce min (map indent (filter has_text lines))
 
--- without the margin, or as much white space as the line begins with
+-- without so much of the white space that the text begins with
 abbrev pub unindented : ℕ → List ℕ → List ℕ
 unindented count line = drop (min count (indent line)) line
 
--- the lines of doc comments, without white space at their ends and without their margin
+-- the texts of doc comments, without white space at their ends and without their margin
 abbrev pub lines_of : List (List ℕ) → List (List ℕ)
 lines_of docs = let lines = map trim_end docs in map (unindented (unwrap_or (margin lines) 0)) lines
 

@@ -9,7 +9,7 @@ use crate::item::{Attribute, Meta};
 use diag::{List, Text};
 use std::alloc::{AllocError, Global};
 
-/// The lines of doc comments.
+/// The texts of doc comments, each perhaps of several lines.
 #[derive(Debug, Drop)]
 pub struct CommentAttributes(pub List<Text>);
 
@@ -22,14 +22,14 @@ fn line_of(attribute: &Attribute) -> &str
     }
 }
 
-/// How many ASCII white space characters the line begins with.
+/// How many ASCII white space characters the text begins with.
 fn indent(line: &str) -> usize
     ensures { result ≡ indent line.now }
 {
     line.len() - line.trim_ascii_start().len()
 }
 
-/// The least indent of the lines that are not empty.
+/// The least indent of the texts that are not empty, which are without white space at their ends.
 fn margin(attributes: &[Attribute]) -> Option<usize>
     ensures { result ≡ margin (map trim_end (docs_of attributes.now)) }
 {
@@ -52,7 +52,7 @@ fn lesser(least: Option<usize>, other: usize) -> usize
     }
 }
 
-/// The line without so much of the white space that it begins with.
+/// The text without so much of the white space that it begins with.
 fn unindented(line: &str, count: usize) -> &str
     ensures { result.now ≡ unindented count line.now }
 {
@@ -61,8 +61,8 @@ fn unindented(line: &str, count: usize) -> &str
 }
 
 impl CommentAttributes {
-    /// The lines of the doc comments, each without the white space at its end and without what the least indented of
-    /// those that are not empty begins with.
+    /// The texts of the doc comments, each without the white space at its end and without as much of that at its
+    /// beginning as the least indented of those that are not empty has.
     pub fn from_attributes(
         alloc: Global,
         attributes: &[Attribute],
@@ -78,14 +78,14 @@ impl CommentAttributes {
         Ok(CommentAttributes(lines))
     }
 
-    /// Whether there are no lines.
+    /// Whether there are no texts.
     pub fn is_empty(&self) -> bool
         ensures { IsTrue result ↔ (self.now.0 ≡ []) }
     {
         self.0.is_empty()
     }
 
-    /// The lines, joined by new lines.
+    /// The texts, joined by new lines.
     pub fn as_formatted_string(&self, alloc: Global) -> Result<Text, AllocError>
         ensures { IfOk result (λ text. text ≡ joined self.now.0) }
     {

@@ -17,7 +17,7 @@ use crate::docs::after_inner;
 use crate::item::{Declaration, Declarations};
 use crate::items::items_of;
 use diag::{DeriveError, Diagnostics, Kind, List, Span};
-use lexing::{lex, one_cut};
+use lexing::{deep_brackets_nest_deep, lex, one_cut};
 use std::alloc::Global;
 use tokens::TokenTree;
 use type_grammar::read_type;
@@ -97,6 +97,7 @@ pub fn parse_declarations(alloc: Global, source: &str) -> Result<Declarations, D
     let trees = lex(alloc, source)?;
     // The source has no other trees, so what cannot be read of these cannot be read at all.
     one_cut();
+    deep_brackets_nest_deep();
     match source_of(alloc, trees.as_slice()) {
         Ok(items) => Ok(Declarations { items }),
         Err(stop) => Err(refusal(alloc, stop, source.len())),
@@ -112,6 +113,7 @@ pub fn parse_type(alloc: Global, text: &str) -> Result<WrittenType, DeriveError>
     let trees = lex(alloc, text)?;
     // The text has no other trees.
     one_cut();
+    deep_brackets_nest_deep();
     match read_type(alloc, trees.as_slice()) {
         Ok(ty) => Ok(ty),
         Err(stop) => Err(refusal(alloc, stop, text.len())),

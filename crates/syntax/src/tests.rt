@@ -223,6 +223,8 @@ fn reads_types(rt: HostRuntime) -> Result<(), Fail> {
         ("Vec<Vec<u8>>", "Vec::<Vec<u8,>>"),
         ("(dyn A + B)", "dyn A+B"),
         ("(crate)", "crate"),
+        ("A<'r#a>", "A<'a>"),
+        ("&'r#a u8", "&'a u8"),
     ];
     for (text, other) in cases {
         assert!(rt;

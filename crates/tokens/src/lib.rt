@@ -3,10 +3,12 @@
 
 mod copy;
 mod cursor;
+mod laws;
 #[cfg(test)]
 mod tests;
 mod token;
 
 pub use copy::copy_trees;
 pub use cursor::Cursor;
+pub use laws::trees_are_equal_by_text;
 pub use token::{Bracket, Group, Token, TokenKind, TokenTree};

@@ -55,8 +55,8 @@ pub data IsConstant : List Word → Trees → List Word → Type 0 where
   a_block : {ts : Trees} {s : Span} {rest : List Word} → IsConstant (group Curly ts s ∷ rest) (trees.group Curly ts s ▸ end) rest
 
 mutual
-  -- type = path | "&" lifetime? "mut"? type | "(" type ")" | "(" ")" | "(" type "," list of type ")" | "[" type "]" | "[" type ";" expr "]" | "dyn" bounds
-  -- behind "&" a trait object has one bound
+  -- type = path | "&" lifetime? "mut"? type | "(" type ")" | "(" ")" | "(" type "," list of type ")" | "[" type "]" | "[" type ";" expr "]" | "dyn" object
+  -- object = (lifetime "+")* "?"? path ("+" bound)*, where the path has no bindings; behind "&" it is "?"? path
   pub data IsTypeOf : Bounds → List Word → Written → List Word → Type 0 where
     pathed : {bounds : Bounds} {ws rest : List Word} {p : WrittenPath} → IsPath false ws p rest → IsTypeOf bounds ws (path p) rest
     referred : {bounds : Bounds} {at : Span} {ws us vs rest : List Word} {t : Written} → MayBeLifetime ws us → MayBeMut us vs → IsTypeOf One vs t rest → IsTypeOf bounds (sign Ampersand at ∷ ws) (reference t) rest

@@ -1,3 +1,4 @@
 pub mod Joined
 pub mod Segments
 pub mod Views
+pub mod Equal

@@ -1,3 +1,4 @@
 pub mod Formats
 pub mod Tests
 pub mod TypeTrees
+pub mod Spanless

@@ -5,6 +5,7 @@ mod ask;
 mod build;
 mod copy;
 mod known_format;
+mod laws;
 mod path;
 mod primitive;
 mod schema_type;
@@ -13,6 +14,7 @@ mod tests;
 mod tree;
 
 pub use known_format::KnownFormat;
+pub use laws::trees_are_equal_by_text;
 pub use path::SchemaPath;
 pub use primitive::PrimitiveType;
 pub use schema_type::SchemaType;

@@ -1,5 +1,5 @@
 -- What a token tree is to the grammar (The Rust Reference, "Keywords", "Identifiers", "Punctuation").
-use Rattle.std.specs.Prelude.{ℕ, suc, min, max, List, [], ◌∷◌, ◌++◌, Bool, false, cond, codes, take, drop, Option, Some, None}
+use Rattle.std.specs.Prelude.{ℕ, suc, min, max, List, [], ◌∷◌, ◌++◌, Bool, cond, codes, take, drop, Option, Some, None}
 use Rattle.std.specs.List.{list_any}
 use Rattle.std.specs.Str.{bytes_eq}
 use Rattle.std.proofs.Math.Nat.{le-max_left, le-min, le-suc}
@@ -17,7 +17,7 @@ use Rattle.words.specs.declared.vocabulary.Keyword.TheVariants as keywords
 use Rattle.words.specs.declared.vocabulary.Sign.{Sign}
 use Rattle.words.specs.declared.vocabulary.Sign.TheVariants as signs
 
--- an identifier that is no keyword, the identifier `_`, a keyword, a sign, a lifetime, a literal, a doc comment, and what stands in brackets
+-- an identifier that is neither `_` nor a keyword, `_`, a keyword, a sign, a lifetime, a literal, a doc comment, and what stands in brackets
 pub data Word : Type 0 where
   name : Ident → Word
   underscore : Ident → Word
@@ -60,7 +60,7 @@ is_among text words = list_any (λ word. bytes_eq text word) words
 unfoldable pub is_reserved : List ℕ → Bool
 is_reserved text = is_among text reserved_words
 
--- the keyword that stands beside the text in the rows, or else another
+-- what stands beside the text in the first of the rows that has it, or else the other
 abbrev pub found_in : {A : Type 0} → List ℕ → List (List ℕ × A) → A → A
 found_in text [] other = other
 found_in text (row ∷ rows) other = cond (bytes_eq text row.0) row.1 (found_in text rows other)
@@ -92,19 +92,26 @@ is_raw text = bytes_eq (take 2 text) (codes "r#")
 abbrev pub unmarked : List ℕ → List ℕ
 unmarked text = cond (is_raw text) (drop 2 text) text
 
+-- a lifetime is raw where it begins with `'r#`, of which its text has only the `'`
+abbrev pub is_raw_lifetime : List ℕ → Bool
+is_raw_lifetime text = bytes_eq (take 3 text) (codes "'r#")
+
+abbrev pub unmarked_lifetime : List ℕ → List ℕ
+unmarked_lifetime text = cond (is_raw_lifetime text) (codes "'" ++ drop 3 text) text
+
 -- the identifier that a token is, and the lifetime, whose text is with the `'`
 abbrev pub ident_of : Token → Ident
 ident_of t = record { text = unmarked t.text; raw = is_raw t.text; span = t.span }
 
 abbrev pub lifetime_of : Token → Ident
-lifetime_of t = record { text = t.text; raw = false; span = t.span }
+lifetime_of t = record { text = unmarked_lifetime t.text; raw = is_raw_lifetime t.text; span = t.span }
 
 -- an identifier that is no keyword is a name
 abbrev pub keyword_or_name : Option Keyword → Ident → Word
 keyword_or_name None x = name x
 keyword_or_name (Some k) x = keyword k x
 
--- a raw identifier is never a keyword
+-- a raw identifier is never a keyword, but `r#_` is `_`
 abbrev pub identifier_word : Ident → Word
 identifier_word x = cond (bytes_eq x.text (codes "_")) (underscore x) (cond x.raw (name x) (keyword_or_name (keyword_of x.text) x))
 

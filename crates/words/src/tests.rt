@@ -1,13 +1,13 @@
 use crate::{
-    Keyword, Sign, Stop, Word, covering, group_at, ident_of, keyword_at, lifetime_at, literal_at,
-    name_at, path_word_at, sign_at, word_of,
+    Keyword, Sign, Stop, Word, covering, group_at, ident_of, keyword_at, lifetime_at, lifetime_of,
+    literal_at, name_at, path_word_at, sign_at, word_of,
 };
 use diag::{List, Span, Text};
 use std::alloc::{AllocError, Global};
 use std::test::Fail;
 use tokens::{Bracket, Group, Token, TokenKind, TokenTree};
 
-const WORDS: [(TokenKind, &str, &str); 14] = [
+const WORDS: [(TokenKind, &str, &str); 15] = [
     (TokenKind::Ident, "user", "name"),
     (TokenKind::Ident, "r#type", "name"),
     (TokenKind::Ident, "r#Self", "name"),
@@ -20,6 +20,7 @@ const WORDS: [(TokenKind, &str, &str); 14] = [
     (TokenKind::Punct, "::", "::"),
     (TokenKind::Punct, ":", "sign"),
     (TokenKind::Lifetime, "'a", "lifetime"),
+    (TokenKind::Lifetime, "'r#a", "lifetime"),
     (TokenKind::Literal, "7", "literal"),
     (TokenKind::Doc, " text", "doc"),
 ];
@@ -92,5 +93,27 @@ fn reads_and_refuses(rt: HostRuntime) -> Result<(), Fail> {
     assert!(rt; lifetime_at(trees).is_err() && literal_at(&[]).is_err());
     let whole = covering(Span { start: 1, end: 2 }, Span { start: 5, end: 8 });
     assert!(rt; whole == Span { start: 1, end: 8 });
+    Ok(())
+}
+
+/// A token, the text that its lifetime has, and whether it is raw.
+const LIFETIMES: [(&str, &str, bool); 3] = [
+    ("'a", "'a", false),
+    ("'r#a", "'a", true),
+    ("'r", "'r", false),
+];
+
+#[test]
+fn lifetimes_are_without_marks(rt: HostRuntime) -> Result<(), Fail> {
+    let alloc = rt.alloc();
+    for (text, expected, raw) in LIFETIMES {
+        let token = Token {
+            kind: TokenKind::Lifetime,
+            text: Text::new(alloc, text)?,
+            span: Span { start: 2, end: 9 },
+        };
+        let lifetime = lifetime_of(alloc, &token)?;
+        assert!(rt; lifetime.text.as_str() == expected && lifetime.raw == raw);
+    }
     Ok(())
 }

@@ -2,7 +2,7 @@
 
 ghost use Rattle.std.specs.Prelude.{◌≡◌, IfOk};
 ghost use Rattle.tokens.specs.Trees.{tree_view};
-ghost use Rattle.words.specs.Words.{word_of, token_word, identifier_word, ident_of, lifetime_of, is_raw, unmarked};
+ghost use Rattle.words.specs.Words.{word_of, token_word, identifier_word, ident_of, lifetime_of, is_raw, unmarked, is_raw_lifetime, unmarked_lifetime};
 ghost use Rattle.words.specs.Reading.{word_view};
 
 use crate::keywords::{keyword_of, sign_of};
@@ -15,9 +15,9 @@ use written_types::Ident;
 /// What the grammar has a token tree for.
 #[derive(Clone, Copy)]
 pub enum Word<'t> {
-    /// An identifier that is no keyword and not `_`, or a raw one.
+    /// An identifier that is neither `_` nor a keyword. A raw one is never a keyword.
     Name(&'t Token),
-    /// The identifier `_`.
+    /// The identifier `_`, perhaps raw.
     Underscore(&'t Token),
     Keyword(Keyword, &'t Token),
     Sign(Sign, Span),
@@ -90,13 +90,28 @@ pub fn ident_of(alloc: Global, token: &Token) -> Result<Ident, AllocError>
     })
 }
 
-/// The lifetime that the token is. Its text is with the `'`.
+/// Whether a lifetime is raw, and its text without the `r#` of a raw one.
+fn unmarked_lifetime(alloc: Global, text: &str) -> Result<(bool, Text), AllocError>
+    ensures { IfOk result (λ p. (p.0 ≡ is_raw_lifetime text.now) × (p.1 ≡ unmarked_lifetime text.now)) }
+{
+    match text.strip_prefix("'r#") {
+        Some(name) => {
+            let mut unmarked = Text::new(alloc, "'")?;
+            unmarked.push(name)?;
+            Ok((true, unmarked))
+        }
+        None => Ok((false, Text::new(alloc, text)?)),
+    }
+}
+
+/// The lifetime that the token is, without the `r#` of a raw one. Its text is with the `'`.
 pub fn lifetime_of(alloc: Global, token: &Token) -> Result<Ident, AllocError>
     ensures { IfOk result (λ x. x ≡ lifetime_of token.now) }
 {
+    let (raw, text) = unmarked_lifetime(alloc, token.text.as_str())?;
     Ok(Ident {
-        text: token.text.copy(alloc)?,
-        raw: false,
+        text,
+        raw,
         span: token.span,
     })
 }

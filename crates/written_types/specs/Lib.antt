@@ -1,1 +1,2 @@
+pub mod Spanless
 pub mod Written

@@ -2,8 +2,10 @@
 #![tactic(auto)]
 
 mod copy;
+mod laws;
 #[cfg(test)]
 mod tests;
 mod written;
 
+pub use laws::types_are_equal_by_text;
 pub use written::{GenericArgument, Ident, Path, PathSegment, WrittenType};

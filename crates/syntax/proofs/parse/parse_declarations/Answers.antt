@@ -20,7 +20,7 @@ pub returns-in-Ok-clause-shallow : goal.returns-in-Ok-clause-shallow
 returns-in-Ok-clause-shallow c = λ span nests.
     let cut = subst (λ v. IsCut c.args.source.now (trees_view v)) (sym c.as_slice.ensures) c.in_ok-trees.ensures.found in
     let low = subst (λ v. depth (trees_view v) ≤ 64) (sym c.as_slice.ensures) c.in_ok-trees.ensures.shallow in
-    shallow c.one_cut.ensures c.args.source.now (trees_view c.as_slice.result.now) (map declaration_view c.in-Ok.items) span cut low c.in-Ok.ensures nests
+    shallow c.one_cut.ensures c.deep_brackets_nest_deep.ensures c.args.source.now (trees_view c.as_slice.result.now) (map declaration_view c.in-Ok.items) span cut low c.in-Ok.ensures nests
 
 pub returns-clause-refused : goal.returns-clause-refused
 returns-clause-refused c =

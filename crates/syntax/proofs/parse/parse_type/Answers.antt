@@ -21,7 +21,7 @@ pub returns-in-Ok-clause-shallow : goal.returns-in-Ok-clause-shallow
 returns-in-Ok-clause-shallow c = λ span nests.
     let cut = subst (λ v. IsCut c.args.text.now (trees_view v)) (sym c.as_slice.ensures) c.in_ok-trees.ensures.found in
     let low = subst (λ v. depth (trees_view v) ≤ 64) (sym c.as_slice.ensures) c.in_ok-trees.ensures.shallow in
-    type_shallow c.one_cut.ensures c.args.text.now (trees_view c.as_slice.result.now) span cut low c.in-Ok.ensures.shallow nests
+    type_shallow c.one_cut.ensures c.deep_brackets_nest_deep.ensures c.args.text.now (trees_view c.as_slice.result.now) span cut low c.in-Ok.ensures.shallow nests
 
 pub returns-clause-refused : goal.returns-clause-refused
 returns-clause-refused c =
