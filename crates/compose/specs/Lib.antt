@@ -1,7 +1,5 @@
+pub mod Closed
 pub mod Derived
 pub mod Faults
-pub mod Plain
-pub mod Shape
-pub mod Terms
-pub mod Types
+pub mod Inline
 pub mod Settled
