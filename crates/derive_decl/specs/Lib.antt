@@ -5,3 +5,4 @@ pub mod Shape
 pub mod Structs
 pub mod Terms
 pub mod Views
+pub mod Whole

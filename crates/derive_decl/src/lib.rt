@@ -9,6 +9,7 @@ mod schema;
 mod structs;
 mod unit_struct;
 mod unnamed_struct;
+mod whole;
 
 pub use law::{shapes_deepen, terms_accept};
 pub use member::Member;
@@ -18,3 +19,4 @@ pub use schema::Schema;
 pub use structs::{Form, Struct};
 pub use unit_struct::UnitStructVariant;
 pub use unnamed_struct::UnnamedStructSchema;
+pub use whole::structs_of;

@@ -1,0 +1,77 @@
+//! All declarations of a source.
+
+ghost use Rattle.std.specs.Prelude.{◌≡◌, ◌⊎◌, ℕ, List as Items, map, IfOk, IfErr, Some};
+ghost use Rattle.std.specs.BTreeMap.{get_by_text};
+ghost use Rattle.std.specs.List.{AllByRecursion};
+ghost use Rattle.schema_core.specs.Meaning.{IsDistinct};
+ghost use Rattle.syntax.specs.Items.{declaration_view, declarations_view};
+ghost use Rattle.resolving.specs.Resolved.{Somewhere};
+ghost use Rattle.scopes.specs.Names.{place_among};
+ghost use Rattle.scopes.specs.Scopes.{IsScope};
+ghost use Rattle.derive_decl.specs.Structs.{names_of, struct_of};
+ghost use Rattle.derive_decl.specs.Faults.{IsFaultyItem};
+ghost use Rattle.derive_decl.specs.Views.{known, struct_view};
+ghost use Rattle.derive_decl.specs.Whole.{structs_of, MembersDiffer, IsSmallItem};
+
+use crate::schema::Schema;
+use crate::structs::Struct;
+use component::Container;
+use configuration::Config;
+use diag::{DeriveError, List};
+use scopes::Scope;
+use std::alloc::Global;
+use std::collections::BTreeMap;
+use syntax::{Declaration, Declarations};
+
+/// The struct of the declaration.
+fn struct_of(
+    alloc: Global,
+    container: &Container<'_>,
+    declaration: &Declaration,
+) -> Result<Struct, DeriveError>
+    requires { IsScope container.now.scope.now }
+    ensures resolved { IfOk result (λ s. struct_of (known container.now) (declaration_view declaration.now) ≡ Some (struct_view s)) }
+    ensures distinct { IfOk result (λ s. IsDistinct (names_of (struct_view s).form)) }
+    ensures small { IfOk result (λ _. IsSmallItem (declaration_view declaration.now)) }
+    ensures refused { IfErr result (λ e. (e ≡ DeriveError.Memory) ⊎ IsFaultyItem (known container.now) (declaration_view declaration.now) e) }
+{
+    let schema = Schema::new(
+        &declaration.body,
+        declaration.attrs.as_slice(),
+        &declaration.ident,
+        container,
+    );
+    schema.resolve(alloc)
+}
+
+/// The structs of all declarations, in their order, where `places` has the places of their names.
+///
+/// It refuses the first declaration that `Schema::resolve` refuses, as that does.
+pub fn structs_of(
+    alloc: Global,
+    declarations: &Declarations,
+    places: &BTreeMap<String, usize>,
+    config: &Config,
+) -> Result<List<Struct>, DeriveError>
+    requires { (name : Items ℕ) → get_by_text places.now name ≡ place_among (declarations_view declarations.now) name }
+    ensures resolved { IfOk result (λ ss. structs_of (declarations_view declarations.now) ≡ Some (map struct_view ss)) }
+    ensures distinct { IfOk result (λ ss. MembersDiffer (map struct_view ss)) }
+    ensures small { IfOk result (λ _. AllByRecursion IsSmallItem (declarations_view declarations.now)) }
+    ensures refused { IfErr result (λ e. (e ≡ DeriveError.Memory) ⊎ Somewhere (λ d. IsFaultyItem (place_among (declarations_view declarations.now)) d e) (declarations_view declarations.now)) }
+{
+    let mut structs = List::new(alloc);
+    for owner in 0..declarations.items.len() {
+        let scope = Scope {
+            declarations,
+            places,
+            owner,
+        };
+        let container = Container {
+            scope: &scope,
+            config,
+        };
+        let declaration = &declarations.items.as_slice()[owner];
+        structs.push(struct_of(alloc, &container, declaration)?)?;
+    }
+    Ok(structs)
+}
