@@ -1,5 +1,7 @@
-pub mod Closed
 pub mod Derived
 pub mod Faults
-pub mod Inline
+pub mod Plain
+pub mod Shape
+pub mod Terms
+pub mod Types
 pub mod Settled

@@ -3,11 +3,15 @@
 
 mod components;
 mod derive;
-mod inline;
 mod law;
+mod names;
+mod place_type;
 mod resolve;
+mod structs;
 #[cfg(test)]
 mod tests;
 
 pub use derive::{Derived, derive_components};
-pub use law::components_describe;
+pub use law::{components_describe, shapes_deepen};
+pub use place_type::PlaceType;
+pub use structs::{Member, Struct};

@@ -4,7 +4,7 @@ ghost use Rattle.std.specs.Prelude.{◌≡◌, map, false};
 ghost use Rattle.open_types.specs.Open.{open_view, opens_view};
 ghost use Rattle.derive_decl.specs.Structs.{types_of, member_types};
 ghost use Rattle.derive_decl.specs.Views.{member_view, form_view};
-ghost use Rattle.compose.specs.Inline.{is_referred, are_items_referred, are_referred};
+ghost use Rattle.closing.specs.Inline.{is_referred, are_items_referred, are_referred};
 
 use derive_decl::{Form, Member};
 use open_types::OpenType;
@@ -61,7 +61,7 @@ fn are_types_referred(types: &[OpenType]) -> bool
 }
 
 /// Whether each declaration that the types of the fields name stands where a reference to it stands.
-pub(crate) fn is_form_referred(form: &Form) -> bool
+pub fn is_form_referred(form: &Form) -> bool
     ensures { result ≡ are_referred (types_of (form_view form.now)) }
 {
     match form {

@@ -1,0 +1,11 @@
+use Rattle.std.proofs.Common.{◌≡◌, ℕ, List, map, take}
+use Rattle.std.specs.BTreeMap.{get_by_text}
+use Rattle.schema_core.specs.Meaning.{IsDistinct}
+use Rattle.compose.specs.Derived.{place_in}
+use Rattle.compose.specs.Faults.{texts}
+use Rattle.compose.proofs.names.places_of.Given as goal
+
+-- the map has the places of the names so far, of which no two are equal
+abbrev pub invariant-loop-at : goal.invariant-loop-at
+invariant-loop-at g l =
+    ((name : List ℕ) → get_by_text l.places name ≡ place_in name (texts (map g.T.Named.ident_of (take l.at l.items)))) × IsDistinct (texts (map g.T.Named.ident_of (take l.at l.items)))
