@@ -91,9 +91,9 @@ fn jsons<R: Abort + AllocGlobal>(rt: &R, texts: &[&str]) -> List<Json> {
     jsons
 }
 
-/// A copy of one of each note.
-fn all_notes<R: Abort + AllocGlobal>(rt: &R) -> Notes {
-    let notes = Notes {
+/// One of each note.
+fn one_of_each<R: Abort + AllocGlobal>(rt: &R) -> Notes {
+    Notes {
         title: Some(text(rt, "T")),
         description: Some(text(rt, "é \"q\"")),
         default: Some(json(rt, r#"{"a":[]}"#)),
@@ -104,7 +104,12 @@ fn all_notes<R: Abort + AllocGlobal>(rt: &R) -> Notes {
         write_only: Some(true),
         content_encoding: Some(text(rt, "base64")),
         content_media_type: Some(text(rt, "image/png")),
-    };
+    }
+}
+
+/// A copy of one of each note.
+fn all_notes<R: Abort + AllocGlobal>(rt: &R) -> Notes {
+    let notes = one_of_each(rt);
     notes.copy(rt.alloc()).expect(rt, "notes")
 }
 
@@ -394,7 +399,7 @@ fn writes_schemas(rt: HostRuntime) {
     assert_eq!(rt; text.as_str(), SAMPLE);
 }
 
-const NAMES_OF_TYPES: [(SchemaTypeInner, &str, &str); 7] = [
+static NAMES_OF_TYPES: [(SchemaTypeInner, &str, &str); 7] = [
     (SchemaTypeInner::Object, "object", "object?"),
     (SchemaTypeInner::String, "string", "string?"),
     (SchemaTypeInner::Integer, "integer", "integer?"),
@@ -419,7 +424,8 @@ const TYPES: &str = concat!(
 /// Components of each type, alone and or null.
 fn types<R: Abort + AllocGlobal>(rt: &R) -> Components {
     let mut types = Components::new(rt.alloc());
-    for (ty, alone, or_null) in NAMES_OF_TYPES {
+    for row in &NAMES_OF_TYPES {
+        let (ty, alone, or_null) = *row;
         put(rt, &mut types, alone, of_type(rt, TypeWord::One(ty)));
         put(rt, &mut types, or_null, of_type(rt, TypeWord::Nullable(ty)));
     }
@@ -442,7 +448,7 @@ fn of_names<R: Abort + AllocGlobal>(rt: &R, names: &[&str]) -> Components {
 }
 
 /// Lists of names, and the text of the document of their components.
-const NAMES: [(&[&str], &str); 3] = [
+static NAMES: [(&[&str], &str); 3] = [
     (&[], "{\"components\":{\"schemas\":{}}}\n"),
     (
         &["b", "a", "B", "aa", "é", "Z"],
@@ -471,7 +477,8 @@ fn is_document<R: Abort + AllocGlobal>(rt: &R, names: &[&str], text: &str) -> bo
 
 #[test]
 fn orders_and_escapes_names(rt: HostRuntime) {
-    for (names, text) in NAMES {
+    for row in &NAMES {
+        let (names, text) = *row;
         assert!(rt; is_document(&rt, names, text), "{text}");
     }
 }
@@ -559,16 +566,19 @@ fn is_kept_or_back<R: Abort + AllocGlobal>(rt: &R, text: &str, whole: bool) -> b
     }
 }
 
+/// Texts of values, and whether they have no float.
+static WHOLE: [(&str, bool); 5] = [
+    (r#"{"a":[null,true,{"b":-9223372036854775808}]}"#, true),
+    (r#"[18446744073709551615,"1.5"]"#, true),
+    ("1.0", false),
+    ("[1,[0.5]]", false),
+    (r#"{"a":{"b":[1e2]}}"#, false),
+];
+
 #[test]
 fn json_has_no_floats(rt: HostRuntime) {
-    let cases = [
-        (r#"{"a":[null,true,{"b":-9223372036854775808}]}"#, true),
-        (r#"[18446744073709551615,"1.5"]"#, true),
-        ("1.0", false),
-        ("[1,[0.5]]", false),
-        (r#"{"a":{"b":[1e2]}}"#, false),
-    ];
-    for (text, whole) in cases {
+    for row in &WHOLE {
+        let (text, whole) = *row;
         assert!(rt; is_kept_or_back(&rt, text, whole), "{text}");
     }
 }

@@ -1,69 +1,88 @@
 use crate::{GenericType, KnownFormat, PrimitiveType, SchemaPath, SchemaType, TypeTree, ValueType};
 use diag::{List, Span, Text};
 use schema_core::{SchemaTypeInner, TypeWord};
-use std::alloc::{AllocError, Global};
-use std::test::Fail;
+use std::process::Abort;
 use written_types::{GenericArgument, Ident, Path, PathSegment, WrittenType};
 
-fn segment(
-    alloc: Global,
-    word: &str,
-    arguments: Option<List<GenericArgument>>,
-) -> Result<PathSegment, AllocError> {
-    let ident = Ident {
-        text: Text::new(alloc, word)?,
+fn ident<R: Abort + AllocGlobal>(rt: &R, word: &str) -> Ident {
+    Ident {
+        text: Text::new(rt.alloc(), word).expect(rt, "a text"),
         raw: false,
         span: Span::nowhere(),
-    };
-    Ok(PathSegment { ident, arguments })
+    }
+}
+
+fn add<R: Abort, T: Drop>(rt: &R, list: &mut List<T>, item: T) {
+    list.push(item).expect(rt, "memory")
+}
+
+fn add_segment<R: Abort + AllocGlobal>(
+    rt: &R,
+    segments: &mut List<PathSegment>,
+    word: &str,
+    arguments: Option<List<GenericArgument>>,
+) {
+    let ident = ident(rt, word);
+    add(rt, segments, PathSegment { ident, arguments });
 }
 
 /// The path of the words, with the argument list behind the last one.
-fn path(
-    alloc: Global,
+fn path<R: Abort + AllocGlobal>(
+    rt: &R,
     before: &[&str],
     last: &str,
     arguments: Option<List<GenericArgument>>,
     start: usize,
-) -> Result<Path, AllocError> {
-    let mut segments = List::new(alloc);
+) -> Path {
+    let mut segments = List::new(rt.alloc());
     for word in before {
-        segments.push(segment(alloc, word, None)?)?;
+        add_segment(rt, &mut segments, word, None);
     }
-    segments.push(segment(alloc, last, arguments)?)?;
-    Ok(Path {
+    add_segment(rt, &mut segments, last, arguments);
+    Path {
         leading: false,
         segments,
         span: Span { start, end: start },
-    })
+    }
 }
 
-fn plain(alloc: Global, word: &str) -> Result<WrittenType, AllocError> {
-    Ok(WrittenType::Path(path(alloc, &[], word, None, 0)?))
+fn plain<R: Abort + AllocGlobal>(rt: &R, word: &str) -> WrittenType {
+    WrittenType::Path(path(rt, &[], word, None, 0))
 }
 
 /// An argument list of a lifetime, a constant and, where it is given, a type.
-fn list_of(
-    alloc: Global,
+fn list_of<R: Abort + AllocGlobal>(
+    rt: &R,
     ty: Option<WrittenType>,
-) -> Result<Option<List<GenericArgument>>, AllocError> {
-    let lifetime = Ident {
-        text: Text::new(alloc, "'a")?,
-        raw: false,
-        span: Span::nowhere(),
-    };
-    let mut arguments = List::new(alloc);
-    arguments.push(GenericArgument::Lifetime(lifetime))?;
+) -> Option<List<GenericArgument>> {
+    let mut arguments = List::new(rt.alloc());
+    add(
+        rt,
+        &mut arguments,
+        GenericArgument::Lifetime(ident(rt, "'a")),
+    );
     if let Some(ty) = ty {
-        arguments.push(GenericArgument::Ty(ty))?;
+        add(rt, &mut arguments, GenericArgument::Ty(ty));
     }
-    arguments.push(GenericArgument::Constant(List::new(alloc)))?;
-    Ok(Some(arguments))
+    add(
+        rt,
+        &mut arguments,
+        GenericArgument::Constant(List::new(rt.alloc())),
+    );
+    Some(arguments)
+}
+
+fn boxed<R: Abort + AllocGlobal>(rt: &R, word: &str) -> Box<WrittenType> {
+    Box::new(rt.alloc(), plain(rt, word)).expect(rt, "a type")
+}
+
+fn tree_of<'t, R: Abort + AllocGlobal>(rt: &R, ty: &'t WrittenType) -> TypeTree<'t> {
+    TypeTree::from_type(rt.alloc(), ty).expect(rt, "a tree")
 }
 
 /// A name, the word of its type, its format, and the letters of the tests that hold: primitive, integer, unsigned,
 /// number, string, byte, value.
-const NAMES: [(&str, SchemaTypeInner, &str, &str); 24] = [
+static NAMES: [(&str, SchemaTypeInner, &str, &str); 24] = [
     ("String", SchemaTypeInner::String, "", "ps"),
     ("str", SchemaTypeInner::String, "", "ps"),
     ("char", SchemaTypeInner::String, "", "p"),
@@ -100,61 +119,174 @@ fn format_named(name: &str) -> KnownFormat {
     }
 }
 
+/// The tests of the type, in the order of their letters.
+fn tests_of(ty: &SchemaType<'_>) -> [bool; 7] {
+    [
+        ty.is_primitive(),
+        ty.is_integer(),
+        ty.is_unsigned_integer(),
+        ty.is_number(),
+        ty.is_string(),
+        ty.is_byte(),
+        ty.is_value(),
+    ]
+}
+
+/// Which of the tests have their letter.
+fn letters(holds: &str) -> [bool; 7] {
+    [
+        holds.contains('p'),
+        holds.contains('i'),
+        holds.contains('u'),
+        holds.contains('n'),
+        holds.contains('s'),
+        holds.contains('b'),
+        holds.contains('v'),
+    ]
+}
+
+/// Whether the tests of the path's type are those of the letters, and its word is that one, also or null.
+fn has_type(path: SchemaPath<'_>, word: SchemaTypeInner, holds: &str) -> bool {
+    let alone = SchemaType {
+        path,
+        nullable: false,
+    };
+    let or_null = SchemaType {
+        path,
+        nullable: true,
+    };
+    tests_of(&alone) == letters(holds)
+        && alone.type_word() == TypeWord::One(word)
+        && tests_of(&or_null) == letters(holds)
+        && or_null.type_word() == TypeWord::Nullable(word)
+}
+
+/// Whether the format that is read for the path is the named one, as is its copy, or none is.
+fn has_format<R: Abort + AllocGlobal>(rt: &R, path: SchemaPath<'_>, name: &str) -> bool {
+    let read = KnownFormat::from_path(&path);
+    let copy = read.copy(rt.alloc()).expect(rt, "a copy");
+    read == format_named(name) && copy == read && read.is_known_format() != name.is_empty()
+}
+
+fn is_primitive(path: SchemaPath<'_>, name: &str) -> bool {
+    match PrimitiveType::new(&path) {
+        None => false,
+        Some(primitive) => primitive.ty.name() == name,
+    }
+}
+
 #[test]
-fn names_say_what_the_values_are(rt: HostRuntime) -> Result<(), Fail> {
-    let alloc = rt.alloc();
-    for (name, word, format, holds) in NAMES {
-        let written = path(alloc, &["a"], name, None, 0)?;
-        let shown = SchemaPath::Written(&written);
-        let found = SchemaType {
-            path: shown,
-            nullable: format.is_empty(),
-        };
-        assert!(rt; found.is_primitive() == holds.contains('p'));
-        assert!(rt; found.is_integer() == holds.contains('i'));
-        assert!(rt; found.is_unsigned_integer() == holds.contains('u'));
-        assert!(rt; found.is_number() == holds.contains('n'));
-        assert!(rt; found.is_string() == holds.contains('s'));
-        assert!(rt; found.is_byte() == holds.contains('b'));
-        assert!(rt; found.is_value() == holds.contains('v'));
-        let expected = if format.is_empty() {
-            TypeWord::Nullable(word)
-        } else {
-            TypeWord::One(word)
-        };
-        assert!(rt; found.type_word() == expected);
-        let read = KnownFormat::from_path(&shown);
-        assert!(rt; read == format_named(format) && read.copy(alloc)? == read);
-        assert!(rt; read.is_known_format() != format.is_empty());
-        match PrimitiveType::new(&shown) {
-            None => assert!(rt; !holds.contains('p')),
-            Some(primitive) => assert!(rt; primitive.ty.name() == name),
+fn names_say_what_the_values_are(rt: HostRuntime) {
+    for row in &NAMES {
+        let (name, word, format, holds) = *row;
+        let written = path(&rt, &["a"], name, None, 0);
+        let path = SchemaPath::Written(&written);
+        let right = has_type(path, word, holds)
+            && has_format(&rt, path, format)
+            && is_primitive(path, name) == holds.contains('p');
+        assert!(rt; right, "{name}");
+    }
+}
+
+/// What a tree is to say: whether it has a path, names that are in it, and one that is not.
+#[derive(Clone, Copy)]
+struct Shape<'a> {
+    has_path: bool,
+    value_type: ValueType,
+    generic_type: Option<GenericType>,
+    span: Option<Span>,
+    children: Option<usize>,
+    named: &'a [&'a str],
+    absent: &'a str,
+}
+
+fn at(start: usize) -> Option<Span> {
+    Some(Span { start, end: start })
+}
+
+fn count_of(tree: &TypeTree<'_>) -> Option<usize> {
+    match &tree.children {
+        None => None,
+        Some(children) => Some(children.len()),
+    }
+}
+
+fn has_names(tree: &TypeTree<'_>, names: &[&str]) -> bool {
+    for name in names {
+        if !tree.is(name) {
+            return false;
         }
     }
-    Ok(())
+    true
+}
+
+fn lists(names: &[&str], wanted: &str) -> bool {
+    for name in names {
+        if *name == wanted {
+            return true;
+        }
+    }
+    false
+}
+
+fn has_kind(tree: &TypeTree<'_>, kind: Option<GenericType>) -> bool {
+    tree.generic_type == kind
+        && tree.is_option() == (kind == Some(GenericType::Option))
+        && tree.is_map() == (kind == Some(GenericType::Map))
+}
+
+fn has_shape(tree: &TypeTree<'_>, shape: &Shape<'_>) -> bool {
+    tree.value_type == shape.value_type
+        && has_kind(tree, shape.generic_type)
+        && tree.span == shape.span
+        && count_of(tree) == shape.children
+        && has_names(tree, shape.named)
+        && !tree.is(shape.absent)
+        && tree.is_value() == lists(shape.named, "Value")
+        && tree.is_object() == lists(shape.named, "Object")
+        && tree.path.is_some() == shape.has_path
+}
+
+/// Whether the tree of the type has the shape, and so has its copy, which is equal.
+fn has_tree<R: Abort + AllocGlobal>(rt: &R, ty: WrittenType, shape: &Shape<'_>) -> bool {
+    let tree = tree_of(rt, &ty);
+    let copy = tree.copy(rt.alloc()).expect(rt, "a copy");
+    has_shape(&tree, shape) && has_shape(&copy, shape) && copy == tree
+}
+
+fn value_type_of(holds: &str) -> ValueType {
+    if holds.contains('p') {
+        ValueType::Primitive
+    } else if holds.contains('v') {
+        ValueType::Value
+    } else {
+        ValueType::Object
+    }
+}
+
+/// Whether the tree of the bare name is that of a type whose tests have the letters.
+fn has_bare_tree<R: Abort + AllocGlobal>(rt: &R, name: &str, holds: &str) -> bool {
+    let shape = Shape {
+        has_path: true,
+        value_type: value_type_of(holds),
+        generic_type: None,
+        span: at(0),
+        children: None,
+        named: &[name],
+        absent: "T",
+    };
+    has_tree(rt, plain(rt, name), &shape)
 }
 
 #[test]
-fn names_classify_trees(rt: HostRuntime) -> Result<(), Fail> {
-    let alloc = rt.alloc();
-    for (name, _, _, holds) in NAMES {
-        let written = plain(alloc, name)?;
-        let tree = TypeTree::from_type(alloc, &written)?;
-        let expected = if holds.contains('p') {
-            ValueType::Primitive
-        } else if holds.contains('v') {
-            ValueType::Value
-        } else {
-            ValueType::Object
-        };
-        assert!(rt; tree.value_type == expected && tree.generic_type.is_none());
-        assert!(rt; tree.children.is_none() && tree.is(name) && !tree.is("T"));
-        assert!(rt; tree.is_value() == (name == "Value") && tree.is_object() == (name == "Object"));
+fn names_classify_trees(rt: HostRuntime) {
+    for row in &NAMES {
+        let (name, _, _, holds) = *row;
+        assert!(rt; has_bare_tree(&rt, name, holds), "{name}");
     }
-    Ok(())
 }
 
-const CONTAINERS: [(&str, Option<GenericType>); 18] = [
+static CONTAINERS: [(&str, Option<GenericType>); 18] = [
     ("HashMap", Some(GenericType::Map)),
     ("BTreeMap", Some(GenericType::Map)),
     ("Map", Some(GenericType::Map)),
@@ -175,89 +307,156 @@ const CONTAINERS: [(&str, Option<GenericType>); 18] = [
     ("Page", None),
 ];
 
+/// Whether the name with a list of no types is a container of the kind.
+fn has_empty_list<R: Abort + AllocGlobal>(rt: &R, name: &str, kind: Option<GenericType>) -> bool {
+    let shape = Shape {
+        has_path: true,
+        value_type: ValueType::Object,
+        generic_type: kind,
+        span: at(0),
+        children: None,
+        named: &[name],
+        absent: "u8",
+    };
+    let arguments = list_of(rt, None);
+    has_tree(
+        rt,
+        WrittenType::Path(path(rt, &[], name, arguments, 0)),
+        &shape,
+    )
+}
+
+/// Whether the name with a list of one type is a container of the kind.
+fn has_list<R: Abort + AllocGlobal>(rt: &R, name: &str, kind: Option<GenericType>) -> bool {
+    let shape = Shape {
+        has_path: true,
+        value_type: ValueType::Object,
+        generic_type: kind,
+        span: at(3),
+        children: Some(1),
+        named: &[name, "u8"],
+        absent: "b",
+    };
+    let arguments = list_of(rt, Some(plain(rt, "u8")));
+    has_tree(
+        rt,
+        WrittenType::Path(path(rt, &["a", "b"], name, arguments, 3)),
+        &shape,
+    )
+}
+
 #[test]
-fn containers_have_argument_lists(rt: HostRuntime) -> Result<(), Fail> {
-    let alloc = rt.alloc();
-    for (name, kind) in CONTAINERS {
-        let bare = plain(alloc, name)?;
-        assert!(rt; TypeTree::from_type(alloc, &bare)?.generic_type.is_none());
-        let empty = WrittenType::Path(path(alloc, &[], name, list_of(alloc, None)?, 0)?);
-        let tree = TypeTree::from_type(alloc, &empty)?;
-        assert!(rt; tree.generic_type == kind && tree.children.is_none());
-        let items = list_of(alloc, Some(plain(alloc, "u8")?))?;
-        let full = WrittenType::Path(path(alloc, &["a", "b"], name, items, 3)?);
-        let tree = TypeTree::from_type(alloc, &full)?;
-        assert!(rt; tree.generic_type == kind && tree.value_type == ValueType::Object);
-        assert!(rt; tree.is_option() == (name == "Option"));
-        assert!(rt; tree.is_map() == (kind == Some(GenericType::Map)));
-        assert!(rt; tree.is("u8") && tree.is(name) && !tree.is("b"));
-        assert!(rt; tree.span == Some(Span { start: 3, end: 3 }));
-        assert!(rt; tree.children.ok_or("no children")?.len() == 1);
+fn containers_have_argument_lists(rt: HostRuntime) {
+    for row in &CONTAINERS {
+        let (name, kind) = *row;
+        let right = has_bare_tree(&rt, name, "")
+            && has_empty_list(&rt, name, kind)
+            && has_list(&rt, name, kind);
+        assert!(rt; right, "{name}");
     }
-    Ok(())
 }
 
-fn span() -> Span {
-    Span { start: 2, end: 9 }
+const SPAN: Span = Span { start: 2, end: 9 };
+
+fn text<R: Abort + AllocGlobal>(rt: &R) -> WrittenType {
+    WrittenType::Reference(boxed(rt, "str"))
 }
 
-fn have_one_tree<'t>(
-    alloc: Global,
-    one: &'t WrittenType,
-    other: &'t WrittenType,
-) -> Result<bool, AllocError> {
-    let tree = TypeTree::from_type(alloc, one)?;
-    let second = TypeTree::from_type(alloc, other)?;
-    Ok(tree == second)
+fn bytes<R: Abort + AllocGlobal>(rt: &R) -> WrittenType {
+    WrittenType::Array(boxed(rt, "u8"), SPAN)
 }
 
-fn has_equal_copy(alloc: Global, ty: &WrittenType) -> Result<bool, AllocError> {
-    let tree = TypeTree::from_type(alloc, ty)?;
-    let copy = tree.copy(alloc)?;
-    Ok(copy == tree)
+fn part<R: Abort + AllocGlobal>(rt: &R) -> WrittenType {
+    WrittenType::Slice(boxed(rt, "u8"), Span::nowhere())
 }
 
-#[test]
-fn lists_and_references(rt: HostRuntime) -> Result<(), Fail> {
-    let alloc = rt.alloc();
-    let text = WrittenType::Reference(Box::new(alloc, plain(alloc, "str")?)?);
-    let bytes = WrittenType::Array(Box::new(alloc, plain(alloc, "u8")?)?, span());
-    let part = WrittenType::Slice(Box::new(alloc, plain(alloc, "u8")?)?, Span::nowhere());
-    assert!(rt; have_one_tree(alloc, &bytes, &part)? && !have_one_tree(alloc, &bytes, &text)?);
-    assert!(rt; have_one_tree(alloc, &text, &plain(alloc, "str")?)?);
-    assert!(rt; has_equal_copy(alloc, &bytes)?);
-    let tree = TypeTree::from_type(alloc, &text)?;
-    assert!(rt; tree.value_type == ValueType::Primitive && tree.is("str"));
-    let array = TypeTree::from_type(alloc, &bytes)?;
-    assert!(rt; array.generic_type == Some(GenericType::Vec) && array.span == Some(span()));
-    assert!(rt; array.is("Array") && array.is("u8"));
-    Ok(())
+fn unit<R: Abort + AllocGlobal>(rt: &R) -> WrittenType {
+    WrittenType::Tuple(List::new(rt.alloc()), SPAN)
+}
+
+fn single<R: Abort + AllocGlobal>(rt: &R) -> WrittenType {
+    let mut items = List::new(rt.alloc());
+    add(rt, &mut items, plain(rt, "i32"));
+    WrittenType::Tuple(items, SPAN)
+}
+
+fn have_one_tree<R: Abort + AllocGlobal>(rt: &R, one: WrittenType, other: WrittenType) -> bool {
+    tree_of(rt, &one) == tree_of(rt, &other)
 }
 
 #[test]
-fn tuples_and_trait_objects(rt: HostRuntime) -> Result<(), Fail> {
-    let alloc = rt.alloc();
-    let unit = WrittenType::Tuple(List::new(alloc), span());
-    let mut items = List::new(alloc);
-    items.push(plain(alloc, "i32")?)?;
-    let single = WrittenType::Tuple(items, span());
-    assert!(rt; !have_one_tree(alloc, &unit, &single)?);
-    let nothing = TypeTree::from_type(alloc, &unit)?;
-    assert!(rt; nothing.value_type == ValueType::Tuple && nothing.path.is_none());
-    assert!(rt; nothing.span.is_none() && nothing.children.is_none());
-    let tuple = TypeTree::from_type(alloc, &single)?;
-    assert!(rt; tuple.value_type == ValueType::Tuple && tuple.span == Some(span()));
-    assert!(rt; tuple.is("i32") && !tuple.is_option());
-    let bound = path(
-        alloc,
-        &[],
-        "A",
-        list_of(alloc, Some(plain(alloc, "T")?))?,
-        4,
-    )?;
-    let object = WrittenType::TraitObject(bound, span());
-    let tree = TypeTree::from_type(alloc, &object)?;
-    assert!(rt; tree.is("A") && tree.is("T") && tree.value_type == ValueType::Object);
-    assert!(rt; tree.span == Some(Span { start: 4, end: 4 }) && tree.generic_type.is_none());
-    Ok(())
+fn trees_are_equal(rt: HostRuntime) {
+    assert!(rt; have_one_tree(&rt, bytes(&rt), part(&rt)));
+    assert!(rt; !have_one_tree(&rt, bytes(&rt), text(&rt)));
+    assert!(rt; have_one_tree(&rt, text(&rt), plain(&rt, "str")));
+    assert!(rt; !have_one_tree(&rt, unit(&rt), single(&rt)));
+}
+
+const TEXT: Shape<'static> = Shape {
+    has_path: true,
+    value_type: ValueType::Primitive,
+    generic_type: None,
+    span: Some(Span { start: 0, end: 0 }),
+    children: None,
+    named: &["str"],
+    absent: "Array",
+};
+
+const BYTES: Shape<'static> = Shape {
+    has_path: true,
+    value_type: ValueType::Object,
+    generic_type: Some(GenericType::Vec),
+    span: Some(SPAN),
+    children: Some(1),
+    named: &["Array", "u8"],
+    absent: "Vec",
+};
+
+#[test]
+fn lists_and_references(rt: HostRuntime) {
+    assert!(rt; has_tree(&rt, text(&rt), &TEXT));
+    assert!(rt; has_tree(&rt, bytes(&rt), &BYTES));
+}
+
+const UNIT: Shape<'static> = Shape {
+    has_path: false,
+    value_type: ValueType::Tuple,
+    generic_type: None,
+    span: None,
+    children: None,
+    named: &[],
+    absent: "",
+};
+
+const SINGLE: Shape<'static> = Shape {
+    has_path: false,
+    value_type: ValueType::Tuple,
+    generic_type: None,
+    span: Some(SPAN),
+    children: Some(1),
+    named: &["i32"],
+    absent: "",
+};
+
+#[test]
+fn tuples(rt: HostRuntime) {
+    assert!(rt; has_tree(&rt, unit(&rt), &UNIT));
+    assert!(rt; has_tree(&rt, single(&rt), &SINGLE));
+}
+
+const BOUND: Shape<'static> = Shape {
+    has_path: true,
+    value_type: ValueType::Object,
+    generic_type: None,
+    span: Some(Span { start: 4, end: 4 }),
+    children: Some(1),
+    named: &["A", "T"],
+    absent: "B",
+};
+
+#[test]
+fn trait_objects(rt: HostRuntime) {
+    let arguments = list_of(&rt, Some(plain(&rt, "T")));
+    let object = WrittenType::TraitObject(path(&rt, &[], "A", arguments, 4), SPAN);
+    assert!(rt; has_tree(&rt, object, &BOUND));
 }
