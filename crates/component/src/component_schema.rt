@@ -19,10 +19,10 @@ use written_types::WrittenType;
 
 /// A place by its written type, and what is said of it.
 #[derive(Clone, Copy)]
-pub struct ComponentSchemaProps<'c> {
+pub struct ComponentSchemaProps<'c, 't> {
     pub container: &'c Container<'c>,
     /// The tree of `written`.
-    pub type_tree: &'c TypeTree<'c>,
+    pub type_tree: &'c TypeTree<'t>,
     pub written: &'c WrittenType,
     /// Whether null may stand there.
     pub nullable: bool,
@@ -71,7 +71,7 @@ impl ComponentSchema {
     /// references around it.
     pub fn new(
         alloc: Global,
-        props: ComponentSchemaProps<'_>,
+        props: ComponentSchemaProps<'_, '_>,
     ) -> Result<ComponentSchema, DeriveError>
         requires { IsScoped props }
         ensures schema { IfOk result (λ c. IsSchemaOf true props.entry c) }
@@ -84,7 +84,7 @@ impl ComponentSchema {
     /// `Option` does not say that null may stand there. It refuses as `new` does.
     pub fn for_params(
         alloc: Global,
-        props: ComponentSchemaProps<'_>,
+        props: ComponentSchemaProps<'_, '_>,
         option_is_nullable: bool,
     ) -> Result<ComponentSchema, DeriveError>
         requires { IsScoped props }

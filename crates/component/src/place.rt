@@ -34,11 +34,19 @@ fn declared(alloc: Global, at: Place<'_>, ty: &OpenType) -> Result<Term, AllocEr
     let of = ty.copy(alloc)?;
     if at.inline {
         let notes = Notes::new();
-        let leaf = TermLeaf::Named { of, inline: true, notes };
+        let leaf = TermLeaf::Named {
+            of,
+            inline: true,
+            notes,
+        };
         in_place(alloc, at.nullable, at.description, Tree::Leaf(leaf))
     } else {
         let notes = noted(alloc, false, at.description)?;
-        let leaf = TermLeaf::Named { of, inline: false, notes };
+        let leaf = TermLeaf::Named {
+            of,
+            inline: false,
+            notes,
+        };
         or_null(alloc, at.nullable, Tree::Leaf(leaf))
     }
 }
@@ -82,7 +90,14 @@ fn typed_place(alloc: Global, at: Place<'_>, ty: &OpenType) -> Result<Term, Allo
 {
     let nullable = at.nullable;
     match ty {
-        OpenType::Option(of) => typed_place(alloc, Place { nullable: true, ..at }, of),
+        OpenType::Option(of) => typed_place(
+            alloc,
+            Place {
+                nullable: true,
+                ..at
+            },
+            of,
+        ),
         OpenType::Through(_, of) => typed_place(alloc, at, of),
         OpenType::Param(parameter) => argument(alloc, at, *parameter),
         OpenType::Named(_, _) => declared(alloc, at, ty),
