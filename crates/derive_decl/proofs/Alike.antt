@@ -1,5 +1,5 @@
 -- Types that are all the same, from the first on.
-use Rattle.std.proofs.Common.{ℕ, ◌+◌, ◌<◌, List, Bool, true, false, not, ◌&&◌, length, get_or, drop, map, ◌≡◌, refl, sym, add-one, drop-cons}
+use Rattle.std.proofs.Common.{ℕ, ◌+◌, ◌<◌, List, Bool, true, false, not, ◌&&◌, length, get_or, drop, map, ◌≡◌, refl, add-one, drop-cons}
 use Rattle.open_types.specs.declared.open_type.OpenType.{OpenType}
 use Rattle.open_types.specs.Open.{Open, open_view}
 use Rattle.open_types.specs.Same.{same_type}

@@ -1,13 +1,13 @@
 -- The schemas of members.
-use Rattle.std.proofs.Common.{ℕ, ◌+◌, ◌<◌, List, [], ◌∷◌, ◌++◌, Bool, true, false, None, cond, length, take, get_or, map, ◌≡◌, refl, ap, sym, ◌∙◌}
+use Rattle.std.proofs.Common.{ℕ, ◌+◌, ◌<◌, List, [], ◌∷◌, ◌++◌, Bool, true, false, cond, length, take, get_or, map, ◌≡◌, refl, ap, sym, ◌∙◌}
 use Rattle.std.proofs.lemmas.List.{take_more, map_push}
-use Rattle.open_types.specs.Open.{open_view}
+use Rattle.open_types.specs.Open.{Open, open_view}
 use Rattle.schema_core.specs.Schema.{SchemaOf}
 use Rattle.schema_core.specs.Schema as tree
 use Rattle.component.specs.Leaves.{LeafOf}
 use Rattle.component.specs.Places.{place}
 use Rattle.derive_decl.specs.declared.member.Member.{Member}
-use Rattle.derive_decl.specs.Structs.{MemberOf, is_required}
+use Rattle.derive_decl.specs.Structs.{MemberOf, is_required, member_types}
 use Rattle.derive_decl.specs.Terms.{properties_of, required_names}
 use Rattle.derive_decl.specs.Views.{member_view}
 
@@ -18,6 +18,14 @@ property_of m = (m.ident.text, place false false false m.description (open_view 
 pub properties_are : (ms : List Member) → tree.properties_of (map property_of ms) ≡ properties_of (map member_view ms)
 properties_are [] = refl
 properties_are (m ∷ ms) = ap (tree.property m.ident.text (place false false false m.description (open_view m.ty))) (properties_are ms)
+
+-- a member's type
+abbrev pub type_in : Member → Open
+type_in m = open_view m.ty
+
+pub types_are : (ms : List Member) → map type_in ms ≡ member_types (map member_view ms)
+types_are [] = refl
+types_are (m ∷ ms) = ap (λ ts. open_view m.ty ∷ ts) (types_are ms)
 
 required-push : (ms : List MemberOf) (m : MemberOf) → required_names (ms ++ m ∷ []) ≡ required_names ms ++ cond (is_required m) (m.name ∷ []) []
 required-push [] m = refl

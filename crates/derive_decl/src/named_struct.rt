@@ -106,11 +106,7 @@ fn required_of(alloc: Global, members: &[Member]) -> Result<List<Text>, AllocErr
 }
 
 /// An object with these properties.
-fn object_of(
-    properties: List<(Text, Term)>,
-    required: List<Text>,
-    notes: Notes,
-) -> Object<TermLeaf>
+fn object_of(properties: List<(Text, Term)>, required: List<Text>, notes: Notes) -> Object<TermLeaf>
     ensures { object_view leaf_view result ≡ object_of notes required (named_views leaf_view properties) }
 {
     Object {

@@ -3,19 +3,21 @@
 ghost use Rattle.std.specs.Prelude.{◌≡◌, ◌⊎◌, map, IfOk, IfErr, Some, option_map};
 ghost use Rattle.std.specs.List.{AllByRecursion};
 ghost use Rattle.schema_core.specs.Meaning.{IsDistinct};
+ghost use Rattle.open_types.specs.Open.{open_view};
 ghost use Rattle.scopes.specs.Scopes.{IsScope};
 ghost use Rattle.syntax.specs.Items.{fields_view, body_view};
-ghost use Rattle.derive_decl.specs.Structs.{form_of, body_form, description_of, struct_from, names_of};
+ghost use Rattle.derive_decl.specs.Structs.{form_of, body_form, description_of, struct_from, names_of, types_of};
 ghost use Rattle.derive_decl.specs.Faults.{fields_in, IsSmall, HasSmall, AreFaulty, IsFaultyBody};
 ghost use Rattle.derive_decl.specs.Views.{known, form_view, form_description, struct_view};
 
 use crate::named_struct::NamedStructSchema;
 use crate::root::Root;
-use crate::structs::{Form, Struct};
+use crate::structs::{Form, Struct, types_of};
 use crate::unit_struct::UnitStructVariant;
 use crate::unnamed_struct::UnnamedStructSchema;
-use component::Container;
-use diag::DeriveError;
+use component::{Container, Term, ToTerm};
+use diag::{DeriveError, List};
+use open_types::OpenType;
 use std::alloc::Global;
 use syntax::{Attribute, Body, Fields, Ident};
 
@@ -105,5 +107,39 @@ impl<'a> Schema<'a> {
             form: body_form(alloc, &root, self.body)?,
             name: self.ident.text.copy(alloc)?,
         })
+    }
+
+    /// The types of the declaration's places, in order.
+    ///
+    /// It is refused as `resolve` is.
+    pub fn place_types(&self, alloc: Global) -> Result<List<OpenType>, DeriveError>
+        requires { IsScope self.now.container.now.scope.now }
+        ensures types { IfOk result (λ ts. option_map types_of (body_form (known self.now.container.now) (body_view self.now.body.now)) ≡ Some (map open_view ts)) }
+        ensures small { IfOk result (λ _. HasSmall (body_view self.now.body.now)) }
+        ensures refused { IfErr result (λ e. (e ≡ DeriveError.Memory) ⊎ IsFaultyBody (known self.now.container.now) self.now.ident.now (body_view self.now.body.now) e) }
+    {
+        let resolved = self.resolve(alloc)?;
+        Ok(types_of(alloc, resolved.form)?)
+    }
+}
+
+impl ToTerm for Schema<'_> {
+    ghost use Rattle.std.specs.Prelude.{◌≡◌, Some, option_map};
+    ghost use Rattle.scopes.specs.Scopes.{IsScope};
+    ghost use Rattle.syntax.specs.Items.{body_view};
+    ghost use Rattle.derive_decl.specs.Structs.{StructOf, body_form, struct_from};
+    ghost use Rattle.derive_decl.specs.Terms.{term};
+    ghost use Rattle.derive_decl.specs.Faults.{IsFaultyBody};
+    ghost use Rattle.derive_decl.specs.Views.{known};
+
+    ghost is_ready = { λ s. IsScope s.container.now.scope.now };
+
+    ghost has_term = { λ s t. (of : StructOf) × (option_map (struct_from s.attributes.now s.ident.now) (body_form (known s.container.now) (body_view s.body.now)) ≡ Some of) × (t ≡ term of) };
+
+    ghost is_refused = { λ s e. IsFaultyBody (known s.container.now) s.ident.now (body_view s.body.now) e };
+
+    fn to_term(&self, alloc: Global) -> Result<Term, DeriveError> {
+        let resolved = self.resolve(alloc)?;
+        resolved.to_term(alloc)
     }
 }

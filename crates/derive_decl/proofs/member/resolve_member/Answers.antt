@@ -1,7 +1,6 @@
 use Rattle.std.proofs.Common.{Some, ap, sym, ◌∙◌}
 use Rattle.open_types.specs.Open.{open_view}
 use Rattle.resolving.specs.Resolved.{type_of}
-use Rattle.syntax.specs.Items.{field_view}
 use Rattle.written_types.specs.Written.{written_view}
 use Rattle.derive_decl.specs.Structs.{description_of, member_from, member_as}
 use Rattle.derive_decl.specs.Views.{known}

@@ -1,7 +1,7 @@
-use Rattle.std.proofs.Common.{◌≡◌, map, sym, subst, inl, inr}
+use Rattle.std.proofs.Common.{map, sym, subst, inl, inr}
 use Rattle.std.proofs.lemmas.Result.{err_from_is_err_and}
 use Rattle.syntax.specs.Items.{field_view, fields_view}
-use Rattle.derive_decl.specs.Faults.{AreFaulty, AreFaultyMembers, AreFaultyTypes}
+use Rattle.derive_decl.specs.Faults.{AreFaulty, AreFaultyMembers}
 use Rattle.derive_decl.specs.Views.{known}
 use Rattle.derive_decl.proofs.schema.fields_form.Goals as goal
 
@@ -14,5 +14,5 @@ returns-in_err-new-in-Named-clause-refused c =
     (elim c.in_err-new-in-Named.ensures.refused [
       | inl memory ↦ inl memory
       | inr fault ↦ inr (subst (λ b. AreFaulty (known root.container.now) root.ident.now (fields_view b) e) (sym c.in-Named.is)
-        (subst (λ fs. AreFaultyMembers (known root.container.now) (map field_view fs) e) c.as_slice.ensures fault))
+          (subst (λ fs. AreFaultyMembers (known root.container.now) (map field_view fs) e) c.as_slice.ensures fault))
     ])

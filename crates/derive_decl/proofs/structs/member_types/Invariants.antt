@@ -1,0 +1,8 @@
+use Rattle.std.proofs.Common.{◌≡◌, map, take}
+use Rattle.open_types.specs.Open.{open_view}
+use Rattle.derive_decl.proofs.Members.{type_in}
+use Rattle.derive_decl.proofs.structs.member_types.Given as goal
+
+-- the types so far are those of the members so far
+abbrev pub invariant-loop-member : goal.invariant-loop-member
+invariant-loop-member l = map open_view l.types ≡ map type_in (take l.member-index l.members)
