@@ -94,11 +94,7 @@ pub(crate) fn only_word(alloc: Global, ty: TypeWord, notes: Notes) -> Result<Ter
 }
 
 /// Any object, or null where it may be.
-pub fn any_object(
-    alloc: Global,
-    nullable: bool,
-    notes: Notes,
-) -> Result<Term, AllocError>
+pub fn any_object(alloc: Global, nullable: bool, notes: Notes) -> Result<Term, AllocError>
     ensures { IfOk result (λ s. term_view s ≡ only_word (type_word nullable SchemaTypeInner.Object) notes) }
 {
     only_word(alloc, type_word(nullable, SchemaTypeInner::Object), notes)
@@ -138,11 +134,7 @@ pub(crate) fn leaf_object(
 fn one_of_null(alloc: Global, schema: Term, notes: Notes) -> Result<Term, AllocError>
     ensures { IfOk result (λ s. term_view s ≡ one_of_null notes (term_view schema)) }
 {
-    let null = only_word(
-        alloc,
-        TypeWord::One(SchemaTypeInner::Null),
-        Notes::new(),
-    )?;
+    let null = only_word(alloc, TypeWord::One(SchemaTypeInner::Null), Notes::new())?;
     let mut items = List::new(alloc);
     items.push(schema)?;
     items.push(null)?;
@@ -161,11 +153,7 @@ pub(crate) fn or_null(alloc: Global, nullable: bool, schema: Term) -> Result<Ter
 }
 
 /// The schema beside its description, where there is one.
-fn beside(
-    alloc: Global,
-    description: &Option<Text>,
-    schema: Term,
-) -> Result<Term, AllocError>
+fn beside(alloc: Global, description: &Option<Text>, schema: Term) -> Result<Term, AllocError>
     ensures { IfOk result (λ s. term_view s ≡ beside description.now (term_view schema)) }
 {
     if description.is_none() {
