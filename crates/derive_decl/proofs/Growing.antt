@@ -7,11 +7,13 @@ use Rattle.written_types.specs.declared.written.Ident.{Ident}
 use Rattle.syntax.specs.declared.item.Field.{Field}
 use Rattle.syntax.specs.Items.{FieldItem, field_view}
 use Rattle.resolving.specs.Resolved.{Somewhere}
+use Rattle.schema_core.specs.Meaning.{IsDistinct}
 use Rattle.scopes.specs.Names.{texts}
 use Rattle.derive_decl.specs.declared.member.Member.{Member}
-use Rattle.derive_decl.specs.Structs.{all_of, member_names}
+use Rattle.derive_decl.specs.Structs.{StructOf, all_of, member_names, names_of}
 use Rattle.derive_decl.specs.Faults.{with_ident, field_idents}
 use Rattle.derive_decl.specs.Views.{member_view}
+use Rattle.derive_decl.specs.Whole.{MembersDiffer}
 
 -- ---- one more
 
@@ -57,6 +59,11 @@ facts_more P u items i item l is h p =
     (all-push P (map u (take i items)) (u (get_or items i item)) h (subst (λ x. P (u x)) is p))
 
 -- ---- names
+
+-- no two members of the structs so far have one name, nor of one more
+pub differ-push : (ss : List StructOf) (s : StructOf) → MembersDiffer ss → IsDistinct (names_of s.form) → MembersDiffer (ss ++ s ∷ [])
+differ-push [] s d h = (h, tt)
+differ-push (t ∷ ss) s d h = (d.0, differ-push ss s d.1 h)
 
 -- the identifiers of the fields so far, and one more
 field_idents-push : (fs : List FieldItem) (f : FieldItem) (x : Ident) → f.ident ≡ Some x → field_idents (fs ++ f ∷ []) ≡ field_idents fs ++ x ∷ []
