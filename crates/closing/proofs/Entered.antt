@@ -1,5 +1,5 @@
 -- Components of structs that are entered one after another.
-use Rattle.std.proofs.Common.{ℕ, zero, suc, ◌<◌, List, [], ◌∷◌, Option, Some, None, is_some, IsTrue, Bool, true, false, cond, bytes_eq, length, String, string_bytes, nat_cmp, Ordering, Less, Equal, Greater, is_eq, ◌≡◌, refl, ap, sym, subst, ◌∙◌, arith, ◌⊎◌, inl, inr, ◌||◌, option_map, ◌↔◌}
+use Rattle.std.proofs.Common.{ℕ, zero, suc, ◌<◌, List, [], ◌∷◌, Option, Some, None, is_some, IsTrue, Bool, true, false, cond, bytes_eq, length, map, get_or, String, string_bytes, nat_cmp, Ordering, Less, Equal, Greater, is_eq, ◌≡◌, refl, ap, sym, subst, ◌∙◌, arith, ◌⊎◌, inl, inr, ◌||◌, option_map, ◌↔◌}
 use Rattle.std.specs.Cmp.Lexicographic.{slice_cmp}
 use Rattle.std.specs.BTreeMap.{is_at}
 use Rattle.std.specs.Map.{lookup}
@@ -15,12 +15,22 @@ use Rattle.schema_core.specs.declared.tree.RefLeaf.{RefLeaf}
 use Rattle.schema_core.specs.Schema.{SchemaOf}
 use Rattle.schema_core.specs.Document.{Entry}
 use Rattle.schema_core.specs.Entries.{find, names_of, with_entry, IsInOrder}
-use Rattle.closing.specs.Types.{StructOf, struct_at, struct_names}
-use Rattle.closing.specs.Terms.{struct_schema}
-use Rattle.closing.specs.Derived.{place_in, AreComponents}
+use Rattle.scopes.specs.Names.{place_in}
+use Rattle.derive_decl.specs.declared.structs.Struct.{Struct}
+use Rattle.derive_decl.specs.Structs.{StructOf, struct_at, struct_names}
+use Rattle.derive_decl.specs.Views.{struct_view}
+use Rattle.closing.specs.Closed.{struct_schema}
+use Rattle.closing.specs.Described.{AreComponents}
 use Rattle.acceptance.specs.Json.{is_in}
 use Rattle.schema_core.specs.Meaning.{IsDistinct}
-use Rattle.closing.proofs.Growing.{some_same}
+
+some_same : {A : Type 0} (a b : A) → Some a ≡ Some b → a ≡ b
+some_same a b e = grind arith
+
+pub struct_at-view : (structs : List Struct) (d : ℕ) (x : Struct) → d < length structs → struct_at (map struct_view structs) d ≡ struct_view (get_or structs d x)
+struct_at-view [] d x l = absurd (omega arith)
+struct_at-view (s ∷ structs) zero x l = refl
+struct_at-view (s ∷ structs) (suc d) x l = struct_at-view structs d x (omega arith)
 
 -- each component is of a struct, under its name, and they are in order
 pub record AreKnown (ss : List StructOf) (components : List Entry) : Type 0 where

@@ -5,12 +5,10 @@ use Rattle.std.specs.BTreeMap.{get_by_text}
 use Rattle.std.specs.Map.Iter.{deref_pair}
 use Rattle.std.specs.String.{string_cmp_total}
 use Rattle.std.proofs.lemmas.Map.Iter.{btree_map_turn}
-use Rattle.closing.specs.Types.{struct_view, struct_at}
-use Rattle.closing.specs.Derived.{MembersWithin}
-use Rattle.closing.specs.declared.structs.Struct.{Struct}
-use Rattle.closing.specs.Terms.{struct_schema}
-use Rattle.closing.proofs.Entered.{known_none, placed, known_more, left_more, all_entered, AreKnown, AreLeft, at_text}
-use Rattle.closing.proofs.Places.{struct_at-view, members_at}
+use Rattle.derive_decl.specs.Structs.{struct_at}
+use Rattle.derive_decl.specs.Views.{struct_view}
+use Rattle.closing.specs.Closed.{struct_schema}
+use Rattle.closing.proofs.Entered.{known_none, placed, known_more, left_more, all_entered, struct_at-view, AreKnown, AreLeft, at_text}
 use Rattle.closing.proofs.components.components_of.Goals as goal
 
 pub loop-name-init : goal.loop-name-init
@@ -39,16 +37,6 @@ offset_bounds-structs-place c =
     let within : c.in-Some.place.now < length structs = subst (λ n. c.in-Some.place.now < n) (length-map structs struct_view) at.0 in
     search rules
 
-pub struct_schema-requires : goal.struct_schema-requires
-struct_schema-requires c =
-    let structs = c.args.structs.now in
-    let ss = map struct_view structs in
-    let turn = btree_map_turn deref_pair c.loop-name.yielded c.into_iter-name-iterator.result c.loop-name.name-iterator c.next.new.self c.next.result (c.in-Some.name, c.in-Some.place) c.loop-name.yielded_by c.in-Some.is c.next.ensures.steps string_cmp_total c.args.places.now (search rules) (search rules) in
-    let at = placed ss (string_bytes c.in-Some.name.now) c.in-Some.place.now (sym (c.requires.places (string_bytes c.in-Some.name.now)) ∙ turn.1) in
-    let within : c.in-Some.place.now < length structs = subst (λ n. c.in-Some.place.now < n) (length-map structs struct_view) at.0 in
-    subst (λ (s : Struct). MembersWithin (length structs) (struct_view s).members) (sym c.index-structs-place.is)
-    (members_at (length structs) structs c.in-Some.place.now c.index-structs-place.result c.requires.within within)
-
 pub loop-name-preserved : goal.loop-name-preserved
 loop-name-preserved c =
     let structs = c.args.structs.now in
@@ -59,7 +47,7 @@ loop-name-preserved c =
     let name : c.in_ok-new.field-0 ≡ string_bytes c.in-Some.name.now = c.in_ok-new.ensures ∙ c.as_str.ensures.value in
     let here : struct_view c.index-structs-place.result ≡ struct_at ss c.in-Some.place.now =
     ap struct_view c.index-structs-place.is ∙ sym (struct_at-view structs c.in-Some.place.now c.index-structs-place.result within) in
-    let schema : schema_view c.in_ok-schema.schema ≡ struct_schema ss (struct_at ss c.in-Some.place.now) = c.in_ok-schema.ensures ∙ ap (struct_schema ss) here in
+    let schema : schema_view c.in_ok-schema.schema ≡ struct_schema ss (struct_at ss c.in-Some.place.now) = c.in_ok-schema.ensures.schema ∙ ap (struct_schema ss) here in
     record {
       can = tt;
       finite = tt;
@@ -70,6 +58,6 @@ loop-name-preserved c =
           (subst (λ es. AreLeft (get_by_text c.args.places.now) es c.loop-name.components) c.in-Some.ensures.steps c.loop-name.invariant.left);
     }
 
-pub returns : goal.returns
-returns c =
+pub returns-clause-components : goal.returns-clause-components
+returns-clause-components c =
     all_entered (map struct_view c.args.structs.now) (get_by_text c.args.places.now) c.loop-name.name-iterator c.loop-name.components c.requires.distinct c.requires.places c.in-None.ensures.steps.0 c.loop-name.invariant.known c.loop-name.invariant.left

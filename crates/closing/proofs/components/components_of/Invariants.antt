@@ -1,6 +1,6 @@
 use Rattle.std.proofs.Common.{map}
 use Rattle.std.specs.BTreeMap.{get_by_text}
-use Rattle.closing.specs.Types.{struct_view}
+use Rattle.derive_decl.specs.Views.{struct_view}
 use Rattle.closing.proofs.Entered.{AreKnown, AreLeft}
 use Rattle.closing.proofs.components.components_of.Given as goal
 
