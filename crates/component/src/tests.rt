@@ -225,6 +225,28 @@ const PLACES: [(&str, &str, &str); 22] = [
     ),
 ];
 
+/// What is said of a place, its type, and the declarations that its schema names.
+const NAMED: [(&str, &str, &str); 6] = [
+    ("references", "Vec<B>", " Reference1"),
+    ("references inline", "Option<Box<B>>", " Inline1"),
+    (
+        "references",
+        "HashMap<B, (B, Vec<B>)>",
+        " Inline1 Inline1 Inline1",
+    ),
+    (
+        "references",
+        "HashMap<B, (A, Vec<B>)>",
+        " Inline1 Inline0 Inline1",
+    ),
+    (
+        "references parameter",
+        "Option<Map<A, HashSet<B>>>",
+        " Inline0 Reference1",
+    ),
+    ("references", "Vec<(u8, Value, Object)>", ""),
+];
+
 /// References at the leaves of a term.
 struct References;
 
@@ -339,6 +361,51 @@ fn made(
     }
 }
 
+/// The declarations that a schema names: `ReferenceN` or `InlineN` for that at the place N.
+fn references_text(alloc: Global, references: &[SchemaReference]) -> Result<String, AllocError> {
+    let mut text = String::new(alloc);
+    for reference in references {
+        text.push(' ')?;
+        text.push_str(named(alloc, &reference.of, reference.is_inline)?.as_str())?;
+        if reference.no_recursion {
+            text.push('!')?;
+        }
+    }
+    Ok(text)
+}
+
+fn made_text(alloc: Global, said: &str, made: &ComponentSchema) -> Result<String, Fail> {
+    if said.contains("references") {
+        Ok(references_text(alloc, made.schema_references.as_slice())?)
+    } else {
+        term_text(alloc, &made.to_term(alloc)?)
+    }
+}
+
+fn shown(alloc: Global, scope: &Scope<'_>, said: &str, written: &str) -> Result<String, Fail>
+    requires { IsScope scope.now }
+{
+    match made(alloc, scope, said, written) {
+        Ok(made) => made_text(alloc, said, &made),
+        Err(error) => Ok(refusal_text(alloc, &error)?),
+    }
+}
+
+fn makes_in(
+    rt: &impl Abort,
+    alloc: Global,
+    scope: &Scope<'_>,
+    cases: &[(&str, &str, &str)],
+) -> Result<(), Fail>
+    requires { IsScope scope.now }
+{
+    for (said, written, expected) in cases {
+        let found = shown(alloc, scope, said, written)?;
+        assert_eq!(rt; found.as_str(), *expected, "{said} {written}");
+    }
+    Ok(())
+}
+
 fn makes(rt: &impl Abort, alloc: Global, cases: &[(&str, &str, &str)]) -> Result<(), Fail> {
     let declarations = parse_declarations(alloc, SOURCE)?;
     let places = declared_places(alloc, &declarations)?;
@@ -348,14 +415,7 @@ fn makes(rt: &impl Abort, alloc: Global, cases: &[(&str, &str, &str)]) -> Result
         places: &places,
         owner: 0,
     };
-    for (said, written, expected) in cases {
-        let found = match made(alloc, &scope, said, written) {
-            Ok(made) => term_text(alloc, &made.to_term(alloc)?)?,
-            Err(error) => refusal_text(alloc, &error)?,
-        };
-        assert_eq!(rt; found.as_str(), *expected, "{said} {written}");
-    }
-    Ok(())
+    makes_in(rt, alloc, &scope, cases)
 }
 
 #[test]
@@ -385,50 +445,9 @@ fn refuses_large_types(rt: HostRuntime) -> Result<(), Fail> {
     makes(&rt, alloc, [("", written.as_str(), message)].as_slice())
 }
 
-/// What is said of a place, its type, and the declarations that its schema names.
-const NAMED: [(&str, &str, &str); 6] = [
-    ("", "Vec<B>", " Reference1"),
-    ("inline", "Option<Box<B>>", " Inline1"),
-    ("", "HashMap<B, (B, Vec<B>)>", " Inline1 Inline1 Inline1"),
-    ("", "HashMap<B, (A, Vec<B>)>", " Inline1 Inline0 Inline1"),
-    (
-        "parameter",
-        "Option<Map<A, HashSet<B>>>",
-        " Inline0 Reference1",
-    ),
-    ("", "Vec<(u8, Value, Object)>", ""),
-];
-
-fn references_text(alloc: Global, references: &[SchemaReference]) -> Result<String, AllocError> {
-    let mut text = String::new(alloc);
-    for reference in references {
-        text.push(' ')?;
-        text.push_str(named(alloc, &reference.of, reference.is_inline)?.as_str())?;
-        if reference.no_recursion {
-            text.push('!')?;
-        }
-    }
-    Ok(text)
-}
-
 #[test]
 fn names_declarations(rt: HostRuntime) -> Result<(), Fail> {
-    let alloc = rt.alloc();
-    let declarations = parse_declarations(alloc, SOURCE)?;
-    let places = declared_places(alloc, &declarations)?;
-    assert_eq!(rt; declarations.items.len(), 2);
-    let scope = Scope {
-        declarations: &declarations,
-        places: &places,
-        owner: 1,
-    };
-    for (said, written, expected) in NAMED {
-        let made = made(alloc, &scope, said, written)?;
-        let found = references_text(alloc, made.schema_references.as_slice())?;
-        assert_eq!(rt; found.as_str(), expected, "{written}");
-        assert!(rt; made.warnings.is_empty());
-    }
-    Ok(())
+    makes(&rt, rt.alloc(), NAMED.as_slice())
 }
 
 /// Whether null may stand at the place of an argument, whether it is inline, and its schema.
