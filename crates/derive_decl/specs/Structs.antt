@@ -94,15 +94,17 @@ member_as description (Some x) t = option_map (member_from x description) t
 abbrev pub member_of : (List ℕ → Option ℕ) → FieldItem → Option MemberOf
 member_of place_of f = member_as (description_of f.attrs) f.ident (type_of place_of f.ty)
 
+-- the form, where each type stands for something; of unnamed fields there is at least one
 abbrev pub form_of : (List ℕ → Option ℕ) → FieldItems → Option FormOf
 form_of place_of (named fs) = option_map named_fields (all_of (member_of place_of) fs)
-form_of place_of (unnamed fs) = option_map unnamed_fields (all_of (λ f. type_of place_of f.ty) fs)
+form_of place_of (unnamed []) = None
+form_of place_of (unnamed (f ∷ fs)) = option_map unnamed_fields (all_of (λ g. type_of place_of g.ty) (f ∷ fs))
 form_of place_of unit = Some no_fields
 
 abbrev pub body_form : (List ℕ → Option ℕ) → BodyItem → Option FormOf
 body_form place_of (struct_body fs) = form_of place_of fs
 
--- what a declaration is resolved to, where each of its types stands for something
+-- what a declaration is resolved to, where it has a form
 abbrev pub struct_from : List Attribute → Ident → FormOf → StructOf
 struct_from attributes x form = record { name = x.text; description = description_of attributes; form = form }
 

@@ -7,6 +7,8 @@ mod named_struct;
 mod root;
 mod schema;
 mod structs;
+#[cfg(test)]
+mod tests;
 mod unit_struct;
 mod unnamed_struct;
 mod whole;
