@@ -1,5 +1,5 @@
 -- Components of structs that are entered one after another.
-use Rattle.std.proofs.Common.{ℕ, zero, suc, ◌<◌, List, [], ◌∷◌, Option, Some, None, is_some, IsTrue, Bool, true, false, cond, bytes_eq, length, map, get_or, String, string_bytes, nat_cmp, Ordering, Less, Equal, Greater, is_eq, ◌≡◌, refl, ap, sym, subst, ◌∙◌, arith, ◌⊎◌, inl, inr, ◌||◌, option_map, ◌↔◌}
+use Rattle.std.proofs.Common.{ℕ, zero, suc, ◌<◌, ◌≤◌, List, [], ◌∷◌, Option, Some, None, is_some, IsTrue, Bool, true, false, cond, bytes_eq, length, map, get_or, String, string_bytes, nat_cmp, Ordering, Less, Equal, Greater, is_eq, ◌≡◌, refl, ap, sym, subst, ◌∙◌, arith, ◌⊎◌, inl, inr, ◌||◌, option_map, ◌↔◌}
 use Rattle.std.specs.Cmp.Lexicographic.{slice_cmp}
 use Rattle.std.specs.BTreeMap.{is_at}
 use Rattle.std.specs.Map.{lookup}
@@ -31,6 +31,12 @@ pub struct_at-view : (structs : List Struct) (d : ℕ) (x : Struct) → d < leng
 struct_at-view [] d x l = absurd (omega arith)
 struct_at-view (s ∷ structs) zero x l = refl
 struct_at-view (s ∷ structs) (suc d) x l = struct_at-view structs d x (omega arith)
+
+-- past the end a struct has no name
+pub struct_past : (structs : List Struct) (d : ℕ) → length structs ≤ d → (struct_at (map struct_view structs) d).name ≡ []
+struct_past [] d l = refl
+struct_past (s ∷ structs) zero l = absurd (omega arith)
+struct_past (s ∷ structs) (suc d) l = struct_past structs d (omega arith)
 
 -- each component is of a struct, under its name, and they are in order
 pub record AreKnown (ss : List StructOf) (components : List Entry) : Type 0 where

@@ -7,7 +7,7 @@ ghost use Rattle.schema_core.specs.Notes.{no_notes};
 ghost use Rattle.schema_core.specs.Schema.{schema_view, leaf};
 ghost use Rattle.open_types.specs.Open.{open_view};
 ghost use Rattle.scopes.specs.Names.{place_in};
-ghost use Rattle.derive_decl.specs.Structs.{struct_names};
+ghost use Rattle.derive_decl.specs.Structs.{struct_at, struct_names};
 ghost use Rattle.derive_decl.specs.Views.{struct_view};
 ghost use Rattle.closing.specs.Closed.{name_of, struct_schema};
 ghost use Rattle.closing.specs.Described.{AreComponents};
@@ -27,15 +27,23 @@ struct References<'s> {
     structs: &'s [Struct],
 }
 
-/// The name of the component of the type's declaration; of another type, and past the end, an empty one.
+/// The name of the component of the declaration at a place; past the end, an empty one.
+fn name_at(alloc: Global, structs: &[Struct], place: usize) -> Result<Text, AllocError>
+    ensures { IfOk result (λ name. name ≡ (struct_at (map struct_view structs.now) place).name) }
+{
+    if place < structs.len() {
+        structs[place].name.copy(alloc)
+    } else {
+        Text::new(alloc, "")
+    }
+}
+
+/// The name of the component of the type's declaration; of another type, an empty one.
 fn name_of(alloc: Global, structs: &[Struct], ty: &OpenType) -> Result<Text, AllocError>
     ensures { IfOk result (λ name. name ≡ name_of (map struct_view structs.now) (open_view ty.now)) }
 {
     match ty {
-        OpenType::Named(place, _) => match structs.get(*place) {
-            Some(found) => found.name.copy(alloc),
-            None => Text::new(alloc, ""),
-        },
+        OpenType::Named(place, _) => name_at(alloc, structs, *place),
         _ => Text::new(alloc, ""),
     }
 }
