@@ -1,81 +1,62 @@
--- Why declarations have no components: a name given twice, a type that stands for nothing, or a form that is not built yet.
-use Rattle.std.specs.Prelude.{◌≡◌, ◌⊎◌, ℕ, List, [], ◌∷◌, ◌++◌, false, Option, Some, None, IsTrue, codes}
-use Rattle.acceptance.specs.Json.{is_in}
+-- Why declarations have no components: a name given twice, a type that stands for nothing or is too large, a form without a field, or a type that is not built yet.
+use Rattle.std.specs.Prelude.{◌≡◌, ◌⊎◌, ℕ, List, [], ◌∷◌, false, Option, Some, None, codes}
 use Rattle.diag.specs.Refusal.{IsRefusal}
 use Rattle.diag.specs.declared.error.DeriveError.{DeriveError}
-use Rattle.diag.specs.declared.kind.Kind.TheVariants.{DuplicateName, Syntax}
+use Rattle.diag.specs.declared.kind.Kind.TheVariants.{Arity, DuplicateName, Syntax}
 use Rattle.diag.specs.declared.span.Span.{Span}
 use Rattle.schema_core.specs.Document.{Entry}
 use Rattle.written_types.specs.declared.written.Ident.{Ident}
-use Rattle.syntax.specs.Items.{FieldItem, DeclaredItem}
+use Rattle.syntax.specs.Items.{FieldItem, FieldItems, named, unnamed, unit, BodyItem, struct_body, DeclaredItem}
 use Rattle.syntax.specs.Source.{Reads, IsUnreadable, IsTooDeep, NestsTooDeep}
-use Rattle.open_types.specs.Open.{Open}
-use Rattle.resolving.specs.Resolved.{type_of, Fault, IsFault, IsRefusedFor, Somewhere}
-use Rattle.compose.specs.Types.{StructOf}
-use Rattle.compose.specs.Derived.{place_among, built, body_fields, is_named_struct, structs_of, IsApart, AreComponents}
+use Rattle.resolving.specs.Resolved.{Fault, IsFault, IsRefusedFor, Somewhere}
+use Rattle.scopes.specs.Names.{declared_idents, place_among, Repeats, duplicate_message}
+use Rattle.derive_decl.specs.Structs.{StructOf, types_of, struct_of}
+use Rattle.derive_decl.specs.Faults.{field_idents, body_fields, fieldless_message}
+use Rattle.derive_decl.specs.Whole.{structs_of}
+use Rattle.closing.specs.Described.{IsApart, AreComponents}
+use Rattle.closing.specs.Inline.{are_referred}
 
-abbrev pub declared_idents : List DeclaredItem → List Ident
-declared_idents [] = []
-declared_idents (d ∷ ds) = d.ident ∷ declared_idents ds
+-- fields that must have names, and those that have none
+abbrev pub named_in : FieldItems → List FieldItem
+named_in (named fs) = fs
+named_in (unnamed fs) = []
+named_in unit = []
 
-abbrev pub with_ident : Option Ident → List Ident → List Ident
-with_ident None xs = xs
-with_ident (Some x) xs = x ∷ xs
-
-abbrev pub field_idents : List FieldItem → List Ident
-field_idents [] = []
-field_idents (f ∷ fs) = with_ident f.ident (field_idents fs)
-
-abbrev pub texts : List Ident → List (List ℕ)
-texts [] = []
-texts (x ∷ xs) = x.text ∷ texts xs
-
--- the identifier stands in the list, and one of its name stands before it
-abbrev pub Repeats : List Ident → Ident → Type 0
-Repeats xs x = (before : List Ident) × (behind : List Ident) × (xs ≡ before ++ x ∷ behind) × IsTrue (is_in x.text (texts before))
+abbrev pub named_fields : BodyItem → List FieldItem
+named_fields (struct_body fs) = named_in fs
 
 -- ---- the conditions
 
--- two declarations, or two fields of one declaration, have one name; the identifier is that of the second
+-- two declarations, or two named fields of one declaration, have one name; the identifier is that of the second
 abbrev pub IsDuplicate : List DeclaredItem → Ident → Type 0
-IsDuplicate ds x = Repeats (declared_idents ds) x ⊎ Somewhere (λ d. Repeats (field_idents (body_fields d.body)) x) ds
+IsDuplicate ds x = Repeats (declared_idents ds) x ⊎ Somewhere (λ d. Repeats (field_idents (named_fields d.body)) x) ds
 
 -- a field's type has a name that is not known or has other type arguments than it takes, or is too large
 abbrev pub IsFaultOf : List DeclaredItem → Fault → Type 0
 IsFaultOf ds fault = Somewhere (λ d. Somewhere (λ f. IsFault (place_among ds) f.ty fault) (body_fields d.body)) ds
 
--- a field has no name, or its type stands for one that is not built yet
-abbrev pub IsUnbuiltField : (List ℕ → Option ℕ) → FieldItem → Type 0
-IsUnbuiltField place_of f = (f.ident ≡ None) ⊎ ((t : Open) × (type_of place_of f.ty ≡ Some t) × (built t ≡ None))
+-- the declaration of the identifier has unnamed fields, of which there is none
+abbrev pub IsFieldless : List DeclaredItem → Ident → Type 0
+IsFieldless ds x = Somewhere (λ d. (x ≡ d.ident) × (d.body ≡ struct_body (unnamed []))) ds
 
--- a declaration or a field of a form that is not built yet has these bytes
+-- a declaration has a type that takes the schema of a declaration itself, which is not built yet; or a named field has no name
+abbrev pub IsInlined : (List ℕ → Option ℕ) → DeclaredItem → Type 0
+IsInlined place_of d = (s : StructOf) × (struct_of place_of d ≡ Some s) × (are_referred (types_of s.form) ≡ false)
+
 abbrev pub IsUnbuilt : List DeclaredItem → Span → Type 0
-IsUnbuilt ds span =
-    Somewhere (λ d. ((is_named_struct d.body ≡ false) × (span ≡ d.span)) ⊎ Somewhere (λ f. IsUnbuiltField (place_among ds) f × (span ≡ f.span)) (body_fields d.body)) ds
+IsUnbuilt ds span = Somewhere (λ d. (IsInlined (place_among ds) d × (span ≡ d.span)) ⊎ Somewhere (λ f. (f.ident ≡ None) × (span ≡ f.span)) (named_fields d.body)) ds
 
 -- ---- the answers
 
-abbrev pub duplicate_message : List ℕ → List ℕ
-duplicate_message name = codes "name " ++ (name ++ codes " is given twice")
-
 abbrev pub unbuilt_message : List ℕ
 unbuilt_message = codes "unexpected text in a declaration"
-
--- the error refuses the field, for its type or its form; or the declaration, for these, a name given twice or its form
-abbrev pub IsFaultyField : (List ℕ → Option ℕ) → FieldItem → DeriveError → Type 0
-IsFaultyField place_of f e = ((fault : Fault) × IsFault place_of f.ty fault × IsRefusedFor fault e) ⊎ (IsUnbuiltField place_of f × IsRefusal Syntax f.span unbuilt_message e)
-
-abbrev pub IsFaultyItem : (List ℕ → Option ℕ) → DeclaredItem → DeriveError → Type 0
-IsFaultyItem place_of d e =
-    ((x : Ident) × Repeats (field_idents (body_fields d.body)) x × IsRefusal DuplicateName x.span (duplicate_message x.text) e)
-    ⊎ Somewhere (λ f. IsFaultyField place_of f e) (body_fields d.body)
-    ⊎ ((is_named_struct d.body ≡ false) × IsRefusal Syntax d.span unbuilt_message e)
 
 -- the error refuses the declarations for one of the conditions, at its bytes
 abbrev pub IsFaulty : List DeclaredItem → DeriveError → Type 0
 IsFaulty ds e =
     ((x : Ident) × IsDuplicate ds x × IsRefusal DuplicateName x.span (duplicate_message x.text) e)
     ⊎ ((fault : Fault) × IsFaultOf ds fault × IsRefusedFor fault e)
+    ⊎ ((x : Ident) × IsFieldless ds x × IsRefusal Arity x.span fieldless_message e)
     ⊎ ((span : Span) × IsUnbuilt ds span × IsRefusal Syntax span unbuilt_message e)
 
 -- the error refuses a source that is read and nests no deeper than it may, whose declarations are at fault
@@ -90,6 +71,7 @@ IsRefused source e = IsTooDeep source e ⊎ IsUnreadable source e ⊎ IsFaultySo
 pub record AreClear (ds : List DeclaredItem) : Type 0 where
   pub distinct : (x : Ident) → ¬ IsDuplicate ds x
   pub resolved : (fault : Fault) → ¬ IsFaultOf ds fault
+  pub fielded : (x : Ident) → ¬ IsFieldless ds x
   pub built : (span : Span) → ¬ IsUnbuilt ds span
 
 -- The components are those of the structs that the source declares, and no condition of a refusal holds.

@@ -1,5 +1,6 @@
 use crate::{components_describe, derive_components};
 use acceptance::component_accepts;
+use configuration::Config;
 use diag::DeriveError;
 use serde_json::Value;
 use std::alloc::Global;
@@ -87,7 +88,7 @@ const VALUES: &str = r#"[
 fn schemas_stand_in_the_document(rt: HostRuntime) -> Result<(), Fail> {
     let alloc = rt.alloc();
     for (source, schemas) in SCHEMAS {
-        let text = derive_components(alloc, source)?.components.to_text(alloc)?;
+        let text = derive_components(alloc, source, &Config::new(alloc))?.components.to_text(alloc)?;
         let mut expected = String::from_str(alloc, r#"{"components":{"schemas":{"#)?;
         expected.push_str(schemas)?;
         expected.push_str("}}}\n")?;
@@ -104,7 +105,7 @@ fn schemas_accept_what_serde_reads(rt: HostRuntime) -> Result<(), Fail> {
     for row in rows.as_array().ok_or("a list of rows")? {
         let source = row.get("source").and_then(Value::as_str).ok_or("a source")?;
         let name = row.get("name").and_then(Value::as_str).ok_or("a name")?;
-        let document = derive_components(alloc, source)?
+        let document = derive_components(alloc, source, &Config::new(alloc))?
             .components
             .to_value(alloc)?;
         for value in values_of(row, "accepted") {
@@ -132,7 +133,7 @@ fn values_of<'a>(row: &'a Value, name: &str) -> &'a [Value] {
 
 /// The kind, the place and the message of the source's refusal.
 fn refusal_text(alloc: Global, source: &str) -> Result<String, Fail> {
-    match derive_components(alloc, source) {
+    match derive_components(alloc, source, &Config::new(alloc)) {
         Ok(_) => Ok(String::from_str(alloc, "no refusal")?),
         Err(DeriveError::Memory) => Ok(String::from_str(alloc, "out of memory")?),
         Err(DeriveError::Refused(diagnostics)) => {

@@ -1,5 +1,0 @@
-use Rattle.compose.proofs.Described.{describes}
-use Rattle.compose.proofs.law.components_describe.Goals as goal
-
-pub returns : goal.returns
-returns c = λ ss cs apart within made. describes c.forms_accept.ensures c.forms_refer.ensures c.documents_hold.ensures ss cs apart within made
