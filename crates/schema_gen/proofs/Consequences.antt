@@ -6,7 +6,7 @@ use Rattle.diag.specs.declared.error.DeriveError.TheVariants as error
 use Rattle.diag.specs.declared.kind.Kind.{Kind}
 use Rattle.schema_core.specs.Document.{Entry, document, text_of}
 use Rattle.streams.specs.Told.{IsAll}
-use Rattle.compose.specs.Derived.{Describes}
+use Rattle.closing.specs.Described.{Describes}
 use Rattle.compose.specs.Faults.{IsDerived}
 use Rattle.schema_gen.specs.Owed.{Owed}
 use Rattle.schema_gen.specs.Refusals.{IsText, IsSound, IsReported, IsRefusedSource}

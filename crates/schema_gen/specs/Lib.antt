@@ -6,11 +6,11 @@ pub mod Words
 pub use Rattle.acceptance.specs.Acceptance
 pub use Rattle.acceptance.specs.Json
 pub use Rattle.acceptance.specs.References
-pub use Rattle.compose.specs.Derived
+pub use Rattle.closing.specs.Described
 pub use Rattle.compose.specs.Faults
-pub use Rattle.compose.specs.Plain
-pub use Rattle.compose.specs.Shape
-pub use Rattle.compose.specs.Types
+pub use Rattle.derive_decl.specs.Plain
+pub use Rattle.derive_decl.specs.Shape
+pub use Rattle.derive_decl.specs.Structs
 pub use Rattle.diag.specs.Diagnostics
 pub use Rattle.diag.specs.Kind
 pub use Rattle.diag.specs.Refusal

@@ -3,7 +3,7 @@ use Rattle.std.specs.Prelude.{◌≡◌, ℕ, List, [], codes}
 use Rattle.std.specs.declared.option.Option.{Option}
 use Rattle.schema_core.specs.Document.{Entry, document, text_of}
 use Rattle.streams.specs.Told.{IsAll}
-use Rattle.compose.specs.Derived.{Describes}
+use Rattle.closing.specs.Described.{Describes}
 use Rattle.compose.specs.Faults.{IsDerived}
 use Rattle.schema_gen.specs.Refusals.{IsText, IsReported}
 use Rattle.schema_gen.specs.Words.{IsDerive}

@@ -14,6 +14,7 @@ use crate::command::Words;
 use crate::refusal::{MAX_BYTES, refusal_line, source_text, too_long};
 use crate::status::Status;
 use compose::derive_components;
+use configuration::Config;
 use diag::{DeriveError, Diagnostics, Kind, Text};
 use std::alloc::{AllocError, Global};
 use streams::{ReadError, Source, read_all};
@@ -71,7 +72,7 @@ fn document_text(alloc: Global, bytes: &[u8]) -> Result<Text, DeriveError>
     ensures refused { IfErr result (λ e. (e ≡ DeriveError.Memory) ⊎ IsRefusedSource bytes.now e) }
 {
     let source = source_text(alloc, bytes)?;
-    let derived = derive_components(alloc, source)?;
+    let derived = derive_components(alloc, source, &Config::new(alloc))?;
     Ok(derived.components.to_text(alloc)?)
 }
 

@@ -4,7 +4,7 @@ ghost use Rattle.diag.specs.declared.kind.Kind.{Kind as AnyKind};
 ghost use Rattle.schema_core.specs.Document.{Entry, document, text_of};
 ghost use Rattle.streams.specs.Faults.{CountsFault};
 ghost use Rattle.streams.specs.Told.{AppendsPart, IsAll};
-ghost use Rattle.compose.specs.Derived.{Describes};
+ghost use Rattle.closing.specs.Described.{Describes};
 ghost use Rattle.compose.specs.Faults.{IsDerived};
 ghost use Rattle.schema_gen.specs.Owed.{Owed};
 ghost use Rattle.schema_gen.specs.Refusals.{IsText, IsSound, IsReported};

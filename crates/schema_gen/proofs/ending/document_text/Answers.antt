@@ -3,7 +3,7 @@ use Rattle.std.proofs.lemmas.Result.{err_from_is_err_and}
 use Rattle.diag.specs.declared.error.DeriveError.{DeriveError}
 use Rattle.diag.specs.declared.error.DeriveError.TheVariants.{Memory}
 use Rattle.schema_core.specs.Document.{Entry, document, text_of}
-use Rattle.compose.specs.Derived.{Describes}
+use Rattle.closing.specs.Described.{Describes}
 use Rattle.compose.specs.Faults.{IsDerived, IsRefused}
 use Rattle.schema_gen.specs.Owed.{IsDocumentOf}
 use Rattle.schema_gen.specs.Refusals.{IsText, IsRefusedSource}

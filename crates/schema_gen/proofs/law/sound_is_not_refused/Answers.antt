@@ -16,7 +16,9 @@ clear_text one source e sound (inl (span, is, deep)) = sound.shallow span deep
 clear_text one source e sound (inr (inl unreadable)) = unreadable.3 sound.declarations sound.read
 clear_text one source e sound (inr (inr (ds, read, shallow, inl (x, duplicate, is)))) = (subst AreClear (one source sound.declarations ds sound.read read) sound.clear).distinct x duplicate
 clear_text one source e sound (inr (inr (ds, read, shallow, inr (inl (fault, found, is))))) = (subst AreClear (one source sound.declarations ds sound.read read) sound.clear).resolved fault found
-clear_text one source e sound (inr (inr (ds, read, shallow, inr (inr (span, unbuilt, is))))) = (subst AreClear (one source sound.declarations ds sound.read read) sound.clear).built span unbuilt
+clear_text one source e sound (inr (inr (ds, read, shallow, inr (inr (inl (x, fieldless, is))))))
+    = (subst AreClear (one source sound.declarations ds sound.read read) sound.clear).fielded x fieldless
+clear_text one source e sound (inr (inr (ds, read, shallow, inr (inr (inr (span, unbuilt, is)))))) = (subst AreClear (one source sound.declarations ds sound.read read) sound.clear).built span unbuilt
 
 long_and_short : (n : ℕ) → most_bytes < n → n ≤ most_bytes → ⊥
 long_and_short n long short = omega arith
