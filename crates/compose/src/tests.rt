@@ -7,7 +7,7 @@ use std::alloc::Global;
 use std::test::Fail;
 
 /// The schemas of the source's components, as the document's text has them.
-const SCHEMAS: [(&str, &str); 15] = [
+const SCHEMAS: [(&str, &str); 19] = [
     ("", ""),
     ("struct Empty {}", r#""Empty":{"type":"object"}"#),
     (
@@ -62,6 +62,22 @@ const SCHEMAS: [(&str, &str); 15] = [
         "struct String { a: u8 } struct S { b: String }",
         r#""S":{"properties":{"b":{"type":"string"}},"required":["b"],"type":"object"},"String":{"properties":{"a":{"format":"int32","minimum":0,"type":"integer"}},"required":["a"],"type":"object"}"#,
     ),
+    (
+        "/// None.\nstruct U; struct W(Box<W>); struct N(f32); /// Two.\nstruct P(i32, i32); struct M(i32, bool); struct O(Option<Value>);",
+        r##""M":{"items":{"type":"object"},"maxItems":2,"minItems":2,"type":"array"},"N":{"format":"float","type":"number"},"O":{},"P":{"description":"Two.","items":{"description":"Two.","format":"int32","type":"integer"},"maxItems":2,"minItems":2,"type":"array"},"U":{"default":null,"description":"None."},"W":{"$ref":"#/components/schemas/W"}"##,
+    ),
+    (
+        "struct S { a: SmallVec<[u8; 4]>, b: IndexMap<String, Arc<bool>>, c: Rc<str>, d: BTreeSet<String> }",
+        r#""S":{"properties":{"a":{"items":{"format":"int32","minimum":0,"type":"integer"},"type":"array"},"b":{"additionalProperties":{"type":"boolean"},"propertyNames":{"type":"string"},"type":"object"},"c":{"type":"string"},"d":{"items":{"type":"string"},"type":"array","uniqueItems":true}},"required":["a","b","c","d"],"type":"object"}"#,
+    ),
+    (
+        "struct S { a: Option<Box<Option<i32>>>, b: Vec<Option<&'static str>>, c: [u8; 4], d: &[u8], e: HashSet<Vec<u8>>, f: Option<()>, g: Option<Value>, h: Option<Object>, p: (i32, bool) }",
+        r#""S":{"properties":{"a":{"format":"int32","type":["integer","null"]},"b":{"items":{"type":["string","null"]},"type":"array"},"c":{"items":{"format":"int32","minimum":0,"type":"integer"},"type":"array"},"d":{"items":{"format":"int32","minimum":0,"type":"integer"},"type":"array"},"e":{"items":{"items":{"format":"int32","minimum":0,"type":"integer"},"type":"array"},"type":"array","uniqueItems":true},"f":{"default":null},"g":{},"h":{"type":["object","null"]},"p":{"items":false,"prefixItems":[{"format":"int32","type":"integer"},{"type":"boolean"}],"type":"array"}},"required":["b","c","d","e","p"],"type":"object"}"#,
+    ),
+    (
+        "struct A { b: HashMap<String, Rc<A>>, c: Arc<[A]> }",
+        r##""A":{"properties":{"b":{"additionalProperties":{"$ref":"#/components/schemas/A"},"propertyNames":{"type":"string"},"type":"object"},"c":{"items":{"$ref":"#/components/schemas/A"},"type":"array"}},"required":["b","c"],"type":"object"}"##,
+    ),
 ];
 
 const VALUES: &str = r#"[
@@ -81,7 +97,14 @@ const VALUES: &str = r#"[
     {"source": "struct S { a: Vec<Option<bool>>, b: char }", "name": "S",
         "accepted": [{"a": [], "b": "x"}, {"a": [true, null], "b": "y"}],
         "refused": [{"a": null, "b": "x"}, {"a": [1], "b": "x"}, {"a": [], "b": true}]},
-    {"source": "struct S { a: Option<Option<i32>> }", "name": "S", "accepted": [{}, {"a": null}, {"a": -3}], "refused": [{"a": []}, {"a": "3"}]}
+    {"source": "struct S { a: Option<Option<i32>> }", "name": "S", "accepted": [{}, {"a": null}, {"a": -3}], "refused": [{"a": []}, {"a": "3"}]},
+    {"source": "struct T { p: (i32, bool), s: HashSet<u8>, m: BTreeMap<String, Option<i8>> }", "name": "T",
+        "accepted": [{"p": [1, true], "s": [1, 2], "m": {}}, {"p": [1], "s": [], "m": {"a": null, "b": 1}}, {"p": [], "s": [3], "m": {}}],
+        "refused": [{"p": [true], "s": [], "m": {}}, {"p": [1, true, 0], "s": [], "m": {}}, {"p": [], "s": [1, 1], "m": {}}, {"p": [], "s": [], "m": {"a": "b"}}, {"p": [], "s": [-1], "m": {}}, {"p": [], "s": [], "m": null}]},
+    {"source": "struct P(i32, i32); struct Q { a: Rc<P>, b: Object, c: Value }", "name": "Q",
+        "accepted": [{"a": [1, 2], "b": {"x": []}, "c": null}, {"a": [0, -1], "b": {}, "c": [1]}],
+        "refused": [{"a": [1], "b": {}, "c": 1}, {"a": [1, 2, 3], "b": {}, "c": 1}, {"a": [1, "2"], "b": {}, "c": 1}, {"a": [1, 2], "b": null, "c": 1}, {"a": [1, 2], "b": {}}]},
+    {"source": "struct W(Box<W>);", "name": "W", "accepted": [], "refused": [null, 1, {}, []]}
 ]"#;
 
 #[test]
@@ -150,7 +173,7 @@ fn refusal_text(alloc: Global, source: &str) -> Result<String, Fail> {
 }
 
 /// Sources with the kind, the bytes and the message of their refusals.
-const FAULTS: [(&str, &str); 22] = [
+const FAULTS: [(&str, &str); 21] = [
     (
         "struct A {} struct A {}",
         "DuplicateName 19..20 name A is given twice",
@@ -204,25 +227,24 @@ const FAULTS: [(&str, &str); 22] = [
         "Arity 33..35 wrong number of type arguments for u8",
     ),
     (
-        "struct A { x: Value }",
-        "Syntax 11..19 unexpected text in a declaration",
+        "struct B {} struct A { pub x: Vec<(u8, B)> }",
+        "Syntax 12..44 unexpected text in a declaration",
     ),
     (
-        "struct A { x: Object } struct Object {}",
-        "Syntax 11..20 unexpected text in a declaration",
+        "struct A(HashMap<Option<A>, u8>);",
+        "Syntax 0..33 unexpected text in a declaration",
     ),
     (
-        "struct A { pub x: Box<u8> }",
-        "Syntax 11..25 unexpected text in a declaration",
+        "struct A { x: Vec }",
+        "UnknownType 14..17 unknown type Vec",
     ),
     (
-        "struct A { x: Vec<(u8, u8)> }",
-        "Syntax 11..27 unexpected text in a declaration",
+        "struct A();",
+        "Arity 7..8 a tuple form without a field",
     ),
-    ("struct A;", "Syntax 0..9 unexpected text in a declaration"),
     (
-        "struct B {} pub struct A(u8);",
-        "Syntax 12..29 unexpected text in a declaration",
+        "struct A(u8, Nope);",
+        "UnknownType 13..17 unknown type Nope",
     ),
     (
         "struct A { x: bo",
