@@ -1,4 +1,5 @@
-//! Type trees: what a written type is for a schema, before its names are looked up (The Rust Reference, "Types").
+//! Type trees: what a written type is for a schema, before its names are looked up (The Rust Reference, "Types"); and, by
+//! the names of the crates below, what it stands for once they are, where they are looked up, and the configuration.
 #![tactic(auto)]
 
 mod ask;
@@ -13,9 +14,14 @@ mod schema_type;
 mod tests;
 mod tree;
 
+pub use configuration::{Config, SchemaCollect};
 pub use known_format::KnownFormat;
 pub use laws::trees_are_equal_by_text;
+pub use open_types::{
+    ClosedType, Leaf, ListHead, MapHead, OpenType, SetHead, ThroughHead, substitute,
+};
 pub use path::SchemaPath;
 pub use primitive::PrimitiveType;
 pub use schema_type::SchemaType;
+pub use scopes::{Scope, resolve, type_text};
 pub use tree::{GenericType, TypeTree, ValueType};
