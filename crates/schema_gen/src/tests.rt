@@ -79,9 +79,9 @@ const REPORTS: [(&[&str], &[u8], Status, &str); 14] = [
     ),
     (
         &["derive"],
-        b"struct S { x: Value }",
+        b"struct S { x: (u8, S) }",
         REFUSED_AS_SYNTAX,
-        "refused: Syntax 11..19: unexpected text in a declaration\n",
+        "refused: Syntax 0..23: unexpected text in a declaration\n",
     ),
     (
         &["derive"],
