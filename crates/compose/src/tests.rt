@@ -111,7 +111,9 @@ const VALUES: &str = r#"[
 fn schemas_stand_in_the_document(rt: HostRuntime) -> Result<(), Fail> {
     let alloc = rt.alloc();
     for (source, schemas) in SCHEMAS {
-        let text = derive_components(alloc, source, &Config::new(alloc))?.components.to_text(alloc)?;
+        let text = derive_components(alloc, source, &Config::new(alloc))?
+            .components
+            .to_text(alloc)?;
         let mut expected = String::from_str(alloc, r#"{"components":{"schemas":{"#)?;
         expected.push_str(schemas)?;
         expected.push_str("}}}\n")?;
@@ -234,14 +236,8 @@ const FAULTS: [(&str, &str); 21] = [
         "struct A(HashMap<Option<A>, u8>);",
         "Syntax 0..33 unexpected text in a declaration",
     ),
-    (
-        "struct A { x: Vec }",
-        "UnknownType 14..17 unknown type Vec",
-    ),
-    (
-        "struct A();",
-        "Arity 7..8 a tuple form without a field",
-    ),
+    ("struct A { x: Vec }", "UnknownType 14..17 unknown type Vec"),
+    ("struct A();", "Arity 7..8 a tuple form without a field"),
     (
         "struct A(u8, Nope);",
         "UnknownType 13..17 unknown type Nope",

@@ -41,7 +41,7 @@ returns-in_err-all_referred-clause-refused c =
     (elim c.in_err-all_referred.ensures.refused [
       | inl memory ↦ inl memory
       | inr fault ↦ inr (inlined_all (declarations_view c.args.declarations.now) e
-        (subst (λ (xs : List Declaration). Somewhere (λ d. IsInlined (place_among (map declaration_view xs)) d × IsRefusal Syntax d.span unbuilt_message e) (map declaration_view xs)) c.as_slice.ensures fault))
+          (subst (λ (xs : List Declaration). Somewhere (λ d. IsInlined (place_among (map declaration_view xs)) d × IsRefusal Syntax d.span unbuilt_message e) (map declaration_view xs)) c.as_slice.ensures fault))
     ])
 
 pub returns-clause-settled : goal.returns-clause-settled
