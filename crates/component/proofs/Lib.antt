@@ -1,3 +1,4 @@
 pub mod Copied
 pub mod Filling
+pub mod NamedLeaves
 pub mod Places

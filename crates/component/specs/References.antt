@@ -1,7 +1,12 @@
 -- The declarations that the schema of a place names, in the order in which it is made.
-use Rattle.std.specs.Prelude.{List, [], ◌∷◌, ◌++◌, Bool, true, false}
+use Rattle.std.specs.Prelude.{◌≡◌, ℕ, List, [], ◌∷◌, ◌++◌, Bool, true, false, Option}
+use Rattle.schema_core.specs.Schema.{SchemaOf, SchemasOf, PropertiesOf, PartOf}
+use Rattle.schema_core.specs.Schema as tree
 use Rattle.open_types.specs.Open.{Open, Opens, leaf, any_value, free_object, unit, tuple, items, set, map_of, option, through, param, named, no_types, more_types, open_view}
 use Rattle.component.specs.declared.references.SchemaReference.{SchemaReference}
+use Rattle.component.specs.Leaves.{LeafOf}
+use Rattle.component.specs.Leaves as leaves
+use Rattle.component.specs.Places.{place}
 
 -- a declaration with its arguments, and whether its schema stands there itself
 pub record ReferenceOf : Type 0 where
@@ -31,3 +36,35 @@ abbrev mutual
   pub item_references : Opens → List ReferenceOf
   item_references no_types = []
   item_references (more_types t ts) = references true t ++ item_references ts
+
+-- ---- the leaves of a schema
+
+abbrev pub leaf_references : LeafOf → List ReferenceOf
+leaf_references (leaves.param i) = []
+leaf_references (leaves.named t inline notes) = record { of = t; is_inline = inline; no_recursion = false } ∷ []
+
+-- the declarations at the leaves, those of a map's names before those of its values
+abbrev mutual
+  pub named_leaves : SchemaOf LeafOf → List ReferenceOf
+  named_leaves (tree.leaf x) = leaf_references x
+  named_leaves (tree.object facts ps additional names) = property_leaves ps ++ (part_leaves names ++ part_leaves additional)
+  named_leaves (tree.array facts front rest) = schema_leaves front ++ part_leaves rest
+  named_leaves (tree.one_of notes ss) = schema_leaves ss
+  named_leaves (tree.all_of notes ss) = schema_leaves ss
+
+  pub schema_leaves : SchemasOf LeafOf → List ReferenceOf
+  schema_leaves tree.no_schemas = []
+  schema_leaves (tree.schema s ss) = named_leaves s ++ schema_leaves ss
+
+  pub property_leaves : PropertiesOf LeafOf → List ReferenceOf
+  property_leaves tree.no_properties = []
+  property_leaves (tree.property k s ps) = named_leaves s ++ property_leaves ps
+
+  pub part_leaves : PartOf LeafOf → List ReferenceOf
+  part_leaves tree.no_part = []
+  part_leaves (tree.truth b) = []
+  part_leaves (tree.part s) = named_leaves s
+
+-- The law: the references of a place are the declarations at the leaves of its schema.
+abbrev pub ReferencesAreLeaves : Type 0
+ReferencesAreLeaves = (nullable inline deprecated : Bool) (description : Option (List ℕ)) (t : Open) → named_leaves (place nullable inline deprecated description t) ≡ references inline t

@@ -1,9 +1,10 @@
 -- The schema of a place by its written type.
-use Rattle.std.specs.Prelude.{◌≡◌, ℕ, List, [], Bool, map, Option, Some, None}
+use Rattle.std.specs.Prelude.{◌≡◌, ◌≤◌, ℕ, List, [], Bool, map, Option, Some, None}
 use Rattle.diag.specs.declared.error.DeriveError.{DeriveError}
 use Rattle.written_types.specs.Written.{Written, written_view}
 use Rattle.open_types.specs.Open.{Open}
-use Rattle.resolving.specs.Resolved.{type_of, Fault, IsFault, IsRefusedFor}
+use Rattle.resolving.specs.Names.{size}
+use Rattle.resolving.specs.Resolved.{type_of, most_names, Fault, IsFault, IsRefusedFor}
 use Rattle.scopes.specs.Names.{place_among}
 use Rattle.scopes.specs.Scopes.{declared_in, IsScope}
 use Rattle.component.specs.declared.component_schema.ComponentSchema.{ComponentSchema}
@@ -25,6 +26,7 @@ places_in props = place_among (declared_in props.container.now.scope.now)
 pub record IsSchemaOf (option_is_nullable : Bool) (props : ComponentSchemaProps) (made : ComponentSchema) : Type 0 where
   pub of : Open
   pub resolved : type_of (places_in props) (written_view props.written.now) ≡ Some of
+  pub small : size (written_view props.written.now) ≤ most_names
   pub term : term_view made.term ≡ place props.nullable props.inline props.deprecated (described_by props.description) (parameter_type option_is_nullable of)
   pub references : map reference_view made.schema_references ≡ references props.inline (parameter_type option_is_nullable of)
   pub warnings : made.warnings ≡ []

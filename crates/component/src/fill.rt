@@ -17,6 +17,7 @@ pub trait Fill {
     /// The leaves of what is put there.
     type Leaf: Drop;
 
+    /// What such leaves stand for.
     ghost Meaning: { Type 0 };
 
     /// What a leaf of what is put there stands for.
@@ -25,6 +26,7 @@ pub trait Fill {
     /// The schema that is put at a leaf.
     ghost put: { Self → LeafOf → SchemaOf Meaning };
 
+    /// The schema at the leaf.
     fn fill(&self, alloc: Global, leaf: &TermLeaf) -> Result<Tree<Self::Leaf>, AllocError>
         ensures { IfOk result (λ t. tree_view meaning t ≡ put self.now (leaf_view leaf.now)) };
 }

@@ -4,6 +4,7 @@
 mod component_schema;
 mod container;
 mod fill;
+mod law;
 mod place;
 mod references;
 mod schemas;
@@ -14,6 +15,7 @@ mod tests;
 pub use component_schema::{ComponentSchema, ComponentSchemaProps};
 pub use container::{ComponentDescription, Container};
 pub use fill::{Fill, filled};
+pub use law::references_are_leaves;
 pub use place::{Place, place_term};
 pub use references::SchemaReference;
 pub use schemas::{any_object, noted, null_default};
