@@ -1,8 +1,8 @@
 #!/usr/bin/env bash
-# Sources of plain structs from 64 KiB to 1 MiB, each twice the one before: the time that the program takes for each, its
-# peak memory, and the ratio of the time to that of the one before. By hand; no test rests on it.
+# Sources of at most 1,000 structs from 64 KiB to 1 MiB, each twice the one before: the time that the program takes for each,
+# its peak memory, the ratio of the time to that of the one before, and declarations per second. By hand; no test rests on it.
 #
-#     bench/derive.sh [ascending|descending|references|wide|documented]
+#     bench/derive.sh [ascending|descending|references|wide|documented|containers|inlined]
 set -eu
 here=$(cd "$(dirname "$0")/.." && pwd)
 program=${PROGRAM:-$here/crates/schema_gen_cli/out/schema_gen_cli}
@@ -30,11 +30,17 @@ def source(size):
             i += 1
         return struct("Wide", fields)
     while True:
-        number = 999999 - i if form == "descending" else i
-        fields = [("id", "u64"), ("name", "Option<String>"), ("tags", "Vec<Vec<String>>"), ("size", "i32")]
-        if form in ("references", "documented"):
-            fields += [("owner", "Item%06d" % (i // 2)), ("next", "Option<Item%06d>" % max(0, i - 1)), ("all", "Vec<Item%06d>" % (i // 3))]
-        part = struct("Item%06d" % number, fields)
+        number = 9999 - i if form == "descending" else i
+        fields = []
+        for k in range(12):
+            fields += [("id_%d" % k, "u64"), ("name_%d" % k, "Option<String>"), ("tags_%d" % k, "Vec<Vec<String>>"), ("size_%d" % k, "i32")]
+            if form in ("references", "documented"):
+                fields += [("owner_%d" % k, "Item%04d" % (i // 2)), ("next_%d" % k, "Option<Item%04d>" % max(0, i - 1)), ("all_%d" % k, "Vec<Item%04d>" % (i // 3))]
+            if form == "containers":
+                fields += [("pair_%d" % k, "(i32, (String, Option<bool>))"), ("set_%d" % k, "BTreeSet<String>"), ("map_%d" % k, "HashMap<String, Vec<Item%04d>>" % (i // 2))]
+            if form == "inlined" and i % 4:
+                fields += [("pair_%d" % k, "(u8, Item%04d)" % (i - i % 4))]
+        part = struct("Item%04d" % number, fields)
         if length + len(part) > size:
             return "".join(parts)
         parts.append(part)
@@ -56,12 +62,15 @@ def run(path):
     return best, peak / 1024
 
 before = None
-print("%10s %10s %12s %8s" % ("bytes", "seconds", "peak MiB", "ratio"))
+print("%10s %12s %10s %12s %8s %16s" % ("bytes", "declarations", "seconds", "peak MiB", "ratio", "declarations/s"))
 for size in (65536 << n for n in range(5)):
     path = os.path.join(folder, "source")
+    text = source(size)
     with open(path, "w") as file:
-        file.write(source(size))
+        file.write(text)
     took, peak = run(path)
-    print("%10d %10.3f %12.1f %8s" % (os.path.getsize(path), took, peak, "" if before is None else "%.2f" % (took / before)))
+    many = text.count("pub struct ")
+    ratio = "" if before is None else "%.2f" % (took / before)
+    print("%10d %12d %10.3f %12.1f %8s %16.0f" % (len(text), many, took, peak, ratio, many / took))
     before = took
 PY

@@ -1,6 +1,6 @@
 #!/usr/bin/env bash
-# Sources of 1 MiB that are one token, one type or one kind of token: the time and the peak memory that the program takes for
-# each, and its status. By hand; no test rests on it.
+# Sources of 1 MiB that are one token, one type or one kind of token, and sources at the bounds on instances: the time and the
+# peak memory that the program takes for each, and its status. By hand; no test rests on it.
 #
 #     bench/hostile.sh
 set -eu
@@ -20,7 +20,20 @@ def field(before, unit, after):
     room = size - len("struct S { a: " + before + after + " }")
     return "struct S { a: " + before + unit * (room // len(unit)) + after + " }"
 
+def tuples(many, target, often, end):
+    parts = ["struct A%d { p: (%s,) }" % (at, ", ".join("A%d" % t for t in target(at, often))) for at in range(many)]
+    return " ".join(parts + [end])
+
+def chained(levels, often):
+    return tuples(levels - 1, lambda at, often: [at + 1] * often, often, "struct A%d { p: bool }" % (levels - 1))
+
 sources = [
+    ("next few inlined", tuples(999, lambda at, often: [min(at + k + 1, 999) for k in range(often)], 3, "struct A999 { p: bool }")),
+    ("few in groups", tuples(996, lambda at, often: [at + 1 + k for k in range(often) if (at + 1 + k) // 4 == at // 4] or [999], 3, "struct A999 { p: bool }")),
+    ("255 inlined", chained(2, 255)),
+    ("32 levels of 255", chained(32, 255)),
+    ("33 levels of 255", chained(33, 255)),
+    ("1,000 of 39 inlined", " ".join("struct A%d { p: (%s) }" % (at, "A0, " * 9) for at in range(1, 1000)) + " struct A0 { " + ", ".join("f%d: Option<Vec<String>>" % k for k in range(39)) + " }"),
     ("one comment", "/*" + "x" * (size - 4) + "*/"),
     ("nested comments", "/*" * (size // 4) + "*/" * (size // 4)),
     ("open comments", filled("/*")),

@@ -1,34 +1,38 @@
 -- A document of components describes the structs.
-use Rattle.std.proofs.Common.{ℕ, zero, suc, ◌<◌, List, [], ◌∷◌, length, Bool, false, ◌||◌, Option, Some, None, option_map, is_some, IsTrue, nat_cmp, Less, is_eq, ◌≡◌, refl, ap, sym, subst, ◌∙◌, inl, inr, ◌↔◌}
+use Rattle.std.proofs.Common.{ℕ, zero, suc, ◌+◌, ◌*◌, ◌<◌, ◌≤◌, List, [], ◌∷◌, length, Bool, true, false, ◌||◌, Option, Some, None, option_map, is_some, IsTrue, nat_cmp, Less, is_eq, ◌≡◌, refl, ap, sym, subst, ◌∙◌, inl, inr, ◌↔◌, arith}
 use Rattle.std.specs.Cmp.Lexicographic.{slice_cmp}
 use Rattle.std.specs.List.{AllByRecursion}
 use Rattle.std.specs.List.Sorted.{IsStrictlySortedBy}
-use Rattle.std.proofs.Math.Path.{fun_ext}
 use Rattle.std.proofs.lemmas.Map.Text.{is_eq-slice_cmp}
 use Rattle.acceptance.specs.Json.{Json, is_in}
 use Rattle.acceptance.specs.Acceptance.{accepts_with, component_schema, component_accepts, if_component, accepts, Accepts}
 use Rattle.acceptance.specs.References.{EachReference}
 use Rattle.schema_core.specs.declared.tree.RefLeaf.{RefLeaf}
 use Rattle.schema_core.specs.Schema.{SchemaOf, EachLeaf}
+use Rattle.schema_core.specs.Schema as tree
 use Rattle.schema_core.specs.Form.{form}
 use Rattle.schema_core.specs.Document.{Entry, document}
 use Rattle.schema_core.specs.Entries.{names_of, find, IsInOrder}
-use Rattle.schema_core.specs.Meaning.{IsDistinct, IsProper, FormsAccept, FormsRefer, DocumentsHold}
+use Rattle.schema_core.specs.declared.notes.Notes.{Notes}
+use Rattle.schema_core.specs.Meaning.{IsDistinct, IsProper, tree_accepts, FormsAccept, FormsRefer, DocumentsHold}
 use Rattle.open_types.specs.Open.{Open, Opens, leaf, any_value, free_object, unit, tuple, items, set, map_of, option, through, no_types, more_types}
 use Rattle.open_types.specs.Open as types
 use Rattle.resolving.specs.Resolved.{IsWithin, AreWithin as OpensWithin}
 use Rattle.component.specs.Leaves.{LeafOf, param, named}
 use Rattle.derive_decl.specs.Structs.{StructOf, struct_at, names_of as member_names_of, types_of}
 use Rattle.derive_decl.specs.Shape.{shape, HasShape}
-use Rattle.derive_decl.specs.Plain.{StandsIn, StandsAmong, StandsInOne, IsPlainForm, itself, through_place, IsPlain}
+use Rattle.derive_decl.specs.Plain.{StandsIn, StandsAmong, StandsInOne, itself, through_place, IsPlain}
 use Rattle.derive_decl.specs.Terms.{term}
 use Rattle.derive_decl.specs.Meaning.{leaf_shape, TermsAccept}
 use Rattle.derive_decl.specs.Whole.{MembersDiffer}
-use Rattle.closing.specs.Closed.{reference_to, struct_schema}
-use Rattle.closing.specs.Described.{IsApart, AreComponents, HasComponent, Describes, TypesWithin, AreWithin}
-use Rattle.closing.proofs.Bound.{bind-proper, bind-leaves, Answers, bind-accepts}
+use Rattle.inlining.specs.Inlining.{IsAtMost}
+use Rattle.inline_places.specs.Targets.{inlining_of, most_inlined}
+use Rattle.closing.specs.Closed.{schema_of, put, closed, struct_schema}
+use Rattle.closing.specs.Described.{IsApart, AreComponents, HasComponent, Describes, TypesWithin, AreWithin, TargetsAreDeclared, ReferencesAccept}
+use Rattle.closing.proofs.Below.{Below, tree-below}
+use Rattle.closing.proofs.Bound.{bind-proper, bind-leaves, bind-accepts}
+use Rattle.closing.proofs.Targets.{IsShort, never-short, shorter, all-short, at-each, are-targets}
 use Rattle.closing.proofs.Terms.{form-proper, plain-types, form-leaves}
-use Rattle.closing.proofs.Same.{form-same}
 
 -- ---- names in order are distinct
 absent : (n : List ℕ) (ns : List (List ℕ)) → AllByRecursion (λ m. slice_cmp nat_cmp n m ≡ Less) ns → is_in n ns ≡ false
@@ -80,17 +84,57 @@ module _ (n d : ℕ) where
   stands-within (t ∷ ts) h (inl s) = stands-in t h.0 s
   stands-within (t ∷ ts) h (inr s) = stands-within ts h.1 s
 
--- ---- the schema of a struct
-reference-proper : (ss : List StructOf) (x : LeafOf) → IsProper (reference_to ss x)
-reference-proper ss (param i) = (tt, (tt, (tt, tt)))
-reference-proper ss (named t inline notes) = tt
+-- each declaration that stands in the types of one is a declaration
+pub all-within : (ss : List StructOf) → AreWithin (length ss) ss → (d e : ℕ) → StandsInOne e (types_of (struct_at ss d).form) → e < length ss
+all-within ss within d e = stands-within (length ss) e (types_of (struct_at ss d).form) (within-at (length ss) ss d within)
 
-schema-proper : (ss : List StructOf) (s : StructOf) → IsDistinct (member_names_of s.form) → IsProper (struct_schema ss s)
-schema-proper ss s h = bind-proper (reference_to ss) (reference-proper ss) (term s) (form-proper s.description s.form h)
+pub declared_targets : TargetsAreDeclared
+declared_targets ss within = are-targets ss (all-within ss within)
+
+-- ---- the schema of a struct
+
+schema_of-proper : (inner : ℕ → SchemaOf RefLeaf) → ((e : ℕ) → IsProper (inner e)) → (t : Open) → IsProper (schema_of inner t)
+schema_of-proper inner h (types.named d ts) = h d
+schema_of-proper inner h _ = (tt, (tt, (tt, tt)))
+
+put-proper : (ss : List StructOf) (inner : ℕ → SchemaOf RefLeaf) → ((e : ℕ) → IsProper (inner e)) → (x : LeafOf) → IsProper (put ss inner x)
+put-proper ss inner h (param i) = (tt, (tt, (tt, tt)))
+put-proper ss inner h (named t true notes) = schema_of-proper inner h t
+put-proper ss inner h (named t false notes) = tt
+
+closed-proper : (ss : List StructOf) → MembersDiffer ss → (n d : ℕ) → IsProper (closed ss n d)
+closed-proper ss differ zero d = (tt, (tt, (tt, tt)))
+closed-proper ss differ (suc n) d =
+    bind-proper (put ss (closed ss n)) (put-proper ss (closed ss n) (closed-proper ss differ n)) (term (struct_at ss d)) (form-proper (struct_at ss d).description (struct_at ss d).form (differs-at ss d differ))
+
+-- ---- references
+
+-- a reference is followed with one step more than what it leads to
+pub references_accept : FormsAccept → ReferencesAccept
+references_accept forms ss cs made d l notes s v e = (there, back)
+  where
+    doc : Json
+    doc = document cs
+
+    name : List ℕ
+    name = (struct_at ss d).name
+
+    reference : SchemaOf RefLeaf
+    reference = tree.leaf (record { name = name; notes = notes })
+
+    at : (depth : ℕ) → accepts doc (form reference) v depth ≡ component_accepts doc depth name v
+    at depth = forms (component_accepts doc depth) reference tt v
+
+    there : Accepts doc (form reference) v → Accepts doc s v
+    there (zero, h) = let never : IsTrue false = subst IsTrue (at zero) h in cc
+    there (suc depth, h) = (depth, subst IsTrue (at (suc depth) ∙ (λ i. if_component (e i) (λ t. accepts_with (component_accepts doc depth) t v))) h)
+
+    back : Accepts doc s v → Accepts doc (form reference) v
+    back a = (suc a.0, subst IsTrue (sym (at (suc a.0) ∙ (λ i. if_component (e i) (λ t. accepts_with (component_accepts doc a.0) t v)))) a.1)
 
 -- ---- the document
 module _ (forms_accept : FormsAccept) (forms_refer : FormsRefer) (documents_hold : DocumentsHold) (terms_accept : TermsAccept)
-    (ss : List StructOf) (cs : List Entry) (apart : IsApart ss) (within : AreWithin (length ss) ss) (made : AreComponents ss cs) where
+    (ss : List StructOf) (cs : List Entry) (apart : IsApart ss) (within : AreWithin (length ss) ss) (most : IsAtMost most_inlined (inlining_of ss)) (made : AreComponents ss cs) where
   abbrev doc : Json
   doc = document cs
 
@@ -100,21 +144,32 @@ module _ (forms_accept : FormsAccept) (forms_refer : FormsRefer) (documents_hold
   schema_under : (name : List ℕ) → component_schema doc name ≡ option_map form (find name cs)
   schema_under = documents_hold cs (distinct (names_of cs) made.order)
 
-  schema_at : (d : ℕ) → d < length ss → component_schema doc (name_at d) ≡ Some (form (struct_schema ss (struct_at ss d)))
+  schema_at : (d : ℕ) → d < length ss → component_schema doc (name_at d) ≡ Some (form (struct_schema ss d))
   schema_at d l = schema_under (name_at d) ∙ ap (option_map form) (made.roots d l)
 
   root : (d : ℕ) → d < length ss → HasComponent doc (name_at d)
   root d l = subst (λ o. IsTrue (is_some o)) (sym (schema_at d l)) refl
 
-  -- ---- references
-  leaves-found : (d : ℕ) → EachLeaf (λ (r : RefLeaf). HasComponent doc r.name) (struct_schema ss (struct_at ss d))
-  leaves-found d =
-      bind-leaves (reference_to ss) (λ r. HasComponent doc r.name) (term (struct_at ss d))
-      (form-leaves (λ x. EachLeaf (λ (r : RefLeaf). HasComponent doc r.name) (reference_to ss x)) ⊥ (length ss) (λ e ts inline notes l. root e l) (λ i h. (tt, (tt, tt)))
-      (struct_at ss d).description (struct_at ss d).form (within-at (length ss) ss d within) (λ a. absurd a))
+  stands : (d e : ℕ) → StandsInOne e (types_of (struct_at ss d).form) → e < length ss
+  stands = all-within ss within
 
-  refers : (t : SchemaOf RefLeaf) (d : ℕ) → t ≡ struct_schema ss (struct_at ss d) → EachReference (HasComponent doc) (form t)
-  refers t d e = forms_refer (λ name. is_some (component_schema doc name)) t (subst (EachLeaf (λ r. HasComponent doc r.name)) (sym e) (leaves-found d))
+  -- ---- references
+  abbrev Found : SchemaOf RefLeaf → Type 0
+  Found = EachLeaf (λ (r : RefLeaf). HasComponent doc r.name)
+
+  put-found : (inner : ℕ → SchemaOf RefLeaf) → ((e : ℕ) → Found (inner e)) → (e : ℕ) (ts : Opens) (inline : Bool) (notes : Notes) → e < length ss → Found (put ss inner (named (types.named e ts) inline notes))
+  put-found inner h e ts true notes l = h e
+  put-found inner h e ts false notes l = root e l
+
+  closed-found : (n d : ℕ) → Found (closed ss n d)
+  closed-found zero d = (tt, (tt, tt))
+  closed-found (suc n) d =
+      bind-leaves (put ss (closed ss n)) (λ r. HasComponent doc r.name) (term (struct_at ss d))
+      (form-leaves (λ x. Found (put ss (closed ss n) x)) ⊥ (λ e. e < length ss) (put-found (closed ss n) (closed-found n)) (λ i h. (tt, (tt, tt)))
+      (struct_at ss d).description (struct_at ss d).form (stands d) (λ a. absurd a))
+
+  refers : (t : SchemaOf RefLeaf) (d : ℕ) → t ≡ struct_schema ss d → EachReference (HasComponent doc) (form t)
+  refers t d e = forms_refer (λ name. is_some (component_schema doc name)) t (subst Found (sym e) (closed-found most_inlined d))
 
   some-same : {A : Type 0} {x y : A} → Some x ≡ Some y → x ≡ y
   some-same e = cc
@@ -123,7 +178,7 @@ module _ (forms_accept : FormsAccept) (forms_refer : FormsRefer) (documents_hold
   references-found name s None f e = cc
   references-found name s (Some t) f e =
       let is : (d : ℕ) × (d < length ss) × (name ≡ name_at d) = made.only name (subst (λ p. IsTrue (is_some p)) (sym f) refl) in
-      let same : Some t ≡ Some (struct_schema ss (struct_at ss is.0)) = sym f ∙ ap (λ k. find k cs) is.2 ∙ made.roots is.0 is.1 in
+      let same : Some t ≡ Some (struct_schema ss is.0) = sym f ∙ ap (λ k. find k cs) is.2 ∙ made.roots is.0 is.1 in
       subst (EachReference (HasComponent doc)) (some-same e) (refers t is.0 (some-same same))
 
   references : (name : List ℕ) (s : Json) → component_schema doc name ≡ Some s → EachReference (HasComponent doc) s
@@ -135,39 +190,77 @@ module _ (forms_accept : FormsAccept) (forms_refer : FormsRefer) (documents_hold
   abbrev said_at : ℕ → RefLeaf → Json → Bool
   said_at depth r v = component_accepts doc depth r.name v
 
-  abbrev instance_at : ℕ → ℕ → Json → Bool
-  instance_at depth e v = component_accepts doc depth (name_at e) v
+  abbrev accepted : ℕ → ℕ → ℕ → Json → Bool
+  accepted depth n d = tree_accepts (said_at depth) (closed ss n d)
 
-  answers : (depth d : ℕ) → IsPlainForm (struct_at ss d).form → EachLeaf (Answers (reference_to ss) (said_at depth) (leaf_shape (instance_at depth))) (term (struct_at ss d))
-  answers depth d p =
-      form-leaves (Answers (reference_to ss) (said_at depth) (leaf_shape (instance_at depth))) (Unit {0}) (length ss) (λ e ts inline notes l v. refl) (λ i h. absurd (h tt))
-      (struct_at ss d).description (struct_at ss d).form (within-at (length ss) ss d within) (λ a. plain-types (struct_at ss d).form p)
+  -- what stands at a leaf accepts
+  abbrev put_accepts : ℕ → ℕ → LeafOf → Json → Bool
+  put_accepts depth n x = tree_accepts (said_at depth) (put ss (closed ss n) x)
+
+  form-accepts : (depth d : ℕ) (v : Json) → accepts_with (component_accepts doc depth) (form (struct_schema ss d)) v ≡ accepted depth most_inlined d v
+  form-accepts depth d v = forms_accept (component_accepts doc depth) (struct_schema ss d) (closed-proper ss apart.1 most_inlined d) v
+
+  followed : (depth d : ℕ) (v : Json) → d < length ss → component_accepts doc (suc depth) (name_at d) v ≡ accepted depth most_inlined d v
+  followed depth d v l = (λ i. if_component (schema_at d l i) (λ s. accepts_with (component_accepts doc depth) s v)) ∙ form-accepts depth d v
 
   plain-through : (d e : ℕ) → IsPlain ss d → StandsInOne e (types_of (struct_at ss d).form) → IsPlain ss e
   plain-through d e p s f r = p f (through_place d e f s r)
 
-  plain-accepts : (depth d : ℕ) → d < length ss → IsPlain ss d → (v : Json) → component_accepts doc depth (name_at d) v ≡ shape ss depth d v
-  plain-accepts zero d l p v = refl
-  plain-accepts (suc depth) d l p v =
-      (λ i. if_component (schema_at d l i) (λ s. accepts_with (component_accepts doc depth) s v))
-      ∙ forms_accept (component_accepts doc depth) (struct_schema ss (struct_at ss d)) (schema-proper ss (struct_at ss d) (differs-at ss d apart.1)) v
-      ∙ bind-accepts (reference_to ss) (said_at depth) (leaf_shape (instance_at depth)) (term (struct_at ss d)) (answers depth d (p d (itself d))) v
-      ∙ terms_accept (instance_at depth) (struct_at ss d) (p d (itself d)) v
-      ∙ form-same (instance_at depth) (shape ss depth) (struct_at ss d).form
-      (λ e s. fun_ext (plain-accepts depth e (stands-within (length ss) e (types_of (struct_at ss d).form) (within-at (length ss) ss d within) s) (plain-through d e p s))) v
+  -- a declaration to which the induction applies
+  abbrev IsGood : ℕ → Type 0
+  IsGood e = (e < length ss) × IsPlain ss e
 
-  deep : (d : ℕ) → d < length ss → IsPlain ss d → (s v : Json) → component_schema doc (name_at d) ≡ Some s → (depth : ℕ) → accepts doc s v depth ≡ shape ss (suc depth) d v
-  deep d l p s v e depth = sym (λ i. if_component (e i) (λ t. accepts_with (component_accepts doc depth) t v)) ∙ plain-accepts (suc depth) d l p v
+  -- a relation between what stands at a leaf and the shape of its declaration holds at each leaf where it holds of both kinds of leaves
+  good-leaves : (S : LeafOf → Type 0) (n d : ℕ) → d < length ss → IsPlain ss d → IsShort ss (suc n) d →
+      ((e : ℕ) (ts : Opens) (notes : Notes) → IsGood e → IsShort ss n e → S (named (types.named e ts) true notes)) →
+      ((e : ℕ) (ts : Opens) (notes : Notes) → IsGood e → S (named (types.named e ts) false notes)) → EachLeaf S (term (struct_at ss d))
+  good-leaves S n d l p short inlined referred =
+      at-each S (Unit {0}) IsGood (IsShort ss n) inlined referred (λ i h. absurd (h tt)) (struct_at ss d)
+      (λ e s. (stands d e s, plain-through d e p s)) (λ a. plain-types (struct_at ss d).form (p d (itself d))) (shorter ss n d l short)
+
+  -- What is accepted has the shape: a reference and an inline schema each take a step of the shape, but only a reference one of acceptance.
+  sound : (k depth n d : ℕ) → n + 32 * depth ≤ k → d < length ss → IsPlain ss d → IsShort ss n d → Below (accepted depth n d) (shape ss k d)
+  sound k depth zero d bound l p short = absurd (never-short ss d l short)
+  sound zero depth (suc n) d bound l p short = absurd (omega (arith, bound))
+  sound (suc k) depth (suc n) d bound l p short = λ v h.
+      subst IsTrue (terms_accept (shape ss k) (struct_at ss d) (p d (itself d)) v)
+      (tree-below (put_accepts depth n) (leaf_shape (shape ss k)) (term (struct_at ss d))
+      (good-leaves (λ x. Below (put_accepts depth n x) (leaf_shape (shape ss k) x)) n d l p short
+      (λ e ts notes good s. sound k depth n e (omega (arith, bound)) good.0 good.1 s)
+      (λ e ts notes good. by depth bound e good (λ deep e. sound k deep 32 e))) v (subst IsTrue (bind-accepts (put ss (closed ss n)) (said_at depth) (term (struct_at ss d)) v) h))
+    where
+      by : (deep : ℕ) → suc n + 32 * deep ≤ suc k → (e : ℕ) → IsGood e →
+          ((deep e : ℕ) → 32 + 32 * deep ≤ k → e < length ss → IsPlain ss e → IsShort ss 32 e → Below (accepted deep 32 e) (shape ss k e)) → Below (component_accepts doc deep (name_at e)) (shape ss k e)
+      by zero b e good rest = λ v h. cc
+      by (suc deep) b e good rest = λ v h. rest deep e (omega (arith, b)) good.0 good.1 (all-short ss most e) v (subst IsTrue (followed deep e v good.0) h)
+
+  -- What has the shape is accepted, where references are followed as often as the shape is deep.
+  whole : (k depth n d : ℕ) → k ≤ depth → d < length ss → IsPlain ss d → IsShort ss n d → Below (shape ss k d) (accepted depth n d)
+  whole k depth zero d bound l p short = absurd (never-short ss d l short)
+  whole zero depth (suc n) d bound l p short = λ v h. cc
+  whole (suc k) depth (suc n) d bound l p short = λ v h.
+      subst IsTrue (sym (bind-accepts (put ss (closed ss n)) (said_at depth) (term (struct_at ss d)) v))
+      (tree-below (leaf_shape (shape ss k)) (put_accepts depth n) (term (struct_at ss d))
+      (good-leaves (λ x. Below (leaf_shape (shape ss k) x) (put_accepts depth n x)) n d l p short
+      (λ e ts notes good s. whole k depth n e (omega (arith, bound)) good.0 good.1 s)
+      (λ e ts notes good. by depth bound e good (λ deep e. whole k deep 32 e))) v (subst IsTrue (sym (terms_accept (shape ss k) (struct_at ss d) (p d (itself d)) v)) h))
+    where
+      by : (deep : ℕ) → suc k ≤ deep → (e : ℕ) → IsGood e →
+          ((deep e : ℕ) → k ≤ deep → e < length ss → IsPlain ss e → IsShort ss 32 e → Below (shape ss k e) (accepted deep 32 e)) → Below (shape ss k e) (component_accepts doc deep (name_at e))
+      by zero b e good rest = absurd (omega (arith, b))
+      by (suc deep) b e good rest = λ v h. subst IsTrue (sym (followed deep e v good.0)) (rest deep e (omega (arith, b)) good.0 good.1 (all-short ss most e) v h)
+
+  deep : (d : ℕ) → d < length ss → (s v : Json) → component_schema doc (name_at d) ≡ Some s → (depth : ℕ) → accepts doc s v depth ≡ accepted depth most_inlined d v
+  deep d l s v e depth = sym (λ i. if_component (e i) (λ t. accepts_with (component_accepts doc depth) t v)) ∙ followed depth d v l
 
   accepts-shape : (d : ℕ) → d < length ss → IsPlain ss d → (s v : Json) → component_schema doc (name_at d) ≡ Some s → Accepts doc s v ↔ HasShape ss d v
   accepts-shape d l p s v e = (there, back)
     where
       there : Accepts doc s v → HasShape ss d v
-      there a = (suc a.0, subst IsTrue (deep d l p s v e a.0) a.1)
+      there a = (32 + 32 * a.0, sound (32 + 32 * a.0) a.0 32 d (omega arith) l p (all-short ss most d) v (subst IsTrue (deep d l s v e a.0) a.1))
 
       back : HasShape ss d v → Accepts doc s v
-      back (zero, h) = cc
-      back (suc depth, h) = (depth, subst IsTrue (sym (deep d l p s v e depth)) h)
+      back h = (h.0, subst IsTrue (sym (deep d l s v e h.0)) (whole h.0 h.0 32 d (omega arith) l p (all-short ss most d) v h.1))
 
   pub describes : Describes ss doc
   describes = record { roots = root; references = references; accepts = accepts-shape }

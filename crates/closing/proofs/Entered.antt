@@ -1,12 +1,10 @@
 -- Components of structs that are entered one after another.
-use Rattle.std.proofs.Common.{ℕ, zero, suc, ◌<◌, ◌≤◌, List, [], ◌∷◌, Option, Some, None, is_some, IsTrue, Bool, true, false, cond, bytes_eq, length, map, get_or, String, string_bytes, nat_cmp, Ordering, Less, Equal, Greater, is_eq, ◌≡◌, refl, ap, sym, subst, ◌∙◌, arith, ◌⊎◌, inl, inr, ◌||◌, option_map, ◌↔◌}
+use Rattle.std.proofs.Common.{ℕ, zero, suc, ◌<◌, ◌≤◌, List, [], ◌∷◌, Option, Some, None, is_some, IsTrue, Bool, true, false, cond, bytes_eq, length, map, get_or, nat_cmp, Ordering, Less, Equal, Greater, is_eq, ◌≡◌, refl, ap, sym, subst, ◌∙◌, arith, ◌⊎◌, inl, inr, ◌||◌, option_map, ◌↔◌}
 use Rattle.std.specs.Cmp.Lexicographic.{slice_cmp}
-use Rattle.std.specs.BTreeMap.{is_at}
-use Rattle.std.specs.Map.{lookup}
 use Rattle.std.specs.Ordering.{match_ordering, ordering_reverse}
 use Rattle.std.specs.List.{AllByRecursion}
 use Rattle.std.specs.List.Sorted.{IsStrictlySortedBy}
-use Rattle.std.proofs.lemmas.Bool.{false≢true}
+use Rattle.std.proofs.lemmas.Bool.{false≢true, cases_lt}
 use Rattle.std.proofs.lemmas.Cmp.{nat_list_cmp_total}
 use Rattle.std.proofs.lemmas.Map.Text.{is_eq-slice_cmp}
 use Rattle.std.proofs.lemmas.Option.{none-some}
@@ -40,30 +38,10 @@ struct_past (s ∷ structs) (suc d) l = struct_past structs d (omega arith)
 
 -- each component is of a struct, under its name, and they are in order
 pub record AreKnown (ss : List StructOf) (components : List Entry) : Type 0 where
-  pub known : (name : List ℕ) (s : SchemaOf RefLeaf) → find name components ≡ Some s → (d : ℕ) × (d < length ss) × (name ≡ (struct_at ss d).name) × (s ≡ struct_schema ss (struct_at ss d))
+  pub known : (name : List ℕ) (s : SchemaOf RefLeaf) → find name components ≡ Some s → (d : ℕ) × (d < length ss) × (name ≡ (struct_at ss d).name) × (s ≡ struct_schema ss d)
   pub order : IsInOrder (names_of components)
 
--- what stands under the name among the entries
-abbrev pub at_text : {Y : Type 0} → List ℕ → List (String Y × ℕ) → Option ℕ
-at_text name entries = lookup (is_at (λ k. slice_cmp nat_cmp name (string_bytes k))) entries
-
--- each name with a place has a component, or stands among the entries that are left
-abbrev pub AreLeft : {Y : Type 0} → (List ℕ → Option ℕ) → List (String Y × ℕ) → List Entry → Type 0
-AreLeft place_of entries components = (name : List ℕ) → IsTrue (is_some (place_of name)) → IsTrue (is_some (find name components)) ⊎ IsTrue (is_some (at_text name entries))
-
 -- ---- places
-
-pub placed : (ss : List StructOf) (k : List ℕ) (p : ℕ) → place_in k (struct_names ss) ≡ Some p → (p < length ss) × (k ≡ (struct_at ss p).name)
-placed [] k p e = absurd (none-some p e)
-placed (s ∷ ss) k p e = by (bytes_eq k s.name) (place_in k (struct_names ss)) refl e (placed ss k)
-  where
-    by : (b : Bool) (o : Option ℕ) → bytes_eq k s.name ≡ b → cond b (Some 0) (option_map suc o) ≡ Some p → ((r : ℕ) → o ≡ Some r → (r < length ss) × (k ≡ (struct_at ss r).name)) →
-        (p < suc (length ss)) × (k ≡ (struct_at (s ∷ ss) p).name)
-    by true o t h all = subst (λ q. (q < suc (length ss)) × (k ≡ (struct_at (s ∷ ss) q).name)) (some_same 0 p h) (omega arith, (bytes_eq-Decides k s.name).0 t)
-    by false None t h all = absurd (none-some p h)
-    by false (Some r) t h all =
-        let rest = all r refl in
-        subst (λ q. (q < suc (length ss)) × (k ≡ (struct_at (s ∷ ss) q).name)) (some_same (suc r) p h) (omega (arith, rest.0), rest.1)
 
 or_false : (a b : Bool) → a || b ≡ false → (a ≡ false) × (b ≡ false)
 or_false true b e = absurd (false≢true (sym e))
@@ -161,7 +139,7 @@ known_none ss = record { known = λ name s e. absurd (none-some s e); order = tt
 
 -- the components after a struct's schema was put in under its name
 pub known_more : (ss : List StructOf) (d : ℕ) (name : List ℕ) (s : SchemaOf RefLeaf) (added : Bool) (components after : List Entry) →
-    d < length ss → name ≡ (struct_at ss d).name → s ≡ struct_schema ss (struct_at ss d) → (IsTrue added ↔ (find name components ≡ None)) → after ≡ cond added (with_entry name s components) components →
+    d < length ss → name ≡ (struct_at ss d).name → s ≡ struct_schema ss d → (IsTrue added ↔ (find name components ≡ None)) → after ≡ cond added (with_entry name s components) components →
     AreKnown ss components → AreKnown ss after
 known_more ss d name s false components after l n e new is h = subst (AreKnown ss) (sym is) h
 known_more ss d name s true components after l n e new is h = subst (AreKnown ss) (sym is) (record {
@@ -170,7 +148,7 @@ known_more ss d name s true components after l n e new is h = subst (AreKnown ss
 })
   where
     by : (k : List ℕ) (t : SchemaOf RefLeaf) (b : Bool) → bytes_eq k name ≡ b → cond b (Some s) (find k components) ≡ Some t →
-        (q : ℕ) × (q < length ss) × (k ≡ (struct_at ss q).name) × (t ≡ struct_schema ss (struct_at ss q))
+        (q : ℕ) × (q < length ss) × (k ≡ (struct_at ss q).name) × (t ≡ struct_schema ss q)
     by k t true u f = (d, l, (bytes_eq-Decides k name).0 u ∙ n, sym (some_same s t f) ∙ e)
     by k t false u f = h.known k t f
 
@@ -178,43 +156,38 @@ cond-some : {A : Type 0} (b : Bool) (x : A) (o : Option A) → IsTrue (is_some o
 cond-some true x o h = refl
 cond-some false x o h = h
 
--- the names that are left after it
-pub left_more : {Y : Type 0} (place_of : List ℕ → Option ℕ) (key : String Y) (d : ℕ) (rest : List (String Y × ℕ)) (s : SchemaOf RefLeaf) (name : List ℕ) (added : Bool) (components after : List Entry) →
-    name ≡ string_bytes key → (IsTrue added ↔ (find name components ≡ None)) → after ≡ cond added (with_entry name s components) components →
-    AreLeft place_of ((key, d) ∷ rest) components → AreLeft place_of rest after
-left_more place_of key d rest s name added components after named new is h = λ k p. turn k (h k p)
+still : (k : List ℕ) (s : SchemaOf RefLeaf) (name : List ℕ) (components : List Entry) (added : Bool) → (IsTrue added ↔ (find name components ≡ None)) → IsTrue (is_some (find k components)) →
+    IsTrue (is_some (find k (cond added (with_entry name s components) components)))
+still k s name components false g f = f
+still k s name components true g f = subst (λ o. IsTrue (is_some o)) (sym (find-entered name s components (g.0 refl) k)) (cond-some (bytes_eq k name) s (find k components) f)
+
+there : (s : SchemaOf RefLeaf) (name : List ℕ) (components : List Entry) (added : Bool) → (IsTrue added ↔ (find name components ≡ None)) → IsTrue (is_some (find name (cond added (with_entry name s components) components)))
+there s name components false g = given (find name components) (λ e. false≢true (g.1 e))
+there s name components true g = subst (λ o. IsTrue (is_some o)) (sym (find-entered name s components (g.0 refl) name ∙ ap (λ b. cond b (Some s) (find name components)) (same_text name))) refl
+
+-- each struct from the place on has a component
+abbrev pub AreThere : List StructOf → ℕ → List Entry → Type 0
+AreThere ss from components = (d : ℕ) → from ≤ d → d < length ss → IsTrue (is_some (find (struct_at ss d).name components))
+
+pub there_more : (ss : List StructOf) (from : ℕ) (name : List ℕ) (s : SchemaOf RefLeaf) (added : Bool) (components after : List Entry) →
+    name ≡ (struct_at ss from).name → (IsTrue added ↔ (find name components ≡ None)) → after ≡ cond added (with_entry name s components) components → AreThere ss (suc from) components → AreThere ss from after
+there_more ss from name s added components after named new is h d l m = subst (λ es. IsTrue (is_some (find (struct_at ss d).name es))) (sym is) (by (cases_lt from d))
   where
-    still : (k : List ℕ) (b : Bool) → (IsTrue b ↔ (find name components ≡ None)) → IsTrue (is_some (find k components)) → IsTrue (is_some (find k (cond b (with_entry name s components) components)))
-    still k false g f = f
-    still k true g f = subst (λ o. IsTrue (is_some o)) (sym (find-entered name s components (g.0 refl) k)) (cond-some (bytes_eq k name) s (find k components) f)
-
-    here : (b : Bool) → (IsTrue b ↔ (find name components ≡ None)) → IsTrue (is_some (find name (cond b (with_entry name s components) components)))
-    here false g = given (find name components) (λ e. false≢true (g.1 e))
-    here true g = subst (λ o. IsTrue (is_some o)) (sym (find-entered name s components (g.0 refl) name ∙ ap (λ b. cond b (Some s) (find name components)) (same_text name))) refl
-
-    moved : (k : List ℕ) (b : Bool) → bytes_eq k (string_bytes key) ≡ b → IsTrue (is_some (cond b (Some d) (at_text k rest))) →
-        IsTrue (is_some (find k after)) ⊎ IsTrue (is_some (at_text k rest))
-    moved k true t f = inl (subst (λ n. IsTrue (is_some (find n after))) (named ∙ sym ((bytes_eq-Decides k (string_bytes key)).0 t)) (subst (λ es. IsTrue (is_some (find name es))) (sym is) (here added new)))
-    moved k false t f = inr f
-
-    turn : (k : List ℕ) → IsTrue (is_some (find k components)) ⊎ IsTrue (is_some (at_text k ((key, d) ∷ rest))) → IsTrue (is_some (find k after)) ⊎ IsTrue (is_some (at_text k rest))
-    turn k (inl f) = inl (subst (λ es. IsTrue (is_some (find k es))) (sym is) (still k added new f))
-    turn k (inr f) = moved k (bytes_eq k (string_bytes key)) refl (subst (λ b. IsTrue (is_some (cond b (Some d) (at_text k rest)))) (is_eq-slice_cmp k (string_bytes key)) f)
+    by : (from < d) ⊎ (d ≤ from) → IsTrue (is_some (find (struct_at ss d).name (cond added (with_entry name s components) components)))
+    by (inr few) =
+        let same : from ≡ d = omega (arith, l, few) in
+        subst (λ n. IsTrue (is_some (find n (cond added (with_entry name s components) components)))) (named ∙ ap (λ e. (struct_at ss e).name) same) (there s name components added new)
+    by (inl more) = still (struct_at ss d).name s name components added new (h d (omega (arith, more)) m)
 
 -- ---- the end
 
--- components that are known, where no name is left, are those of the structs
-pub all_entered : {Y : Type 0} (ss : List StructOf) (place_of : List ℕ → Option ℕ) (entries : List (String Y × ℕ)) (components : List Entry) → IsDistinct (struct_names ss) →
-    ((name : List ℕ) → place_of name ≡ place_in name (struct_names ss)) → entries ≡ [] → AreKnown ss components → AreLeft place_of entries components → AreComponents ss components
-all_entered ss place_of entries components distinct places empty h left = record { roots = roots; only = only; order = h.order }
+-- components that are known, one for each struct, are those of the structs
+pub all_entered : (ss : List StructOf) (components : List Entry) → IsDistinct (struct_names ss) → AreKnown ss components → AreThere ss 0 components → AreComponents ss components
+all_entered ss components distinct h all = record { roots = roots; only = only; order = h.order }
   where
     found : (o : Option (SchemaOf RefLeaf)) → IsTrue (is_some o) → (s : SchemaOf RefLeaf) × (o ≡ Some s)
     found None f = absurd (false≢true f)
     found (Some s) f = (s, refl)
-
-    there : (k : List ℕ) → IsTrue (is_some (find k components)) ⊎ IsTrue (is_some (at_text k entries)) → IsTrue (is_some (find k components))
-    there k (inl f) = f
-    there k (inr f) = absurd (false≢true (subst (λ es. IsTrue (is_some (at_text k es))) empty f))
 
     only : (name : List ℕ) → IsTrue (is_some (find name components)) → (d : ℕ) × (d < length ss) × (name ≡ (struct_at ss d).name)
     only name f =
@@ -222,12 +195,10 @@ all_entered ss place_of entries components distinct places empty h left = record
         let k = h.known name s.0 s.1 in
         (k.0, k.1, k.2)
 
-    roots : (d : ℕ) → d < length ss → find (struct_at ss d).name components ≡ Some (struct_schema ss (struct_at ss d))
+    roots : (d : ℕ) → d < length ss → find (struct_at ss d).name components ≡ Some (struct_schema ss d)
     roots d l =
         let name = (struct_at ss d).name in
-        let placed_at = root_place ss d distinct l in
-        let f = there name (left name (subst (λ o. IsTrue (is_some o)) (sym (places name ∙ placed_at)) refl)) in
-        let s = found (find name components) f in
+        let s = found (find name components) (all d (omega arith) l) in
         let k = h.known name s.0 s.1 in
-        let same : k.0 ≡ d = some_same k.0 d (sym (root_place ss k.0 distinct k.1) ∙ sym (ap (λ n. place_in n (struct_names ss)) k.2) ∙ placed_at) in
-        s.1 ∙ ap Some k.3 ∙ ap (λ q. Some (struct_schema ss (struct_at ss q))) same
+        let same : k.0 ≡ d = some_same k.0 d (sym (root_place ss k.0 distinct k.1) ∙ sym (ap (λ n. place_in n (struct_names ss)) k.2) ∙ root_place ss d distinct l) in
+        s.1 ∙ ap Some k.3 ∙ ap (λ q. Some (struct_schema ss q)) same

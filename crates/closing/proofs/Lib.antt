@@ -1,6 +1,8 @@
+pub mod Below
 pub mod Bound
 pub mod Described
 pub mod Entered
-pub mod Referred
-pub mod Same
+pub mod Leaves
+pub mod Made
+pub mod Targets
 pub mod Terms

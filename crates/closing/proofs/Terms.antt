@@ -1,5 +1,5 @@
 -- The terms of places and of declarations: no object names a property twice, and what holds of each leaf.
-use Rattle.std.proofs.Common.{ℕ, ◌<◌, List, [], ◌∷◌, Bool, true, false, cond, Option, Some, None, ◌≡◌, refl, ap, sym, subst, ◌∙◌}
+use Rattle.std.proofs.Common.{ℕ, List, [], ◌∷◌, Bool, true, false, cond, Option, Some, None, ◌≡◌, refl, ap, sym, subst, ◌∙◌, inl, inr}
 use Rattle.schema_core.specs.declared.notes.Notes.{Notes}
 use Rattle.schema_core.specs.Notes.{no_notes}
 use Rattle.schema_core.specs.Schema.{SchemaOf, property_names, EachLeaf, EachSchemaLeaf, EachPropertyLeaf}
@@ -7,13 +7,11 @@ use Rattle.schema_core.specs.Schema as tree
 use Rattle.schema_core.specs.Meaning.{IsDistinct, IsProper, AreProper, ArePropertiesProper}
 use Rattle.open_types.specs.Open.{Open, Opens, leaf, any_value, free_object, unit, tuple, items, set, map_of, option, through, no_types, more_types}
 use Rattle.open_types.specs.Open as types
-use Rattle.resolving.specs.Resolved.{IsWithin, AreWithin}
 use Rattle.component.specs.Leaves.{LeafOf, param, named}
 use Rattle.component.specs.Places.{described, or_null, in_place, declared, argument, place, inline_places}
 use Rattle.derive_decl.specs.Structs.{MemberOf, FormOf, named_fields, unnamed_fields, no_fields, names_of, member_names, member_types, types_of}
-use Rattle.derive_decl.specs.Plain.{IsTextKey, IsPlainType, ArePlainTypes, AreAllPlain, IsPlainForm}
+use Rattle.derive_decl.specs.Plain.{StandsIn, StandsAmong, StandsInOne, IsTextKey, IsPlainType, ArePlainTypes, AreAllPlain, IsPlainForm}
 use Rattle.derive_decl.specs.Terms.{properties_of, are_all, any_object, unnamed_term, form_term}
-use Rattle.closing.specs.Described.{TypesWithin}
 
 -- ---- no property is named twice
 
@@ -90,8 +88,8 @@ plain-types (named_fields ms) h = h
 plain-types (unnamed_fields ts) h = h.0
 plain-types no_fields h = tt
 
--- The fact holds of each declaration that is one of the first n, and of each parameter unless the types are to be plain.
-module _ (Q : LeafOf → Type 0) (ToBePlain : Type 0) (n : ℕ) (at_named : (d : ℕ) (ts : Opens) (inline : Bool) (notes : Notes) → d < n → Q (named (types.named d ts) inline notes))
+-- A fact that holds of each declaration which stands in the types, and of each parameter unless the types are to be plain, holds of each leaf.
+module _ (Q : LeafOf → Type 0) (ToBePlain : Type 0) (P : ℕ → Type 0) (at_named : (d : ℕ) (ts : Opens) (inline : Bool) (notes : Notes) → P d → Q (named (types.named d ts) inline notes))
     (at_param : (i : ℕ) → (ToBePlain → ⊥) → Q (param i)) where
   or_null-leaves : (nullable : Bool) (s : SchemaOf LeafOf) → EachLeaf Q s → EachLeaf Q (or_null nullable s)
   or_null-leaves false s h = h
@@ -106,12 +104,12 @@ module _ (Q : LeafOf → Type 0) (ToBePlain : Type 0) (n : ℕ) (at_named : (d :
   argument-leaves nullable false description i h = or_null-leaves nullable (tree.leaf (param i)) (at_param i h)
   argument-leaves nullable true description i h = in_place-leaves nullable description (tree.leaf (param i)) (at_param i h)
 
-  declared-leaves : (nullable inline : Bool) (description : Option (List ℕ)) (d : ℕ) (ts : Opens) → d < n → EachLeaf Q (declared nullable inline description (types.named d ts))
+  declared-leaves : (nullable inline : Bool) (description : Option (List ℕ)) (d : ℕ) (ts : Opens) → P d → EachLeaf Q (declared nullable inline description (types.named d ts))
   declared-leaves nullable false description d ts l = or_null-leaves nullable (tree.leaf (named (types.named d ts) false (described description))) (at_named d ts false (described description) l)
   declared-leaves nullable true description d ts l = in_place-leaves nullable description (tree.leaf (named (types.named d ts) true no_notes)) (at_named d ts true no_notes l)
 
   mutual
-    place-leaves : (nullable inline deprecated : Bool) (description : Option (List ℕ)) (t : Open) → IsWithin n t → (ToBePlain → IsPlainType t) → EachLeaf Q (place nullable inline deprecated description t)
+    place-leaves : (nullable inline deprecated : Bool) (description : Option (List ℕ)) (t : Open) → ((e : ℕ) → StandsIn e t → P e) → (ToBePlain → IsPlainType t) → EachLeaf Q (place nullable inline deprecated description t)
     place-leaves nullable inline deprecated description (leaf x) w p = (tt, (tt, tt))
     place-leaves nullable inline deprecated description any_value w p = (tt, (tt, tt))
     place-leaves nullable inline deprecated description free_object w p = (tt, (tt, tt))
@@ -120,31 +118,31 @@ module _ (Q : LeafOf → Type 0) (ToBePlain : Type 0) (n : ℕ) (at_named : (d :
     place-leaves nullable inline deprecated description (items x t) w p = (tt, place-leaves false inline false None t w p)
     place-leaves nullable inline deprecated description (set x t) w p = (tt, place-leaves false inline false None t w p)
     place-leaves nullable inline deprecated description (map_of x k t) w p =
-        (tt, (place-leaves false inline false None t w.1 (λ a. (p a).1), place-leaves false true false None k w.0 (λ a. key-plain k (p a).0)))
+        (tt, (place-leaves false inline false None t (λ e s. w e (inr s)) (λ a. (p a).1), place-leaves false true false None k (λ e s. w e (inl s)) (λ a. key-plain k (p a).0)))
     place-leaves nullable inline deprecated description (option t) w p = place-leaves true inline deprecated description t w p
     place-leaves nullable inline deprecated description (through x t) w p = place-leaves nullable inline deprecated description t w p
     place-leaves nullable inline deprecated description (types.param i) w p = argument-leaves nullable inline description i p
-    place-leaves nullable inline deprecated description (types.named d ts) w p = declared-leaves nullable inline description d ts w.0
+    place-leaves nullable inline deprecated description (types.named d ts) w p = declared-leaves nullable inline description d ts (w d (inl refl))
 
-    inline-leaves : (ts : Opens) → AreWithin n ts → (ToBePlain → ArePlainTypes ts) → EachSchemaLeaf Q (inline_places ts)
+    inline-leaves : (ts : Opens) → ((e : ℕ) → StandsAmong e ts → P e) → (ToBePlain → ArePlainTypes ts) → EachSchemaLeaf Q (inline_places ts)
     inline-leaves no_types w p = tt
-    inline-leaves (more_types t ts) w p = (place-leaves false true false None t w.0 (λ a. (p a).0), inline-leaves ts w.1 (λ a. (p a).1))
+    inline-leaves (more_types t ts) w p = (place-leaves false true false None t (λ e s. w e (inl s)) (λ a. (p a).0), inline-leaves ts (λ e s. w e (inr s)) (λ a. (p a).1))
 
-  properties-leaves : (ms : List MemberOf) → TypesWithin n (member_types ms) → (ToBePlain → AreAllPlain (member_types ms)) → EachPropertyLeaf Q (properties_of ms)
+  properties-leaves : (ms : List MemberOf) → ((e : ℕ) → StandsInOne e (member_types ms) → P e) → (ToBePlain → AreAllPlain (member_types ms)) → EachPropertyLeaf Q (properties_of ms)
   properties-leaves [] w p = tt
-  properties-leaves (m ∷ ms) w p = (place-leaves false false false m.description m.of w.0 (λ a. (p a).0), properties-leaves ms w.1 (λ a. (p a).1))
+  properties-leaves (m ∷ ms) w p = (place-leaves false false false m.description m.of (λ e s. w e (inl s)) (λ a. (p a).0), properties-leaves ms (λ e s. w e (inr s)) (λ a. (p a).1))
 
   either-leaves : (b : Bool) (s t : SchemaOf LeafOf) → EachLeaf Q s → EachLeaf Q t → EachLeaf Q (cond b s t)
   either-leaves true s t h k = h
   either-leaves false s t h k = k
 
-  unnamed-leaves : (description : Option (List ℕ)) (ts : List Open) → TypesWithin n ts → (ToBePlain → AreAllPlain ts) → EachLeaf Q (unnamed_term description ts)
+  unnamed-leaves : (description : Option (List ℕ)) (ts : List Open) → ((e : ℕ) → StandsInOne e ts → P e) → (ToBePlain → AreAllPlain ts) → EachLeaf Q (unnamed_term description ts)
   unnamed-leaves description [] w p = (tt, (tt, (tt, tt)))
-  unnamed-leaves description (t ∷ []) w p = place-leaves false false false description t w.0 (λ a. (p a).0)
+  unnamed-leaves description (t ∷ []) w p = place-leaves false false false description t (λ e s. w e (inl s)) (λ a. (p a).0)
   unnamed-leaves description (t ∷ u ∷ us) w p =
-      (tt, either-leaves (are_all t (u ∷ us)) (place false false false description t) any_object (place-leaves false false false description t w.0 (λ a. (p a).0)) (tt, (tt, tt)))
+      (tt, either-leaves (are_all t (u ∷ us)) (place false false false description t) any_object (place-leaves false false false description t (λ e s. w e (inl s)) (λ a. (p a).0)) (tt, (tt, tt)))
 
-  pub form-leaves : (description : Option (List ℕ)) (form : FormOf) → TypesWithin n (types_of form) → (ToBePlain → AreAllPlain (types_of form)) → EachLeaf Q (form_term description form)
+  pub form-leaves : (description : Option (List ℕ)) (form : FormOf) → ((e : ℕ) → StandsInOne e (types_of form) → P e) → (ToBePlain → AreAllPlain (types_of form)) → EachLeaf Q (form_term description form)
   form-leaves description (named_fields ms) w p = (properties-leaves ms w p, (tt, tt))
   form-leaves description (unnamed_fields ts) w p = unnamed-leaves description ts w p
   form-leaves description no_fields w p = (tt, (tt, tt))

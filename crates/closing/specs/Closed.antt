@@ -1,5 +1,5 @@
--- The schemas of components: the terms of declarations, where each name is a reference.
-use Rattle.std.specs.Prelude.{ℕ, List, [], ◌∷◌}
+-- The schemas of components: the terms of declarations, where each name is a reference or, where it is inline, the schema of its declaration.
+use Rattle.std.specs.Prelude.{ℕ, zero, suc, List, [], ◌∷◌, true, false}
 use Rattle.schema_core.specs.declared.tree.RefLeaf.{RefLeaf}
 use Rattle.schema_core.specs.declared.tree.TypeWord.TheVariants.{Any}
 use Rattle.schema_core.specs.Notes.{no_notes}
@@ -10,27 +10,39 @@ use Rattle.component.specs.Leaves.{LeafOf, param, named}
 use Rattle.component.specs.Places.{only_word}
 use Rattle.derive_decl.specs.Structs.{StructOf, struct_at}
 use Rattle.derive_decl.specs.Terms.{term}
+use Rattle.inline_places.specs.Targets.{most_inlined}
 
 -- the name of the component of a declaration
 abbrev pub name_of : List StructOf → Open → List ℕ
-name_of ss (types.leaf x) = []
-name_of ss types.any_value = []
-name_of ss types.free_object = []
-name_of ss types.unit = []
-name_of ss (types.tuple ts) = []
-name_of ss (types.items h t) = []
-name_of ss (types.set h t) = []
-name_of ss (types.map_of h k t) = []
-name_of ss (types.option t) = []
-name_of ss (types.through h t) = []
-name_of ss (types.param i) = []
 name_of ss (types.named d ts) = (struct_at ss d).name
+name_of ss _ = []
 
--- a reference to the component of the declaration at a leaf; a parameter without an argument is any value
-abbrev pub reference_to : List StructOf → LeafOf → SchemaOf RefLeaf
-reference_to ss (param i) = only_word Any no_notes
-reference_to ss (named t inline notes) = leaf (record { name = name_of ss t; notes = notes })
+-- nothing is said
+abbrev pub any_value : SchemaOf RefLeaf
+any_value = only_word Any no_notes
 
--- The schema of the component of a declaration: its term, where each name is a reference.
-abbrev pub struct_schema : List StructOf → StructOf → SchemaOf RefLeaf
-struct_schema ss s = bind (reference_to ss) (term s)
+-- the schema at a place of the list; past the end, one that says nothing
+abbrev pub schema_in : List (SchemaOf RefLeaf) → ℕ → SchemaOf RefLeaf
+schema_in [] d = any_value
+schema_in (s ∷ ss) zero = s
+schema_in (s ∷ ss) (suc d) = schema_in ss d
+
+-- the schema of the declaration that the type names, where `closed` has those of the declarations
+abbrev pub schema_of : (ℕ → SchemaOf RefLeaf) → Open → SchemaOf RefLeaf
+schema_of closed (types.named d ts) = closed d
+schema_of closed _ = any_value
+
+-- What stands at a leaf of a term: the schema of its declaration where it is inline, else a reference to its component. A parameter without an argument is any value.
+abbrev pub put : List StructOf → (ℕ → SchemaOf RefLeaf) → LeafOf → SchemaOf RefLeaf
+put ss closed (param i) = any_value
+put ss closed (named t true notes) = schema_of closed t
+put ss closed (named t false notes) = leaf (record { name = name_of ss t; notes = notes })
+
+-- the schema of a declaration, where schemas stand in it no deeper than the number
+abbrev pub closed : List StructOf → ℕ → ℕ → SchemaOf RefLeaf
+closed ss zero d = any_value
+closed ss (suc n) d = bind (put ss (closed ss n)) (term (struct_at ss d))
+
+-- The schema of the component of a declaration.
+abbrev pub struct_schema : List StructOf → ℕ → SchemaOf RefLeaf
+struct_schema ss d = closed ss most_inlined d

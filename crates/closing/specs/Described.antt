@@ -3,6 +3,9 @@ use Rattle.std.specs.Prelude.{◌≡◌, ◌<◌, ◌↔◌, ℕ, List, [], ◌�
 use Rattle.acceptance.specs.Json.{Json}
 use Rattle.acceptance.specs.Acceptance.{component_schema, Accepts}
 use Rattle.acceptance.specs.References.{EachReference}
+use Rattle.schema_core.specs.declared.notes.Notes.{Notes}
+use Rattle.schema_core.specs.Schema.{leaf}
+use Rattle.schema_core.specs.Form.{form}
 use Rattle.schema_core.specs.Document.{Entry, document}
 use Rattle.schema_core.specs.Entries.{find, names_of, IsInOrder}
 use Rattle.schema_core.specs.Meaning.{IsDistinct}
@@ -12,6 +15,8 @@ use Rattle.derive_decl.specs.Structs.{StructOf, struct_at, struct_names, types_o
 use Rattle.derive_decl.specs.Shape.{HasShape}
 use Rattle.derive_decl.specs.Plain.{IsPlain}
 use Rattle.derive_decl.specs.Whole.{MembersDiffer}
+use Rattle.inlining.specs.Inlining.{AreTargets, IsAtMost}
+use Rattle.inline_places.specs.Targets.{inlining_of, most_inlined}
 use Rattle.closing.specs.Closed.{struct_schema}
 
 -- no two declarations and no two members of one have one name
@@ -20,7 +25,7 @@ IsApart ss = IsDistinct (struct_names ss) × MembersDiffer ss
 
 -- The components of the structs: each is a root, under its name, and there are no others; in byte order of the names.
 pub record AreComponents (ss : List StructOf) (components : List Entry) : Type 0 where
-  pub roots : (d : ℕ) → d < length ss → find (struct_at ss d).name components ≡ Some (struct_schema ss (struct_at ss d))
+  pub roots : (d : ℕ) → d < length ss → find (struct_at ss d).name components ≡ Some (struct_schema ss d)
   pub only : (name : List ℕ) → IsTrue (is_some (find name components)) → (d : ℕ) × (d < length ss) × (name ≡ (struct_at ss d).name)
   pub order : IsInOrder (names_of components)
 
@@ -44,6 +49,15 @@ abbrev pub AreWithin : ℕ → List StructOf → Type 0
 AreWithin n [] = Unit {0}
 AreWithin n (s ∷ ss) = TypesWithin n (types_of s.form) × AreWithin n ss
 
--- The law: a document of components describes the structs, where each name leads to one of them.
+-- The law: a document of components describes the structs, where each name leads to one of them, and no inline path is longer than it may be.
 abbrev pub ComponentsDescribe : Type 0
-ComponentsDescribe = (ss : List StructOf) (components : List Entry) → IsApart ss → AreWithin (length ss) ss → AreComponents ss components → Describes ss (document components)
+ComponentsDescribe = (ss : List StructOf) (components : List Entry) → IsApart ss → AreWithin (length ss) ss → IsAtMost most_inlined (inlining_of ss) → AreComponents ss components → Describes ss (document components)
+
+-- The law: what is inline in the terms of structs is declared, where each name leads to one of them.
+abbrev pub TargetsAreDeclared : Type 0
+TargetsAreDeclared = (ss : List StructOf) → AreWithin (length ss) ss → AreTargets (inlining_of ss)
+
+-- The law: a reference to the component of a declaration accepts what the schema of that component accepts, whatever its notes are.
+abbrev pub ReferencesAccept : Type 0
+ReferencesAccept = (ss : List StructOf) (components : List Entry) → AreComponents ss components → (d : ℕ) → d < length ss → (notes : Notes) (s v : Json) → component_schema (document components) (struct_at ss d).name ≡ Some s →
+    Accepts (document components) (form (leaf (record { name = (struct_at ss d).name; notes = notes }))) v ↔ Accepts (document components) s v

@@ -1,3 +1,2 @@
 pub mod Closed
 pub mod Described
-pub mod Inline

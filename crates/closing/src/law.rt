@@ -1,6 +1,6 @@
 //! What rests on the definitions alone: laws that callers rely on, as contracts of functions that do nothing.
 
-ghost use Rattle.closing.specs.Described.{ComponentsDescribe};
+ghost use Rattle.closing.specs.Described.{ComponentsDescribe, ReferencesAccept, TargetsAreDeclared};
 
 /// A document of the components of structs describes them: every root and every reference has its component, and the
 /// component of a plain declaration accepts a value exactly if the value has its shape.
@@ -11,4 +11,16 @@ pub fn components_describe()
     schema_core::forms_refer();
     schema_core::documents_hold();
     derive_decl::terms_accept();
+}
+
+/// The declarations whose schemas stand in others are declarations, where each name leads to one.
+pub fn targets_are_declared()
+    ensures { TargetsAreDeclared }
+{}
+
+/// In a document of the components of structs a reference accepts what the schema of its target accepts.
+pub fn references_accept()
+    ensures { ReferencesAccept }
+{
+    schema_core::forms_accept();
 }

@@ -1,11 +1,10 @@
-//! From the terms of declarations to the schemas of components: each name becomes a reference, and the document of the
-//! components describes the declarations.
+//! From the terms of declarations to the schemas of components: each name becomes a reference or, where it is inline, the
+//! schema of its declaration; and the document of the components describes the declarations.
 #![tactic(auto)]
 
+mod closed;
 mod components;
-mod inline;
 mod law;
 
 pub use components::components_of;
-pub use inline::is_form_referred;
-pub use law::components_describe;
+pub use law::{components_describe, references_accept, targets_are_declared};

@@ -1,4 +1,2 @@
-pub mod Copied
-pub mod Filling
 pub mod NamedLeaves
 pub mod Places

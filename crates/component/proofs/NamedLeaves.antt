@@ -2,7 +2,7 @@
 use Rattle.std.proofs.Common.{ℕ, List, [], ◌∷◌, ◌++◌, Bool, true, false, Option, Some, None, ◌≡◌, refl, ap, ◌∙◌}
 use Rattle.open_types.specs.Open.{Open, Opens, leaf, any_value, free_object, unit, tuple, items, set, map_of, option, through, param, named, no_types, more_types}
 use Rattle.component.specs.Places.{place, inline_places, declared, argument}
-use Rattle.component.specs.References.{ReferenceOf, references, item_references, named_leaves, schema_leaves}
+use Rattle.component.specs.References.{references, item_references, named_leaves, schema_leaves}
 
 append_none : {A : Type 0} (xs : List A) → xs ++ [] ≡ xs
 append_none [] = refl

@@ -1,7 +1,7 @@
 -- The schema of a place by its written type.
-use Rattle.std.specs.Prelude.{◌≡◌, ◌≤◌, ℕ, List, [], Bool, map, Option, Some, None}
+use Rattle.std.specs.Prelude.{◌≡◌, ◌≤◌, ℕ, List, [], Bool, map, Option, Some}
 use Rattle.diag.specs.declared.error.DeriveError.{DeriveError}
-use Rattle.written_types.specs.Written.{Written, written_view}
+use Rattle.written_types.specs.Written.{written_view}
 use Rattle.open_types.specs.Open.{Open}
 use Rattle.resolving.specs.Names.{size}
 use Rattle.resolving.specs.Resolved.{type_of, most_names, Fault, IsFault, IsRefusedFor}

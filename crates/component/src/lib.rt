@@ -3,7 +3,6 @@
 
 mod component_schema;
 mod container;
-mod fill;
 mod law;
 mod place;
 mod references;
@@ -14,7 +13,6 @@ mod tests;
 
 pub use component_schema::{ComponentSchema, ComponentSchemaProps};
 pub use container::{ComponentDescription, Container};
-pub use fill::{Fill, filled};
 pub use law::references_are_leaves;
 pub use place::{Place, place_term};
 pub use references::SchemaReference;

@@ -4,8 +4,8 @@ ghost use Rattle.diag.specs.declared.error.DeriveError.{DeriveError as AnyError}
 ghost use Rattle.diag.specs.declared.error.DeriveError.TheVariants.{Memory};
 ghost use Rattle.component.specs.Leaves.{LeafOf, term_view};
 
-use crate::fill::{Fill, filled};
 use diag::DeriveError;
+use filling::{CopyLeaf, copied};
 use open_types::OpenType;
 use schema_core::{Notes, Tree};
 use std::alloc::{AllocError, Global};
@@ -44,31 +44,22 @@ pub trait ToTerm {
         ensures refused { IfErr result (λ e. (e ≡ Memory) ⊎ is_refused self.now e) };
 }
 
-/// The leaves of a term as they are.
-struct Copies;
-
-impl Fill for Copies {
-    ghost use Rattle.schema_core.specs.Schema as tree;
+impl CopyLeaf for TermLeaf {
     ghost use Rattle.component.specs.Leaves.{LeafOf, leaf_view};
-
-    type Leaf = TermLeaf;
 
     ghost Meaning = { LeafOf };
 
     ghost meaning = { leaf_view };
 
-    ghost put = { λ _ l. tree.leaf l };
-
-    fn fill(&self, alloc: Global, leaf: &TermLeaf) -> Result<Term, AllocError> {
-        let leaf = match leaf {
+    fn copy_leaf(&self, alloc: Global) -> Result<TermLeaf, AllocError> {
+        Ok(match self {
             TermLeaf::Param(place) => TermLeaf::Param(*place),
             TermLeaf::Named { of, inline, notes } => TermLeaf::Named {
                 of: of.copy(alloc)?,
                 inline: *inline,
                 notes: notes.copy(alloc)?,
             },
-        };
-        Ok(Tree::Leaf(leaf))
+        })
     }
 }
 
@@ -76,5 +67,5 @@ impl Fill for Copies {
 pub fn copy_term(alloc: Global, term: &Term) -> Result<Term, AllocError>
     ensures { IfOk result (λ copy. term_view copy ≡ term_view term.now) }
 {
-    filled(alloc, term, &Copies)
+    copied(alloc, term)
 }

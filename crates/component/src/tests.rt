@@ -1,11 +1,12 @@
 ghost use Rattle.scopes.specs.Scopes.{IsScope};
 
 use crate::{
-    ComponentDescription, ComponentSchema, ComponentSchemaProps, Container, Fill, Place,
-    SchemaReference, Term, TermLeaf, ToTerm, filled, noted, null_default, place_term,
+    ComponentDescription, ComponentSchema, ComponentSchemaProps, Container, Place, SchemaReference,
+    Term, TermLeaf, ToTerm, noted, null_default, place_term,
 };
 use configuration::Config;
 use diag::{DeriveError, List, Text};
+use filling::{Fill, filled};
 use open_types::OpenType;
 use schema_core::{Components, Notes, RefLeaf, Schema, Tree};
 use scopes::{Scope, declared_places};
@@ -253,8 +254,15 @@ struct References;
 impl Fill for References {
     ghost use Rattle.std.specs.Prelude.{Bool, true};
     ghost use Rattle.schema_core.specs.Schema as tree;
+    ghost use Rattle.component.specs.Leaves.{LeafOf, leaf_view};
+
+    type Hole = TermLeaf;
 
     type Leaf = RefLeaf;
+
+    ghost Origin = { LeafOf };
+
+    ghost origin = { leaf_view };
 
     ghost Meaning = { Bool };
 

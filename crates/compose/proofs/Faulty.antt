@@ -9,14 +9,14 @@ use Rattle.syntax.specs.Items.{FieldItem, FieldItems, named, unnamed, unit, Body
 use Rattle.resolving.specs.Resolved.{Fault, IsFault, IsRefusedFor, Somewhere}
 use Rattle.scopes.specs.Names.{place_among, Repeats, duplicate_message}
 use Rattle.derive_decl.specs.Faults.{field_idents, body_fields, fieldless_message, IsFaultyType, IsFaultyMember, IsFaultyBody, IsFaultyItem}
-use Rattle.compose.specs.Faults.{named_fields, IsInlined, IsFaulty, unbuilt_message}
+use Rattle.compose.specs.Faults.{named_fields, IsFaulty, nameless_message}
 
 module _ (place_of : List ℕ → Option ℕ) (e : DeriveError) where
   abbrev TypesFault : List FieldItem → Type 0
   TypesFault fs = (fault : Fault) × Somewhere (λ f. IsFault place_of f.ty fault) fs × IsRefusedFor fault e
 
   abbrev NamelessFault : List FieldItem → Type 0
-  NamelessFault fs = (span : Span) × Somewhere (λ f. (f.ident ≡ None) × (span ≡ f.span)) fs × IsRefusal Syntax span unbuilt_message e
+  NamelessFault fs = (span : Span) × Somewhere (λ f. (f.ident ≡ None) × (span ≡ f.span)) fs × IsRefusal Syntax span nameless_message e
 
   types_fault : (fs : List FieldItem) → Somewhere (λ f. IsFaultyType place_of f e) fs → TypesFault fs
   types_fault [] h = absurd h
@@ -55,13 +55,13 @@ module _ (place_of : List ℕ → Option ℕ) (e : DeriveError) where
       ((x : Ident) × Somewhere (λ d. Repeats (field_idents (named_fields d.body)) x) ds × IsRefusal DuplicateName x.span (duplicate_message x.text) e)
       ⊎ ((fault : Fault) × Somewhere (λ d. Somewhere (λ f. IsFault place_of f.ty fault) (body_fields d.body)) ds × IsRefusedFor fault e)
       ⊎ ((x : Ident) × Somewhere (λ d. (x ≡ d.ident) × (d.body ≡ struct_body (unnamed []))) ds × IsRefusal Arity x.span fieldless_message e)
-      ⊎ ((span : Span) × Somewhere (λ d. (IsInlined place_of d × (span ≡ d.span)) ⊎ Somewhere (λ f. (f.ident ≡ None) × (span ≡ f.span)) (named_fields d.body)) ds × IsRefusal Syntax span unbuilt_message e)
+      ⊎ ((span : Span) × Somewhere (λ d. Somewhere (λ f. (f.ident ≡ None) × (span ≡ f.span)) (named_fields d.body)) ds × IsRefusal Syntax span nameless_message e)
 
   one_fault : (d : DeclaredItem) (ds : List DeclaredItem) → BodyFault d.ident d.body → ItemsFault (d ∷ ds)
   one_fault d ds (inl r) = inl (r.0, inl r.1, r.2)
   one_fault d ds (inr (inl r)) = inr (inl (r.0, inl r.1, r.2))
   one_fault d ds (inr (inr (inl r))) = inr (inr (inl (d.ident, inl (refl, r.0), r.1)))
-  one_fault d ds (inr (inr (inr r))) = inr (inr (inr (r.0, inl (inr r.1), r.2)))
+  one_fault d ds (inr (inr (inr r))) = inr (inr (inr (r.0, inl r.1, r.2)))
 
   later_fault : (d : DeclaredItem) (ds : List DeclaredItem) → ItemsFault ds → ItemsFault (d ∷ ds)
   later_fault d ds (inl r) = inl (r.0, inr r.1, r.2)
@@ -74,17 +74,9 @@ module _ (place_of : List ℕ → Option ℕ) (e : DeriveError) where
   faulty_in (d ∷ ds) (inl h) = one_fault d ds (body_fault d.ident d.body h)
   faulty_in (d ∷ ds) (inr h) = later_fault d ds (faulty_in ds h)
 
-  inlined_in : (ds : List DeclaredItem) → Somewhere (λ d. IsInlined place_of d × IsRefusal Syntax d.span unbuilt_message e) ds → ItemsFault ds
-  inlined_in [] h = absurd h
-  inlined_in (d ∷ ds) (inl h) = inr (inr (inr (d.span, inl (inl (h.0, refl)), h.1)))
-  inlined_in (d ∷ ds) (inr h) = later_fault d ds (inlined_in ds h)
-
 all_fault : (ds : List DeclaredItem) (e : DeriveError) → ItemsFault (place_among ds) e ds → IsFaulty ds e
 all_fault ds e (inl r) = inl (r.0, inr r.1, r.2)
 all_fault ds e (inr q) = inr q
 
 pub faulty_all : (ds : List DeclaredItem) (e : DeriveError) → Somewhere (λ d. IsFaultyItem (place_among ds) d e) ds → IsFaulty ds e
 faulty_all ds e h = all_fault ds e (faulty_in (place_among ds) e ds h)
-
-pub inlined_all : (ds : List DeclaredItem) (e : DeriveError) → Somewhere (λ d. IsInlined (place_among ds) d × IsRefusal Syntax d.span unbuilt_message e) ds → IsFaulty ds e
-inlined_all ds e h = all_fault ds e (inlined_in (place_among ds) e ds h)

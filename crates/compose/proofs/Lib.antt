@@ -1,3 +1,4 @@
-pub mod Building
 pub mod Faulty
+pub mod Parts
+pub mod Terms
 pub mod Whole

@@ -16,11 +16,10 @@ use Rattle.derive_decl.specs.Structs.{MemberOf, FormOf, named_fields, unnamed_fi
 use Rattle.derive_decl.specs.Faults.{with_ident, field_idents, fields_in, body_fields, IsSmall}
 use Rattle.derive_decl.specs.Whole.{structs_of, MembersDiffer, IsSmallItem}
 use Rattle.closing.specs.Described.{TypesWithin, AreWithin}
-use Rattle.closing.specs.Inline.{are_referred}
-use Rattle.compose.specs.Faults.{named_in, IsInlined}
+use Rattle.compose.specs.Faults.{named_in}
 use Rattle.compose.specs.Faults as faults
-use Rattle.compose.specs.Settled.{IsReferred, IsSettled}
-use Rattle.compose.proofs.Building.{some_same, mapped, joined}
+use Rattle.compose.specs.Settled.{IsSettled}
+use Rattle.compose.proofs.Parts.{some_same, mapped, joined}
 
 -- ---- names
 
@@ -150,7 +149,7 @@ module _ (place_of : List ℕ → Option ℕ) where
           | inr w ↦ none_faulty ds j.1 j.3 l.1 w
         ]
 
-  -- ---- each form has its fields, and is built
+  -- ---- each form has its fields, and each named field its name
 
   empty_form : (b : BodyItem) (form : FormOf) → body_form place_of b ≡ Some form → b ≡ struct_body (unnamed []) → ⊥
   empty_form b form e h = none-some form (sym (ap (body_form place_of) h) ∙ e)
@@ -182,21 +181,13 @@ module _ (place_of : List ℕ → Option ℕ) where
   body_named : (span : Span) (b : BodyItem) (form : FormOf) → body_form place_of b ≡ Some form → Somewhere (λ f. (f.ident ≡ None) × (span ≡ f.span)) (faults.named_fields b) → ⊥
   body_named span (struct_body fs) form e h = form_named span fs form e h
 
-  not_inlined : (d : DeclaredItem) (s : StructOf) → struct_of place_of d ≡ Some s → IsReferred s → IsInlined place_of d → ⊥
-  not_inlined d s e h i = false≢true (sym i.2 ∙ ap (λ (r : StructOf). are_referred (types_of r.form)) (some_same i.0 s (sym i.1 ∙ e)) ∙ h)
-
-  pub none_unbuilt : (span : Span) (ds : List DeclaredItem) (ss : List StructOf) → all_of (struct_of place_of) ds ≡ Some ss → AllByRecursion IsReferred ss →
-      Somewhere (λ d. (IsInlined place_of d × (span ≡ d.span)) ⊎ Somewhere (λ f. (f.ident ≡ None) × (span ≡ f.span)) (faults.named_fields d.body)) ds → ⊥
-  none_unbuilt span [] ss e r h = h
-  none_unbuilt span (d ∷ ds) ss e r h =
+  pub none_nameless : (span : Span) (ds : List DeclaredItem) (ss : List StructOf) → all_of (struct_of place_of) ds ≡ Some ss → Somewhere (λ d. Somewhere (λ f. (f.ident ≡ None) × (span ≡ f.span)) (faults.named_fields d.body)) ds → ⊥
+  none_nameless span [] ss e h = h
+  none_nameless span (d ∷ ds) ss e h =
       let j = joined (struct_of place_of d) (all_of (struct_of place_of) ds) ss e in
-      let built : AllByRecursion IsReferred (j.0 ∷ j.1) = subst (AllByRecursion IsReferred) (sym j.4) r in
       elim h [
-        | inl w ↦ elim w [
-          | inl other ↦ not_inlined d j.0 j.2 built.0 other.0
-          | inr field ↦ body_named span d.body j.0.form (struct_parts d j.0 j.2).1 field
-        ]
-        | inr w ↦ none_unbuilt span ds j.1 j.3 built.1 w
+        | inl w ↦ body_named span d.body j.0.form (struct_parts d j.0 j.2).1 w
+        | inr w ↦ none_nameless span ds j.1 j.3 w
       ]
 
 -- ---- no name twice
@@ -233,9 +224,9 @@ fields_differ place_of x (d ∷ ds) ss e differ h =
 
 -- ---- all of it
 
--- declarations that have structs, which are built, whose types are small and whose names differ
-pub settled : ResolvedHaveNoFault → ResolvedAreWithin → (ds : List DeclaredItem) (ss : List StructOf) → structs_of ds ≡ Some ss → AllByRecursion IsSmallItem ds → AllByRecursion IsReferred ss → IsDistinct (declared_names ds) → MembersDiffer ss → IsSettled ds ss
-settled sound within ds ss e small built distinct differ = record {
+-- declarations that have structs, whose types are small and whose names differ
+pub settled : ResolvedHaveNoFault → ResolvedAreWithin → (ds : List DeclaredItem) (ss : List StructOf) → structs_of ds ≡ Some ss → AllByRecursion IsSmallItem ds → IsDistinct (declared_names ds) → MembersDiffer ss → IsSettled ds ss
+settled sound within ds ss e small distinct differ = record {
   resolved = e;
   clear = record {
     distinct = λ x h. elim h [
@@ -244,8 +235,9 @@ settled sound within ds ss e small built distinct differ = record {
     ];
     resolved = λ fault h. none_faulty (place_among ds) sound fault ds ss e small h;
     fielded = λ x h. none_fieldless (place_among ds) x ds ss e h;
-    built = λ span h. none_unbuilt (place_among ds) span ds ss e built h;
+    named = λ span h. none_nameless (place_among ds) span ds ss e h;
   };
+  names = names;
   apart = (subst IsDistinct (sym names) distinct, differ);
   within = are_within (place_among ds) within (length ss) (λ k d h. subst (λ m. d < m) (ap length (sym names) ∙ many_names ss) (below_names k (declared_names ds) d h)) ds ss e;
 }

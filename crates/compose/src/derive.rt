@@ -1,26 +1,24 @@
 //! From a source to its components.
 
-ghost use Rattle.std.specs.Prelude.{◌≡◌, ◌⊎◌, ℕ, List as Items, map, IfOk, IfErr};
-ghost use Rattle.std.specs.BTreeMap.{get_by_text};
+ghost use Rattle.std.specs.Prelude.{◌≡◌, ◌⊎◌, map, IfOk, IfErr};
 ghost use Rattle.schema_core.specs.Document.{document};
-ghost use Rattle.scopes.specs.Names.{place_in};
-ghost use Rattle.syntax.specs.Items.{declarations_view};
-ghost use Rattle.derive_decl.specs.Structs.{struct_names};
+ghost use Rattle.syntax.specs.Items.{declaration_view, declarations_view};
 ghost use Rattle.derive_decl.specs.Views.{struct_view};
-ghost use Rattle.closing.specs.Described.{Describes};
+ghost use Rattle.closing.specs.Described.{AreComponents, Describes};
+ghost use Rattle.instances.specs.Bounds.{AreBounded, IsUnbounded};
 ghost use Rattle.compose.specs.Faults.{IsFaulty, IsDerived, IsRefused};
 ghost use Rattle.compose.specs.Settled.{IsSettled};
 
-use crate::built::all_referred;
 use closing::components_of;
 use configuration::Config;
 use derive_decl::{Struct, structs_of};
 use diag::{DeriveError, List};
+use inline_places::{inlining_of, terms_of};
+use instances::inline_order_of;
 use schema_core::Components;
 use scopes::declared_places;
 use std::alloc::Global;
-use std::collections::BTreeMap;
-use syntax::{Declarations, parse_declarations};
+use syntax::{Declaration, Declarations, parse_declarations};
 
 /// What is derived of a source.
 #[derive(Drop)]
@@ -29,51 +27,62 @@ pub struct Derived {
     pub components: Components,
 }
 
-/// What declarations come down to: the structs and the places of their names.
-#[derive(Drop)]
-struct Settled {
-    structs: List<Struct>,
-    places: BTreeMap<String, usize>,
-}
-
-/// The structs of the declarations, and the places of their names.
+/// The structs of the declarations.
 fn settle(
     alloc: Global,
     declarations: &Declarations,
     config: &Config,
-) -> Result<Settled, DeriveError>
-    ensures settled { IfOk result (λ s. IsSettled (declarations_view declarations.now) (map struct_view s.structs)) }
-    ensures places { IfOk result (λ s. (name : Items ℕ) → get_by_text s.places name ≡ place_in name (struct_names (map struct_view s.structs))) }
+) -> Result<List<Struct>, DeriveError>
+    ensures settled { IfOk result (λ ss. IsSettled (declarations_view declarations.now) (map struct_view ss)) }
     ensures refused { IfErr result (λ e. (e ≡ DeriveError.Memory) ⊎ IsFaulty (declarations_view declarations.now) e) }
 {
     let places = declared_places(alloc, declarations)?;
     let structs = structs_of(alloc, declarations, &places, config)?;
-    all_referred(alloc, declarations.items.as_slice(), structs.as_slice())?;
     resolving::resolved_have_no_fault();
     resolving::resolved_are_within();
-    Ok(Settled { structs, places })
+    Ok(structs)
+}
+
+/// The components of the structs, where nothing is beyond its bound.
+fn bounded_components(
+    alloc: Global,
+    declarations: &[Declaration],
+    structs: &[Struct],
+    config: &Config,
+) -> Result<Components, DeriveError>
+    requires { IsSettled (map declaration_view declarations.now) (map struct_view structs.now) }
+    ensures bounded { IfOk result (λ _. AreBounded config.now (map declaration_view declarations.now) (map struct_view structs.now)) }
+    ensures components { IfOk result (λ components. AreComponents (map struct_view structs.now) components) }
+    ensures refused { IfErr result (λ e. (e ≡ DeriveError.Memory) ⊎ IsUnbounded config.now (map declaration_view declarations.now) (map struct_view structs.now) e) }
+{
+    closing::targets_are_declared();
+    let terms = terms_of(alloc, structs)?;
+    let targets = inlining_of(alloc, terms.as_slice())?;
+    let order = inline_order_of(alloc, declarations, structs, targets.as_slice(), config)?;
+    Ok(components_of(alloc, structs, terms.as_slice(), order.as_slice())?)
 }
 
 /// The components of the source's declarations.
 ///
-/// A refusal is of kind `TooDeep` or `Syntax`, where the source cannot be read; or of kind `DuplicateName`, `UnknownType`,
-/// `Arity`, `TypeSize`, or `Syntax` for a declaration with a type that takes the schema of a declaration itself, which is
-/// not built yet. Of these a name that two declarations have comes first; then declaration by declaration what is wrong
-/// with a field's type, in the order of the fields, before a name that two fields have.
+/// A refusal is of kind `TooDeep` or `Syntax`, where the source cannot be read. Else it is of kind `DuplicateName`,
+/// `UnknownType`, `Arity` or `TypeSize`: a name that two declarations have comes first; then, declaration by declaration, what
+/// is wrong with a field's type, before a name that two fields have; a form of unnamed fields without a field is `Arity`. Else
+/// it is `TooManyInstances`, `InlineDepth` or `TooManyCopies`, in this order, where the instances are beyond a bound of the
+/// configuration.
 pub fn derive_components(
     alloc: Global,
     source: &str,
     config: &Config,
 ) -> Result<Derived, DeriveError>
-    ensures derived { IfOk result (λ derived. IsDerived source.now derived.components) }
-    ensures refused { IfErr result (λ e. (e ≡ DeriveError.Memory) ⊎ IsRefused source.now e) }
+    ensures derived { IfOk result (λ derived. IsDerived config.now source.now derived.components) }
+    ensures refused { IfErr result (λ e. (e ≡ DeriveError.Memory) ⊎ IsRefused config.now source.now e) }
     // The document of the components describes the structs of the source.
-    ensures describes { IfOk result (λ derived. (made : IsDerived source.now derived.components) × Describes made.structs (document derived.components)) }
+    ensures describes { IfOk result (λ derived. (made : IsDerived config.now source.now derived.components) × Describes made.structs (document derived.components)) }
 {
     let declarations = parse_declarations(alloc, source)?;
-    let settled = settle(alloc, &declarations, config)?;
-    drop(declarations);
-    let components = components_of(alloc, settled.structs.as_slice(), &settled.places)?;
+    let structs = settle(alloc, &declarations, config)?;
+    let (items, structs) = (declarations.items.as_slice(), structs.as_slice());
+    let components = bounded_components(alloc, items, structs, config)?;
     closing::components_describe();
     Ok(Derived { components })
 }

@@ -1,10 +1,9 @@
 //! From a source to the components of its declarations, which describe the JSON that serde reads for them.
 #![tactic(auto)]
 
-mod built;
 mod derive;
 #[cfg(test)]
 mod tests;
 
-pub use closing::components_describe;
+pub use closing::{components_describe, references_accept};
 pub use derive::{Derived, derive_components};

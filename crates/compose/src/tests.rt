@@ -1,13 +1,13 @@
-use crate::{components_describe, derive_components};
+use crate::{components_describe, derive_components, references_accept};
 use acceptance::component_accepts;
 use configuration::Config;
 use diag::DeriveError;
 use serde_json::Value;
-use std::alloc::Global;
+use std::alloc::{AllocError, Global};
 use std::test::Fail;
 
 /// The schemas of the source's components, as the document's text has them.
-const SCHEMAS: [(&str, &str); 19] = [
+const SCHEMAS: [(&str, &str); 23] = [
     ("", ""),
     ("struct Empty {}", r#""Empty":{"type":"object"}"#),
     (
@@ -75,6 +75,22 @@ const SCHEMAS: [(&str, &str); 19] = [
         r#""S":{"properties":{"a":{"format":"int32","type":["integer","null"]},"b":{"items":{"type":["string","null"]},"type":"array"},"c":{"items":{"format":"int32","minimum":0,"type":"integer"},"type":"array"},"d":{"items":{"format":"int32","minimum":0,"type":"integer"},"type":"array"},"e":{"items":{"items":{"format":"int32","minimum":0,"type":"integer"},"type":"array"},"type":"array","uniqueItems":true},"f":{"default":null},"g":{},"h":{"type":["object","null"]},"p":{"items":false,"prefixItems":[{"format":"int32","type":"integer"},{"type":"boolean"}],"type":"array"}},"required":["b","c","d","e","p"],"type":"object"}"#,
     ),
     (
+        "struct B {} struct A { pub x: Vec<(u8, B)>, y: B }",
+        r##""A":{"properties":{"x":{"items":{"items":false,"prefixItems":[{"format":"int32","minimum":0,"type":"integer"},{"type":"object"}],"type":"array"},"type":"array"},"y":{"$ref":"#/components/schemas/B"}},"required":["x","y"],"type":"object"},"B":{"type":"object"}"##,
+    ),
+    (
+        "struct A { m: HashMap<B, HashMap<String, B>> } struct B { c: (C,) } struct C(bool);",
+        r##""A":{"properties":{"m":{"additionalProperties":{"additionalProperties":{"$ref":"#/components/schemas/B"},"propertyNames":{"type":"string"},"type":"object"},"propertyNames":{"properties":{"c":{"items":false,"prefixItems":[{"type":"boolean"}],"type":"array"}},"required":["c"],"type":"object"},"type":"object"}},"required":["m"],"type":"object"},"B":{"properties":{"c":{"items":false,"prefixItems":[{"type":"boolean"}],"type":"array"}},"required":["c"],"type":"object"},"C":{"type":"boolean"}"##,
+    ),
+    (
+        "struct A { a: Option<(i32, Option<B>)> } /// The B.\nstruct B { /// The A.\n a: Vec<A>, x: () }",
+        r##""A":{"properties":{"a":{"items":false,"prefixItems":[{"format":"int32","type":"integer"},{"oneOf":[{"description":"The B.","properties":{"a":{"description":"The A.","items":{"$ref":"#/components/schemas/A"},"type":"array"},"x":{"default":null}},"required":["a","x"],"type":"object"},{"type":"null"}]}],"type":["array","null"]}},"type":"object"},"B":{"description":"The B.","properties":{"a":{"description":"The A.","items":{"$ref":"#/components/schemas/A"},"type":"array"},"x":{"default":null}},"required":["a","x"],"type":"object"}"##,
+    ),
+    (
+        "struct A(Vec<((), (A2, Vec<A2>))>); struct A2(Option<Box<A>>, Option<Box<A>>);",
+        r##""A":{"items":{"items":false,"prefixItems":[{"default":null},{"items":false,"prefixItems":[{"items":{"oneOf":[{"$ref":"#/components/schemas/A"},{"type":"null"}]},"maxItems":2,"minItems":2,"type":"array"},{"items":{"items":{"oneOf":[{"$ref":"#/components/schemas/A"},{"type":"null"}]},"maxItems":2,"minItems":2,"type":"array"},"type":"array"}],"type":"array"}],"type":"array"},"type":"array"},"A2":{"items":{"oneOf":[{"$ref":"#/components/schemas/A"},{"type":"null"}]},"maxItems":2,"minItems":2,"type":"array"}"##,
+    ),
+    (
         "struct A { b: HashMap<String, Rc<A>>, c: Arc<[A]> }",
         r##""A":{"properties":{"b":{"additionalProperties":{"$ref":"#/components/schemas/A"},"propertyNames":{"type":"string"},"type":"object"},"c":{"items":{"$ref":"#/components/schemas/A"},"type":"array"}},"required":["b","c"],"type":"object"}"##,
     ),
@@ -104,6 +120,12 @@ const VALUES: &str = r#"[
     {"source": "struct P(i32, i32); struct Q { a: Rc<P>, b: Object, c: Value }", "name": "Q",
         "accepted": [{"a": [1, 2], "b": {"x": []}, "c": null}, {"a": [0, -1], "b": {}, "c": [1]}],
         "refused": [{"a": [1], "b": {}, "c": 1}, {"a": [1, 2, 3], "b": {}, "c": 1}, {"a": [1, "2"], "b": {}, "c": 1}, {"a": [1, 2], "b": null, "c": 1}, {"a": [1, 2], "b": {}}]},
+    {"source": "struct A { p: (B, Option<B>) } struct B { x: bool, a: Option<Box<A>> }", "name": "A",
+        "accepted": [{"p": []}, {"p": [{"x": true}]}, {"p": [{"x": true}, null]}, {"p": [{"x": false, "a": {"p": []}}, {"x": true, "a": null}]}],
+        "refused": [{}, {"p": [null]}, {"p": [{"x": 1}]}, {"p": [{"x": true}, {}]}, {"p": [{"x": true, "a": {"p": [{}]}}]}, {"p": [{"x": true}, null, 1]}]},
+    {"source": "struct A { m: BTreeMap<String, ((B, u8), B)> } struct B(i8, i8);", "name": "A",
+        "accepted": [{"m": {}}, {"m": {"k": [[[1, 2], 3], [4, 5]]}}, {"m": {"k": [], "l": [[]]}}],
+        "refused": [{"m": {"k": [[[1], 3]]}}, {"m": {"k": [[[1, 2], -3]]}}, {"m": {"k": [[[1, 2], 3], [4]]}}, {"m": {"k": [[[1, 2], 3], [4, 5], 6]}}]},
     {"source": "struct W(Box<W>);", "name": "W", "accepted": [], "refused": [null, 1, {}, []]}
 ]"#;
 
@@ -120,6 +142,7 @@ fn schemas_stand_in_the_document(rt: HostRuntime) -> Result<(), Fail> {
         assert_eq!(rt; text.as_str(), expected.as_str(), "{source}");
     }
     components_describe();
+    references_accept();
     Ok(())
 }
 
@@ -175,7 +198,7 @@ fn refusal_text(alloc: Global, source: &str) -> Result<String, Fail> {
 }
 
 /// Sources with the kind, the bytes and the message of their refusals.
-const FAULTS: [(&str, &str); 21] = [
+const FAULTS: [(&str, &str); 20] = [
     (
         "struct A {} struct A {}",
         "DuplicateName 19..20 name A is given twice",
@@ -229,12 +252,8 @@ const FAULTS: [(&str, &str); 21] = [
         "Arity 33..35 wrong number of type arguments for u8",
     ),
     (
-        "struct B {} struct A { pub x: Vec<(u8, B)> }",
-        "Syntax 12..44 unexpected text in a declaration",
-    ),
-    (
-        "struct A(HashMap<Option<A>, u8>);",
-        "Syntax 0..33 unexpected text in a declaration",
+        "struct B { x: Gone } struct A { pub x: (A, bool) }",
+        "UnknownType 14..18 unknown type Gone",
     ),
     ("struct A { x: Vec }", "UnknownType 14..17 unknown type Vec"),
     ("struct A();", "Arity 7..8 a tuple form without a field"),
@@ -256,6 +275,201 @@ fn faults_are_refused(rt: HostRuntime) -> Result<(), Fail> {
     for (source, expected) in FAULTS {
         let text = refusal_text(alloc, source)?;
         assert_eq!(rt; text.as_str(), expected, "{source}");
+    }
+    Ok(())
+}
+
+/// Declarations of which each has the next one in a tuple, as often as it says, and the last one has the end.
+fn chain(alloc: Global, many: usize, often: usize, end: &str) -> Result<String, AllocError> {
+    let mut source = String::new(alloc);
+    for at in 1..many {
+        source.push_str(format!(in alloc; "struct A{at} {{ p: (")?.as_str())?;
+        for _ in 0..often {
+            source.push_str(format!(in alloc; "A{}, ", at + 1)?.as_str())?;
+        }
+        source.push_str(") } ")?;
+    }
+    source.push_str(format!(in alloc; "struct A{many} {{ p: {end} }}")?.as_str())?;
+    Ok(source)
+}
+
+/// As many structs without fields.
+fn structs(alloc: Global, many: usize) -> Result<String, AllocError> {
+    let mut source = String::new(alloc);
+    for at in 1..many + 1 {
+        source.push_str(format!(in alloc; "struct A{at} {{}} ")?.as_str())?;
+    }
+    Ok(source)
+}
+
+/// How many instances the source's refusal has, and the first two.
+fn instances_text(alloc: Global, source: &str) -> Result<String, AllocError> {
+    let mut text = String::new(alloc);
+    if let Err(DeriveError::Refused(diagnostics)) = derive_components(
+        alloc,
+        source,
+        &Config::new(alloc),
+    ) {
+        let instances = diagnostics.instances();
+        text.push_str(format!(in alloc; ", {}", instances.len())?.as_str())?;
+        for instance in instances.iter().take(2) {
+            text.push_str(" ")?;
+            text.push_str(instance.as_str())?;
+        }
+    }
+    Ok(text)
+}
+
+/// The text of so many pieces.
+fn repeated(alloc: Global, piece: &str, many: usize) -> Result<String, AllocError> {
+    let mut text = String::new(alloc);
+    for _ in 0..many {
+        text.push_str(piece)?;
+    }
+    Ok(text)
+}
+
+/// A field whose type has so many pieces around what it ends in.
+fn field(
+    alloc: Global,
+    many: usize,
+    before: &str,
+    end: &str,
+    behind: &str,
+) -> Result<String, AllocError> {
+    let before = repeated(alloc, before, many)?;
+    let behind = repeated(alloc, behind, many)?;
+    format!(in alloc; "struct S {{ x: {before}{end}{behind} }}")
+}
+
+/// A source of the form, with so many of what it is bounded in.
+fn hostile(alloc: Global, form: &str, many: usize) -> Result<String, AllocError> {
+    match form {
+        "brackets" => {
+            let open = repeated(alloc, "[", many - 1)?;
+            let close = repeated(alloc, "]", many - 1)?;
+            format!(in alloc; "#![{open}{close}]")
+        }
+        "open brackets" => repeated(alloc, "{", many),
+        "lists" => field(alloc, many, "Vec<", "bool", ">"),
+        "references" => field(alloc, many, "&", "bool", ""),
+        "tuple" => field(alloc, 1, "(", repeated(alloc, "u8,", many)?.as_str(), ")"),
+        "arguments" => field(
+            alloc,
+            1,
+            "bool<",
+            repeated(alloc, "u8,", many)?.as_str(),
+            ">",
+        ),
+        "structs" => structs(alloc, many),
+        "inlined" => chain(alloc, many, 1, "bool"),
+        "single tuple at the end" => chain(alloc, many, 1, "(bool,)"),
+        "inlined in itself" => chain(alloc, many, 1, "Vec<(A1, bool)>"),
+        "referred to itself" => chain(alloc, many, 1, "Vec<A1>"),
+        "key inlined in itself" => chain(alloc, many, 1, "HashMap<Option<A1>, bool>"),
+        "inlined twice" => chain(alloc, many, 2, "bool"),
+        _ => chain(alloc, many, 255, "bool"),
+    }
+}
+
+/// Forms of sources, how many there are of what each is bounded in, and the refusals.
+const HOSTILE: [(&str, usize, &str); 26] = [
+    ("brackets", 64, "no refusal"),
+    (
+        "brackets",
+        65,
+        "TooDeep 65..66 nesting is deeper than 64, 0",
+    ),
+    (
+        "open brackets",
+        64,
+        "Syntax 63..64 unexpected text in a declaration, 0",
+    ),
+    (
+        "open brackets",
+        65,
+        "TooDeep 64..65 nesting is deeper than 64, 0",
+    ),
+    ("lists", 63, "no refusal"),
+    ("lists", 64, "TooDeep 270..274 nesting is deeper than 64, 0"),
+    ("references", 63, "no refusal"),
+    (
+        "references",
+        64,
+        "TooDeep 78..82 nesting is deeper than 64, 0",
+    ),
+    ("tuple", 255, "no refusal"),
+    (
+        "tuple",
+        256,
+        "TypeSize 14..784 a type has more than 256 names, 0",
+    ),
+    (
+        "arguments",
+        1,
+        "Arity 14..18 wrong number of type arguments for bool, 0",
+    ),
+    (
+        "arguments",
+        256,
+        "Arity 14..18 wrong number of type arguments for bool, 0",
+    ),
+    ("structs", 1000, "no refusal"),
+    (
+        "structs",
+        1001,
+        "TooManyInstances 14900..14905 more than 1000 instances are reachable, 0",
+    ),
+    ("inlined", 32, "no refusal"),
+    (
+        "inlined",
+        33,
+        "InlineDepth 7..9 types are inlined deeper than 32, 33 A1 A2",
+    ),
+    ("single tuple at the end", 32, "no refusal"),
+    (
+        "inlined in itself",
+        1,
+        "InlineDepth 7..9 types are inlined deeper than 32, 33 A1 A1",
+    ),
+    (
+        "inlined in itself",
+        2,
+        "InlineDepth 7..9 types are inlined deeper than 32, 33 A1 A2",
+    ),
+    ("referred to itself", 2, "no refusal"),
+    (
+        "key inlined in itself",
+        2,
+        "InlineDepth 7..9 types are inlined deeper than 32, 33 A1 A2",
+    ),
+    ("inlined twice", 12, "no refusal"),
+    (
+        "inlined twice",
+        13,
+        "TooManyCopies 0..0 more than 10000 copies are inlined, 0",
+    ),
+    ("inlined 255 times", 2, "no refusal"),
+    (
+        "inlined 255 times",
+        3,
+        "TooManyCopies 0..0 more than 10000 copies are inlined, 0",
+    ),
+    (
+        "inlined 255 times",
+        32,
+        "TooManyCopies 0..0 more than 10000 copies are inlined, 0",
+    ),
+];
+
+#[test]
+fn hostile_sources_end(rt: HostRuntime) -> Result<(), Fail> {
+    let alloc = rt.alloc();
+    for (form, many, expected) in HOSTILE {
+        let source = hostile(alloc, form, many)?;
+        let mut text = refusal_text(alloc, source.as_str())?;
+        text.push_str(instances_text(alloc, source.as_str())?.as_str())?;
+        assert_eq!(rt; text.as_str(), expected, "{many} {form}");
     }
     Ok(())
 }

@@ -1,10 +1,18 @@
--- What all declarations of a source are resolved to.
-use Rattle.std.specs.Prelude.{ℕ, List, [], ◌∷◌, Option}
+-- What a declaration is resolved to where nothing is at fault, and what all declarations of a source are.
+use Rattle.std.specs.Prelude.{◌≡◌, ℕ, List, [], ◌∷◌, Option, Some, option_map}
 use Rattle.schema_core.specs.Meaning.{IsDistinct}
-use Rattle.syntax.specs.Items.{DeclaredItem}
+use Rattle.written_types.specs.declared.written.Ident.{Ident}
+use Rattle.syntax.specs.declared.item.Attribute.{Attribute}
+use Rattle.syntax.specs.Items.{BodyItem, DeclaredItem}
 use Rattle.scopes.specs.Names.{place_among}
-use Rattle.derive_decl.specs.Structs.{StructOf, names_of, all_of, struct_of}
+use Rattle.derive_decl.specs.Structs.{StructOf, names_of, all_of, body_form, struct_from, struct_of}
 use Rattle.derive_decl.specs.Faults.{HasSmall}
+
+-- The struct is what a declaration of these attributes, this name and this body is resolved to: its members have different names, and its types are not too large.
+pub record IsResolved (place_of : List ℕ → Option ℕ) (attributes : List Attribute) (x : Ident) (body : BodyItem) (of : StructOf) : Type 0 where
+  pub resolved : option_map (struct_from attributes x) (body_form place_of body) ≡ Some of
+  pub distinct : IsDistinct (names_of of.form)
+  pub small : HasSmall body
 
 -- the structs of all declarations, where each type stands for something
 abbrev pub structs_of : List DeclaredItem → Option (List StructOf)

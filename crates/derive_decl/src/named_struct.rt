@@ -7,7 +7,7 @@ ghost use Rattle.schema_core.specs.Schema.{object_view, named_views};
 ghost use Rattle.scopes.specs.Scopes.{IsScope};
 ghost use Rattle.syntax.specs.Items.{field_view, named};
 ghost use Rattle.component.specs.Leaves.{leaf_view, term_view};
-ghost use Rattle.derive_decl.specs.Structs.{all_of, description_of, form_of, member_of, member_names, named_fields};
+ghost use Rattle.derive_decl.specs.Structs.{all_of, description_of, form_of, member_of, member_names};
 ghost use Rattle.derive_decl.specs.Terms.{properties_of, required_names, object_of, form_term};
 ghost use Rattle.derive_decl.specs.Faults.{IsFaultyMember, AreFaultyMembers, IsSmall, field_idents};
 ghost use Rattle.derive_decl.specs.Views.{known, member_view, named_view};
@@ -122,19 +122,18 @@ fn object_of(properties: List<(Text, Term)>, required: List<Text>, notes: Notes)
     }
 }
 
-/// The schema of named fields.
-fn named_term(
-    alloc: Global,
-    description: &Option<Text>,
-    members: &[Member],
-) -> Result<Term, AllocError>
-    ensures { IfOk result (λ s. term_view s ≡ form_term description.now (named_fields (map member_view members.now))) }
-{
-    let properties = properties_of(alloc, members)?;
-    let required = required_of(alloc, members)?;
-    let notes = noted(alloc, false, description)?;
-    let object = object_of(properties, required, notes);
-    Ok(Tree::Object(Box::new(alloc, object)?))
+impl NamedStructSchema {
+    /// The schema of the struct.
+    pub(crate) fn term(&self, alloc: Global) -> Result<Term, AllocError>
+        ensures { IfOk result (λ t. term_view t ≡ form_term self.now.description (named_view self.now)) }
+    {
+        let members = self.members.as_slice();
+        let properties = properties_of(alloc, members)?;
+        let required = required_of(alloc, members)?;
+        let notes = noted(alloc, false, &self.description)?;
+        let object = object_of(properties, required, notes);
+        Ok(Tree::Object(Box::new(alloc, object)?))
+    }
 }
 
 impl ToTerm for NamedStructSchema {
@@ -149,6 +148,6 @@ impl ToTerm for NamedStructSchema {
     ghost is_refused = { λ _ _. ⊥ };
 
     fn to_term(&self, alloc: Global) -> Result<Term, DeriveError> {
-        Ok(named_term(alloc, &self.description, self.members.as_slice())?)
+        Ok(self.term(alloc)?)
     }
 }

@@ -1,14 +1,15 @@
 //! The schema of a declaration.
 
-ghost use Rattle.std.specs.Prelude.{◌≡◌, ◌⊎◌, map, IfOk, IfErr, Some, option_map};
+ghost use Rattle.std.specs.Prelude.{◌≡◌, ◌⊎◌, map, IfOk, IfErr, Some};
 ghost use Rattle.std.specs.List.{AllByRecursion};
 ghost use Rattle.schema_core.specs.Meaning.{IsDistinct};
 ghost use Rattle.open_types.specs.Open.{open_view};
 ghost use Rattle.scopes.specs.Scopes.{IsScope};
 ghost use Rattle.syntax.specs.Items.{fields_view, body_view};
-ghost use Rattle.derive_decl.specs.Structs.{form_of, body_form, description_of, struct_from, names_of, types_of};
+ghost use Rattle.derive_decl.specs.Structs.{StructOf, form_of, body_form, description_of, names_of, types_of};
 ghost use Rattle.derive_decl.specs.Faults.{fields_in, IsSmall, HasSmall, AreFaulty, IsFaultyBody};
 ghost use Rattle.derive_decl.specs.Views.{known, form_view, form_description, struct_view};
+ghost use Rattle.derive_decl.specs.Whole.{IsResolved};
 
 use crate::named_struct::NamedStructSchema;
 use crate::root::Root;
@@ -90,12 +91,11 @@ impl<'a> Schema<'a> {
     /// The declaration with its types resolved.
     ///
     /// A refusal is of kind `UnknownType`, `Arity` or `TypeSize`, for the type of a field; `DuplicateName`, at the second
-    /// of two names that are equal; or `Arity`, at the name of a declaration whose form is unnamed fields without a field.
+    /// of two names that are equal; `Arity`, at the name of a declaration whose form is unnamed fields without a field; or
+    /// `Syntax`, at a named field without a name.
     pub fn resolve(&self, alloc: Global) -> Result<Struct, DeriveError>
         requires { IsScope self.now.container.now.scope.now }
-        ensures resolved { IfOk result (λ s. option_map (struct_from self.now.attributes.now self.now.ident.now) (body_form (known self.now.container.now) (body_view self.now.body.now)) ≡ Some (struct_view s)) }
-        ensures distinct { IfOk result (λ s. IsDistinct (names_of (struct_view s).form)) }
-        ensures small { IfOk result (λ _. HasSmall (body_view self.now.body.now)) }
+        ensures resolved { IfOk result (λ s. IsResolved (known self.now.container.now) self.now.attributes.now self.now.ident.now (body_view self.now.body.now) (struct_view s)) }
         ensures refused { IfErr result (λ e. (e ≡ DeriveError.Memory) ⊎ IsFaultyBody (known self.now.container.now) self.now.ident.now (body_view self.now.body.now) e) }
     {
         let root = Root {
@@ -114,8 +114,7 @@ impl<'a> Schema<'a> {
     /// It is refused as `resolve` is.
     pub fn place_types(&self, alloc: Global) -> Result<List<OpenType>, DeriveError>
         requires { IsScope self.now.container.now.scope.now }
-        ensures types { IfOk result (λ ts. option_map types_of (body_form (known self.now.container.now) (body_view self.now.body.now)) ≡ Some (map open_view ts)) }
-        ensures small { IfOk result (λ _. HasSmall (body_view self.now.body.now)) }
+        ensures types { IfOk result (λ ts. (of : StructOf) × IsResolved (known self.now.container.now) self.now.attributes.now self.now.ident.now (body_view self.now.body.now) of × (types_of of.form ≡ map open_view ts)) }
         ensures refused { IfErr result (λ e. (e ≡ DeriveError.Memory) ⊎ IsFaultyBody (known self.now.container.now) self.now.ident.now (body_view self.now.body.now) e) }
     {
         let resolved = self.resolve(alloc)?;
@@ -124,17 +123,18 @@ impl<'a> Schema<'a> {
 }
 
 impl ToTerm for Schema<'_> {
-    ghost use Rattle.std.specs.Prelude.{◌≡◌, Some, option_map};
+    ghost use Rattle.std.specs.Prelude.{◌≡◌};
     ghost use Rattle.scopes.specs.Scopes.{IsScope};
     ghost use Rattle.syntax.specs.Items.{body_view};
-    ghost use Rattle.derive_decl.specs.Structs.{StructOf, body_form, struct_from};
+    ghost use Rattle.derive_decl.specs.Structs.{StructOf};
     ghost use Rattle.derive_decl.specs.Terms.{term};
     ghost use Rattle.derive_decl.specs.Faults.{IsFaultyBody};
     ghost use Rattle.derive_decl.specs.Views.{known};
+    ghost use Rattle.derive_decl.specs.Whole.{IsResolved};
 
     ghost is_ready = { λ s. IsScope s.container.now.scope.now };
 
-    ghost has_term = { λ s t. (of : StructOf) × (option_map (struct_from s.attributes.now s.ident.now) (body_form (known s.container.now) (body_view s.body.now)) ≡ Some of) × (t ≡ term of) };
+    ghost has_term = { λ s t. (of : StructOf) × IsResolved (known s.container.now) s.attributes.now s.ident.now (body_view s.body.now) of × (t ≡ term of) };
 
     ghost is_refused = { λ s e. IsFaultyBody (known s.container.now) s.ident.now (body_view s.body.now) e };
 

@@ -1,7 +1,9 @@
 ghost use Rattle.std.specs.Prelude.{◌≡◌, map, IfOk};
 ghost use Rattle.open_types.specs.Open.{open_view};
 ghost use Rattle.derive_decl.specs.Structs.{member_types, types_of};
-ghost use Rattle.derive_decl.specs.Views.{member_view, form_view};
+ghost use Rattle.component.specs.Leaves.{term_view};
+ghost use Rattle.derive_decl.specs.Terms.{term};
+ghost use Rattle.derive_decl.specs.Views.{member_view, form_view, struct_view};
 
 use crate::member::Member;
 use crate::named_struct::NamedStructSchema;
@@ -49,6 +51,19 @@ pub(crate) fn types_of(alloc: Global, form: Form) -> Result<List<OpenType>, Allo
     }
 }
 
+impl Struct {
+    /// The schema of the declaration, as a term.
+    pub fn term(&self, alloc: Global) -> Result<Term, AllocError>
+        ensures { IfOk result (λ t. term_view t ≡ term (struct_view self.now)) }
+    {
+        match &self.form {
+            Form::Named(form) => form.term(alloc),
+            Form::Unnamed(form) => form.term(alloc),
+            Form::Unit(form) => form.term(alloc),
+        }
+    }
+}
+
 impl ToTerm for Struct {
     ghost use Rattle.std.specs.Prelude.{◌≡◌};
     ghost use Rattle.derive_decl.specs.Terms.{term};
@@ -61,10 +76,6 @@ impl ToTerm for Struct {
     ghost is_refused = { λ _ _. ⊥ };
 
     fn to_term(&self, alloc: Global) -> Result<Term, DeriveError> {
-        match &self.form {
-            Form::Named(form) => form.to_term(alloc),
-            Form::Unnamed(form) => form.to_term(alloc),
-            Form::Unit(form) => form.to_term(alloc),
-        }
+        Ok(self.term(alloc)?)
     }
 }

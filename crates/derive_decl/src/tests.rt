@@ -1,7 +1,8 @@
 use crate::{Schema, shapes_deepen, terms_accept};
-use component::{Container, Fill, Term, TermLeaf, ToTerm, filled};
+use component::{Container, Term, TermLeaf, ToTerm};
 use configuration::Config;
 use diag::{DeriveError, List, Text};
+use filling::{Fill, filled};
 use open_types::OpenType;
 use schema_core::{Components, Notes, RefLeaf, Tree};
 use scopes::{Scope, declared_places};
@@ -145,9 +146,15 @@ impl Fill for Pages {
     ghost use Rattle.schema_core.specs.Schema.{leaf};
     ghost use Rattle.schema_core.specs.declared.notes.Notes.{Notes as AnyNotes};
     ghost use Rattle.schema_core.specs.declared.tree.RefLeaf.{RefLeaf as AnyReference};
-    ghost use Rattle.component.specs.Leaves.{param, named};
+    ghost use Rattle.component.specs.Leaves.{LeafOf, param, named, leaf_view};
+
+    type Hole = TermLeaf;
 
     type Leaf = RefLeaf;
+
+    ghost Origin = { LeafOf };
+
+    ghost origin = { leaf_view };
 
     ghost Meaning = { AnyReference };
 

@@ -1,13 +1,15 @@
 //! Structs without fields.
 
 ghost use Rattle.std.specs.Prelude.{◌≡◌, IfOk, IfErr};
-ghost use Rattle.derive_decl.specs.Structs.{description_of};
+ghost use Rattle.component.specs.Leaves.{term_view};
+ghost use Rattle.derive_decl.specs.Structs.{description_of, no_fields};
+ghost use Rattle.derive_decl.specs.Terms.{form_term};
 
 use crate::member::description_of;
 use crate::root::Root;
 use component::{Term, ToTerm, null_default};
 use diag::{DeriveError, Text};
-use std::alloc::Global;
+use std::alloc::{AllocError, Global};
 
 /// A struct without fields. Its schema has null as its default.
 #[derive(Debug, Drop)]
@@ -25,6 +27,13 @@ impl UnitStructVariant {
             description: description_of(alloc, root.attributes)?,
         })
     }
+
+    /// The schema of the struct.
+    pub(crate) fn term(&self, alloc: Global) -> Result<Term, AllocError>
+        ensures { IfOk result (λ t. term_view t ≡ form_term self.now.description no_fields) }
+    {
+        null_default(alloc, &self.description)
+    }
 }
 
 impl ToTerm for UnitStructVariant {
@@ -39,6 +48,6 @@ impl ToTerm for UnitStructVariant {
     ghost is_refused = { λ _ _. ⊥ };
 
     fn to_term(&self, alloc: Global) -> Result<Term, DeriveError> {
-        Ok(null_default(alloc, &self.description)?)
+        Ok(self.term(alloc)?)
     }
 }

@@ -9,7 +9,7 @@ ghost use Rattle.scopes.specs.Scopes.{IsScope};
 ghost use Rattle.syntax.specs.Items.{field_view, unnamed};
 ghost use Rattle.component.specs.Leaves.{term_view};
 ghost use Rattle.derive_decl.specs.Structs.{all_of, description_of, form_of};
-ghost use Rattle.derive_decl.specs.Terms.{are_all, any_object, list_of_length, unnamed_term};
+ghost use Rattle.derive_decl.specs.Terms.{are_all, any_object, list_of_length, unnamed_term, form_term};
 ghost use Rattle.derive_decl.specs.Faults.{IsFaultyType, AreFaultyTypes, IsSmall, fieldless_message};
 ghost use Rattle.derive_decl.specs.Views.{known, unnamed_view};
 
@@ -120,6 +120,15 @@ fn list_of_length(
     Ok(Tree::Array(Box::new(alloc, array)?))
 }
 
+impl UnnamedStructSchema {
+    /// The schema of the struct.
+    pub(crate) fn term(&self, alloc: Global) -> Result<Term, AllocError>
+        ensures { IfOk result (λ t. term_view t ≡ form_term self.now.description (unnamed_view self.now)) }
+    {
+        unnamed_term(alloc, &self.description, self.types.as_slice())
+    }
+}
+
 impl ToTerm for UnnamedStructSchema {
     ghost use Rattle.std.specs.Prelude.{◌≡◌};
     ghost use Rattle.derive_decl.specs.Terms.{form_term};
@@ -132,7 +141,7 @@ impl ToTerm for UnnamedStructSchema {
     ghost is_refused = { λ _ _. ⊥ };
 
     fn to_term(&self, alloc: Global) -> Result<Term, DeriveError> {
-        Ok(unnamed_term(alloc, &self.description, self.types.as_slice())?)
+        Ok(self.term(alloc)?)
     }
 }
 

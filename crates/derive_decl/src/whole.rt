@@ -46,7 +46,7 @@ fn struct_of(
 
 /// The structs of all declarations, in their order, where `places` has the places of their names.
 ///
-/// It refuses the first declaration that `Schema::resolve` refuses, as that does.
+/// It refuses a declaration that `Schema::resolve` refuses, as that does.
 pub fn structs_of(
     alloc: Global,
     declarations: &Declarations,

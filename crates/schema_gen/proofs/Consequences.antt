@@ -6,6 +6,7 @@ use Rattle.diag.specs.declared.error.DeriveError.TheVariants as error
 use Rattle.diag.specs.declared.kind.Kind.{Kind}
 use Rattle.schema_core.specs.Document.{Entry, document, text_of}
 use Rattle.streams.specs.Told.{IsAll}
+use Rattle.configuration.specs.Configuration.{empty_configuration}
 use Rattle.closing.specs.Described.{Describes}
 use Rattle.compose.specs.Faults.{IsDerived}
 use Rattle.schema_gen.specs.Owed.{Owed}
@@ -16,7 +17,7 @@ use Rattle.schema_gen.specs.declared.status.Status.TheVariants.{Done, Refused, U
 
 -- after `Done` the document's text was written
 pub done_owed : (words : List (List ℕ)) (left : Option (List ℕ)) (status : Status) (text report : List ℕ) (old new : Option (List ℕ)) → Owed words left status text report
-    → Appends old new text → status ≡ Done → (source : List ℕ) × (components : List Entry) × (made : IsDerived source components)
+    → Appends old new text → status ≡ Done → (source : List ℕ) × (components : List Entry) × (made : IsDerived empty_configuration source components)
     × IsAll left source × IsText source × Describes made.structs (document components) × Appends old new (text_of (document components))
 unfolding Owed
 done_owed words left status text report old new owed grown is =

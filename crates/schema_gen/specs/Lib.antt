@@ -6,8 +6,10 @@ pub mod Words
 pub use Rattle.acceptance.specs.Acceptance
 pub use Rattle.acceptance.specs.Json
 pub use Rattle.acceptance.specs.References
+pub use Rattle.closing.specs.Closed
 pub use Rattle.closing.specs.Described
 pub use Rattle.compose.specs.Faults
+pub use Rattle.configuration.specs.Configuration
 pub use Rattle.derive_decl.specs.Plain
 pub use Rattle.derive_decl.specs.Shape
 pub use Rattle.derive_decl.specs.Structs
@@ -15,6 +17,9 @@ pub use Rattle.diag.specs.Diagnostics
 pub use Rattle.diag.specs.Kind
 pub use Rattle.diag.specs.Refusal
 pub use Rattle.diag.specs.Span
+pub use Rattle.inline_places.specs.Targets
+pub use Rattle.inlining.specs.Inlining
+pub use Rattle.instances.specs.Bounds
 pub use Rattle.schema_core.specs.Document
 pub use Rattle.streams.specs.Faults as StreamFaults
 pub use Rattle.streams.specs.Memory

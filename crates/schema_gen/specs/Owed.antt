@@ -3,6 +3,7 @@ use Rattle.std.specs.Prelude.{◌≡◌, ℕ, List, [], codes}
 use Rattle.std.specs.declared.option.Option.{Option}
 use Rattle.schema_core.specs.Document.{Entry, document, text_of}
 use Rattle.streams.specs.Told.{IsAll}
+use Rattle.configuration.specs.Configuration.{empty_configuration}
 use Rattle.closing.specs.Described.{Describes}
 use Rattle.compose.specs.Faults.{IsDerived}
 use Rattle.schema_gen.specs.Refusals.{IsText, IsReported}
@@ -14,7 +15,7 @@ use Rattle.schema_gen.specs.declared.status.Status.TheVariants.{Done, Refused, U
 pub record IsDocumentOf (source text : List ℕ) : Type 0 where
   pub is_text : IsText source
   pub components : List Entry
-  pub made : IsDerived source components
+  pub made : IsDerived empty_configuration source components
   pub describes : Describes made.structs (document components)
   pub text_is : text ≡ text_of (document components)
 

@@ -1,5 +1,5 @@
 -- Why a source of bytes is refused, and how a refusal is reported.
-use Rattle.std.specs.Prelude.{◌≡◌, ◌<◌, ◌≤◌, ◌+◌, ◌++◌, ◌⊎◌, ℕ, List, [], ◌∷◌, length, codes}
+use Rattle.std.specs.Prelude.{◌≡◌, ◌<◌, ◌≤◌, ◌+◌, ◌++◌, ◌⊎◌, ℕ, List, [], ◌∷◌, length, Some, codes}
 use Rattle.std.specs.Fmt.{decimal}
 use Rattle.std.specs.Str.{IsUtf8, IsValidUpTo}
 use Rattle.diag.specs.Diagnostics.{text_of, HasFirst}
@@ -14,6 +14,10 @@ use Rattle.diag.specs.declared.kind.Kind.TheVariants.{TooLong, Syntax}
 use Rattle.diag.specs.declared.span.Span.{Span}
 use Rattle.syntax.specs.Items.{DeclaredItem}
 use Rattle.syntax.specs.Source.{Reads, NestsTooDeep}
+use Rattle.configuration.specs.Configuration.{empty_configuration}
+use Rattle.derive_decl.specs.Structs.{StructOf}
+use Rattle.derive_decl.specs.Whole.{structs_of}
+use Rattle.instances.specs.Bounds.{AreBounded}
 use Rattle.compose.specs.Faults.{IsRefused, AreClear}
 
 -- the most bytes of a source
@@ -43,15 +47,16 @@ IsNoText bytes e = (length bytes ≤ most_bytes) × ((span : Span) × IsBroken b
 
 -- the error refuses the bytes: they are too many, or else no UTF-8, or else the source that they are is refused
 abbrev pub IsRefusedSource : List ℕ → DeriveError → Type 0
-IsRefusedSource bytes e = IsTooLong bytes e ⊎ (IsNoText bytes e ⊎ (IsText bytes × IsRefused bytes e))
+IsRefusedSource bytes e = IsTooLong bytes e ⊎ (IsNoText bytes e ⊎ (IsText bytes × IsRefused empty_configuration bytes e))
 
--- No condition of a refusal holds of the bytes: they are a text that has a reading, and nothing in it is at fault.
+-- No condition of a refusal holds of the bytes: they are a text that has a reading, and nothing in it is at fault or beyond a bound.
 pub record IsSound (bytes : List ℕ) : Type 0 where
   pub text : IsText bytes
   pub declarations : List DeclaredItem
   pub read : Reads bytes declarations
   pub shallow : (span : Span) → ¬ NestsTooDeep bytes span
   pub clear : AreClear declarations
+  pub bounded : (structs : List StructOf) → structs_of declarations ≡ Some structs → AreBounded empty_configuration declarations structs
 
 -- ---- the report
 

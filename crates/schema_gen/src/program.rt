@@ -4,6 +4,7 @@ ghost use Rattle.diag.specs.declared.kind.Kind.{Kind as AnyKind};
 ghost use Rattle.schema_core.specs.Document.{Entry, document, text_of};
 ghost use Rattle.streams.specs.Faults.{CountsFault};
 ghost use Rattle.streams.specs.Told.{AppendsPart, IsAll};
+ghost use Rattle.configuration.specs.Configuration.{empty_configuration};
 ghost use Rattle.closing.specs.Described.{Describes};
 ghost use Rattle.compose.specs.Faults.{IsDerived};
 ghost use Rattle.schema_gen.specs.Owed.{Owed};
@@ -35,7 +36,7 @@ pub fn run<S: Source, O: Sink, E: Sink>(
 ) -> Status
     // The document that was written describes the structs that the source declares: each has its component, and so has
     // each reference, and the component accepts the JSON that has the struct's shape.
-    ensures done { result ≡ Status.Done → (source : List ℕ) × (components : List Entry) × (made : IsDerived source components)
+    ensures done { result ≡ Status.Done → (source : List ℕ) × (components : List Entry) × (made : IsDerived empty_configuration source components)
         × IsAll (S.left input.old) source × IsText source × Describes made.structs (document components)
         × Appends (O.written out.old) (O.written out.new) (text_of (document components)) }
     ensures refused { (kind : AnyKind) → result ≡ Status.Refused kind → IsDerive words.now

@@ -80,8 +80,8 @@ const REPORTS: [(&[&str], &[u8], Status, &str); 14] = [
     (
         &["derive"],
         b"struct S { x: (u8, S) }",
-        REFUSED_AS_SYNTAX,
-        "refused: Syntax 0..23: unexpected text in a declaration\n",
+        Status::Refused(Kind::InlineDepth),
+        "refused: InlineDepth 7..8: types are inlined deeper than 32\n",
     ),
     (
         &["derive"],

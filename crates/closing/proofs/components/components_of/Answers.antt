@@ -1,63 +1,50 @@
-use Rattle.std.proofs.Common.{◌≡◌, ◌<◌, length, map, string_bytes, ap, sym, ◌∙◌, subst, inr, rules, IsTrue, is_some}
+use Rattle.std.proofs.Common.{rules, ◌≡◌, ◌<◌, ◌+◌, suc, length, map, get_or, List, arith, ap, ◌∙◌, sym, subst}
 use Rattle.std.proofs.lemmas.List.{length-map}
+use Rattle.schema_core.specs.declared.tree.RefLeaf.{RefLeaf}
+use Rattle.schema_core.specs.declared.tree.Tree.{Tree}
 use Rattle.schema_core.specs.Schema.{schema_view}
-use Rattle.std.specs.BTreeMap.{get_by_text}
-use Rattle.std.specs.Map.Iter.{deref_pair}
-use Rattle.std.specs.String.{string_cmp_total}
-use Rattle.std.proofs.lemmas.Map.Iter.{btree_map_turn}
-use Rattle.derive_decl.specs.Structs.{struct_at}
+use Rattle.derive_decl.specs.Structs.{StructOf, struct_at}
 use Rattle.derive_decl.specs.Views.{struct_view}
-use Rattle.closing.specs.Closed.{struct_schema}
-use Rattle.closing.proofs.Entered.{known_none, placed, known_more, left_more, all_entered, struct_at-view, AreKnown, AreLeft, at_text}
+use Rattle.closing.specs.Closed.{schema_in, struct_schema}
+use Rattle.closing.proofs.Made.{in_front, at_end}
+use Rattle.closing.proofs.Entered.{AreKnown, AreThere, known_none, known_more, there_more, all_entered, struct_at-view}
 use Rattle.closing.proofs.components.components_of.Goals as goal
 
-pub loop-name-init : goal.loop-name-init
-loop-name-init c = record {
-  can = tt;
-  finite = tt;
-  known = subst (AreKnown (map struct_view c.args.structs.now)) (sym c.new-components.ensures) (known_none (map struct_view c.args.structs.now));
-  left = λ name h. inr (subst (λ es. IsTrue (is_some (at_text name es))) (sym (c.into_iter-name-iterator.ensures.into_iter_gives ∙ c.iter-name-items.ensures.rest)) h);
-}
-
-pub bounds-structs-place : goal.bounds-structs-place
-bounds-structs-place c =
-    let structs = c.args.structs.now in
-    let ss = map struct_view structs in
-    let turn = btree_map_turn deref_pair c.loop-name.yielded c.into_iter-name-iterator.result c.loop-name.name-iterator c.next.new.self c.next.result (c.in-Some.name, c.in-Some.place) c.loop-name.yielded_by c.in-Some.is c.next.ensures.steps string_cmp_total c.args.places.now (search rules) (search rules) in
-    let at = placed ss (string_bytes c.in-Some.name.now) c.in-Some.place.now (sym (c.requires.places (string_bytes c.in-Some.name.now)) ∙ turn.1) in
-    let within : c.in-Some.place.now < length structs = subst (λ n. c.in-Some.place.now < n) (length-map structs struct_view) at.0 in
-    within
-
-pub offset_bounds-structs-place : goal.offset_bounds-structs-place
-offset_bounds-structs-place c =
-    let structs = c.args.structs.now in
-    let ss = map struct_view structs in
-    let turn = btree_map_turn deref_pair c.loop-name.yielded c.into_iter-name-iterator.result c.loop-name.name-iterator c.next.new.self c.next.result (c.in-Some.name, c.in-Some.place) c.loop-name.yielded_by c.in-Some.is c.next.ensures.steps string_cmp_total c.args.places.now (search rules) (search rules) in
-    let at = placed ss (string_bytes c.in-Some.name.now) c.in-Some.place.now (sym (c.requires.places (string_bytes c.in-Some.name.now)) ∙ turn.1) in
-    let within : c.in-Some.place.now < length structs = subst (λ n. c.in-Some.place.now < n) (length-map structs struct_view) at.0 in
-    search rules
-
-pub loop-name-preserved : goal.loop-name-preserved
-loop-name-preserved c =
-    let structs = c.args.structs.now in
-    let ss = map struct_view structs in
-    let turn = btree_map_turn deref_pair c.loop-name.yielded c.into_iter-name-iterator.result c.loop-name.name-iterator c.next.new.self c.next.result (c.in-Some.name, c.in-Some.place) c.loop-name.yielded_by c.in-Some.is c.next.ensures.steps string_cmp_total c.args.places.now (search rules) (search rules) in
-    let at = placed ss (string_bytes c.in-Some.name.now) c.in-Some.place.now (sym (c.requires.places (string_bytes c.in-Some.name.now)) ∙ turn.1) in
-    let within : c.in-Some.place.now < length structs = subst (λ n. c.in-Some.place.now < n) (length-map structs struct_view) at.0 in
-    let name : c.in_ok-new.field-0 ≡ string_bytes c.in-Some.name.now = c.in_ok-new.ensures ∙ c.as_str.ensures.value in
-    let here : struct_view c.index-structs-place.result ≡ struct_at ss c.in-Some.place.now =
-    ap struct_view c.index-structs-place.is ∙ sym (struct_at-view structs c.in-Some.place.now c.index-structs-place.result within) in
-    let schema : schema_view c.in_ok-schema.schema ≡ struct_schema ss (struct_at ss c.in-Some.place.now) = c.in_ok-schema.ensures.schema ∙ ap (struct_schema ss) here in
+pub loop-schema-init : goal.loop-schema-init
+loop-schema-init c =
+    let ss = map struct_view c.args.structs.now in
     record {
-      can = tt;
-      finite = tt;
-      known = known_more ss c.in-Some.place.now c.in_ok-new.field-0 (schema_view c.in_ok-schema.schema) c.in_ok-insert.field-0 c.loop-name.components c.insert.new.self at.0 (name ∙ at.1) schema
-          c.in_ok-insert.ensures.new c.in_ok-insert.ensures.entries c.loop-name.invariant.known;
-      left = left_more (get_by_text c.args.places.now) c.in-Some.name.now c.in-Some.place.now c.next.new.self (schema_view c.in_ok-schema.schema) c.in_ok-new.field-0 c.in_ok-insert.field-0 c.loop-name.components c.insert.new.self
-          name c.in_ok-insert.ensures.new c.in_ok-insert.ensures.entries
-          (subst (λ es. AreLeft (get_by_text c.args.places.now) es c.loop-name.components) c.in-Some.ensures.steps c.loop-name.invariant.left);
+      few = omega (arith, c.in_ok-made.ensures.many);
+      schemas = λ d l. c.in_ok-made.ensures.schemas d (subst (λ n. d < n) c.in_ok-made.ensures.many l);
+      known = subst (AreKnown ss) (sym c.new-components.ensures) (known_none ss);
+      there = λ d from l. absurd (omega (arith, c.in_ok-made.ensures.many, length-map c.args.structs.now struct_view, from, l));
     }
 
-pub returns-clause-components : goal.returns-clause-components
-returns-clause-components c =
-    all_entered (map struct_view c.args.structs.now) (get_by_text c.args.places.now) c.loop-name.name-iterator c.loop-name.components c.requires.distinct c.requires.places c.in-None.ensures.steps.0 c.loop-name.invariant.known c.loop-name.invariant.left
+pub loop-schema-preserved : goal.loop-schema-preserved
+loop-schema-preserved c =
+    let structs = c.args.structs.now in
+    let ss = map struct_view structs in
+    let left = c.pop.new.self.items in
+    let was = c.in-Some.ensures.items in
+    let many : length left + 1 ≡ length c.loop-schema.made.items = search rules in
+    let at : c.len.result ≡ length left = search rules in
+    let within : length left < length structs = omega (arith, many, c.loop-schema.invariant.few) in
+    let here : length left < length ss = subst (λ n. length left < n) (sym (length-map structs struct_view)) within in
+    let found : struct_view (get_or structs c.len.result c.index-structs-len.result) ≡ struct_at ss (length left) =
+    sym (struct_at-view structs c.len.result c.index-structs-len.result (subst (λ n. n < length structs) (sym at) within)) ∙ ap (struct_at ss) at in
+    let named : c.in_ok-name.name ≡ (struct_at ss (length left)).name = c.in_ok-name.ensures ∙ ap (λ (s : StructOf). s.name) found in
+    let schema : schema_view c.in-Some.schema ≡ struct_schema ss (length left) =
+    sym (at_end left c.in-Some.schema) ∙ ap (λ (xs : List (Tree RefLeaf)). schema_in (map schema_view xs) (length left)) (sym was) ∙ c.loop-schema.invariant.schemas (length left) (omega (arith, many)) in
+    record {
+      few = omega (arith, within);
+      schemas = λ d l. sym (in_front left c.in-Some.schema d l) ∙ ap (λ (xs : List (Tree RefLeaf)). schema_in (map schema_view xs) d) (sym was) ∙ c.loop-schema.invariant.schemas d (omega (arith, many, l));
+      known = known_more ss (length left) c.in_ok-name.name (schema_view c.in-Some.schema) c.in_ok-insert.field-0 c.loop-schema.components c.insert.new.self here named schema c.in_ok-insert.ensures.new c.in_ok-insert.ensures.entries c.loop-schema.invariant.known;
+      there = there_more ss (length left) c.in_ok-name.name (schema_view c.in-Some.schema) c.in_ok-insert.field-0 c.loop-schema.components c.insert.new.self named c.in_ok-insert.ensures.new c.in_ok-insert.ensures.entries
+          (subst (λ n. AreThere ss n c.loop-schema.components) (let next : length c.loop-schema.made.items ≡ suc (length left) = omega (arith, many) in next) c.loop-schema.invariant.there);
+    }
+
+pub returns : goal.returns
+returns c =
+    let ss = map struct_view c.args.structs.now in
+    let none : length c.loop-schema.made.items ≡ 0 = search rules in
+    all_entered ss c.loop-schema.components c.requires.distinct c.loop-schema.invariant.known (subst (λ n. AreThere ss n c.loop-schema.components) none c.loop-schema.invariant.there)

@@ -1,14 +1,19 @@
-use Rattle.std.proofs.Common.{map}
-use Rattle.std.specs.BTreeMap.{get_by_text}
+use Rattle.std.proofs.Common.{ℕ, ◌≡◌, ◌<◌, ◌≤◌, length, map}
+use Rattle.schema_core.specs.Schema.{schema_view}
 use Rattle.derive_decl.specs.Views.{struct_view}
-use Rattle.closing.proofs.Entered.{AreKnown, AreLeft}
+use Rattle.closing.specs.Closed.{schema_in, struct_schema}
+use Rattle.closing.proofs.Entered.{AreKnown, AreThere}
 use Rattle.closing.proofs.components.components_of.Given as goal
 
--- the components so far are of structs, and each name has one or is still to come
-abbrev pub invariant-loop-name : goal.invariant-loop-name
-invariant-loop-name l = record {
-  can : (goal.iterator-loop-name).can_next l.name-iterator;
-  finite : (goal.iterator-loop-name).is_finite l.name-iterator;
+-- the structs that are left have their schemas, and those behind them have their components
+abbrev pub invariant-loop-schema : goal.invariant-loop-schema
+invariant-loop-schema l = record {
+  few : length l.made.items ≤ length l.structs;
+  schemas : (d : ℕ) → d < length l.made.items → schema_in (map schema_view l.made.items) d ≡ struct_schema (map struct_view l.structs) d;
   known : AreKnown (map struct_view l.structs) l.components;
-  left : AreLeft (get_by_text l.places) l.name-iterator l.components;
+  there : AreThere (map struct_view l.structs) (length l.made.items) l.components;
 }
+
+-- one schema less is left
+abbrev pub decreases-loop-schema : goal.decreases-loop-schema
+decreases-loop-schema l = length l.made.items

@@ -3,6 +3,7 @@ use Rattle.std.proofs.lemmas.Result.{err_from_is_err_and}
 use Rattle.diag.specs.declared.error.DeriveError.{DeriveError}
 use Rattle.diag.specs.declared.error.DeriveError.TheVariants.{Memory}
 use Rattle.schema_core.specs.Document.{Entry, document, text_of}
+use Rattle.configuration.specs.Configuration.{empty_configuration}
 use Rattle.closing.specs.Described.{Describes}
 use Rattle.compose.specs.Faults.{IsDerived, IsRefused}
 use Rattle.schema_gen.specs.Owed.{IsDocumentOf}
@@ -10,13 +11,13 @@ use Rattle.schema_gen.specs.Refusals.{IsText, IsRefusedSource}
 use Rattle.schema_gen.proofs.ending.document_text.Goals as goal
 
 -- what refuses the text refuses its bytes
-refused_bytes : (source bytes : List ℕ) (e : DeriveError) → source ≡ bytes → IsText bytes → (e ≡ Memory) ⊎ IsRefused source e → (e ≡ Memory) ⊎ IsRefusedSource bytes e
+refused_bytes : (source bytes : List ℕ) (e : DeriveError) → source ≡ bytes → IsText bytes → (e ≡ Memory) ⊎ IsRefused empty_configuration source e → (e ≡ Memory) ⊎ IsRefusedSource bytes e
 refused_bytes source bytes e same is_text (inl memory) = inl memory
-refused_bytes source bytes e same is_text (inr refused) = inr (inr (inr (is_text, subst (λ b. IsRefused b e) same refused)))
+refused_bytes source bytes e same is_text (inr refused) = inr (inr (inr (is_text, subst (λ b. IsRefused empty_configuration b e) same refused)))
 
 -- the document of the text is that of its bytes
 document_of_bytes : (source bytes text : List ℕ) (components : List Entry) → source ≡ bytes → IsText bytes
-    → (made : IsDerived source components) × Describes made.structs (document components) → text ≡ text_of (document components) → IsDocumentOf bytes text
+    → (made : IsDerived empty_configuration source components) × Describes made.structs (document components) → text ≡ text_of (document components) → IsDocumentOf bytes text
 document_of_bytes source bytes text components same is_text made text_is = subst (λ b. IsDocumentOf b text) same (record {
   is_text = subst IsText (sym same) is_text;
   components = components;

@@ -1,0 +1,144 @@
+-- What holds of the leaves of a schema: two facts at once, the declarations that are inline there, and schemas that are the same at each.
+use Rattle.std.proofs.Common.{ℕ, List, [], ◌∷◌, ◌++◌, cond, ◌≡◌, refl, ap, sym, ◌∙◌, subst, ◌⊎◌, inl, inr}
+use Rattle.std.proofs.lemmas.List.{append_assoc}
+use Rattle.schema_core.specs.Schema.{SchemaOf, leaf, object, array, one_of, all_of, SchemasOf, no_schemas, schema, PropertiesOf, no_properties, property, PartOf, no_part, truth, part, bind, bind_schemas, bind_properties, bind_part, EachLeaf, EachSchemaLeaf, EachPropertyLeaf, EachPartLeaf}
+use Rattle.component.specs.Leaves.{LeafOf}
+use Rattle.component.specs.References.{ReferenceOf, leaf_references, named_leaves, schema_leaves, property_leaves, part_leaves}
+use Rattle.inlining.specs.Inlining.{IsAmong}
+use Rattle.inline_places.specs.Targets.{declaration_of, inlined_among}
+
+-- ---- two facts at once
+
+module _ {X : Type 0} (Q R S : X → Type 0) (f : (x : X) → Q x → R x → S x) where
+  mutual
+    pub each-both : (s : SchemaOf X) → EachLeaf Q s → EachLeaf R s → EachLeaf S s
+    each-both (leaf x) a b = f x a b
+    each-both (object facts ps additional names) a b = (properties-both ps a.0 b.0, (part-both additional a.1.0 b.1.0, part-both names a.1.1 b.1.1))
+    each-both (array facts front rest) a b = (schemas-both front a.0 b.0, part-both rest a.1 b.1)
+    each-both (one_of notes ss) a b = schemas-both ss a b
+    each-both (all_of notes ss) a b = schemas-both ss a b
+
+    schemas-both : (ss : SchemasOf X) → EachSchemaLeaf Q ss → EachSchemaLeaf R ss → EachSchemaLeaf S ss
+    schemas-both no_schemas a b = tt
+    schemas-both (schema s ss) a b = (each-both s a.0 b.0, schemas-both ss a.1 b.1)
+
+    properties-both : (ps : PropertiesOf X) → EachPropertyLeaf Q ps → EachPropertyLeaf R ps → EachPropertyLeaf S ps
+    properties-both no_properties a b = tt
+    properties-both (property k s ps) a b = (each-both s a.0 b.0, properties-both ps a.1 b.1)
+
+    part-both : (p : PartOf X) → EachPartLeaf Q p → EachPartLeaf R p → EachPartLeaf S p
+    part-both no_part a b = tt
+    part-both (truth b) c d = tt
+    part-both (part s) a b = each-both s a b
+
+-- ---- the same at each leaf
+
+module _ {X Y : Type 0} (f g : X → SchemaOf Y) where
+  mutual
+    pub bind-same : (s : SchemaOf X) → EachLeaf (λ x. f x ≡ g x) s → bind f s ≡ bind g s
+    bind-same (leaf x) h = h
+    bind-same (object facts ps additional names) h = λ i. object facts (properties-same ps h.0 i) (part-same additional h.1.0 i) (part-same names h.1.1 i)
+    bind-same (array facts front rest) h = λ i. array facts (schemas-same front h.0 i) (part-same rest h.1 i)
+    bind-same (one_of notes ss) h = λ i. one_of notes (schemas-same ss h i)
+    bind-same (all_of notes ss) h = λ i. all_of notes (schemas-same ss h i)
+
+    schemas-same : (ss : SchemasOf X) → EachSchemaLeaf (λ x. f x ≡ g x) ss → bind_schemas f ss ≡ bind_schemas g ss
+    schemas-same no_schemas h = refl
+    schemas-same (schema s ss) h = λ i. schema (bind-same s h.0 i) (schemas-same ss h.1 i)
+
+    properties-same : (ps : PropertiesOf X) → EachPropertyLeaf (λ x. f x ≡ g x) ps → bind_properties f ps ≡ bind_properties g ps
+    properties-same no_properties h = refl
+    properties-same (property k s ps) h = λ i. property k (bind-same s h.0 i) (properties-same ps h.1 i)
+
+    part-same : (p : PartOf X) → EachPartLeaf (λ x. f x ≡ g x) p → bind_part f p ≡ bind_part g p
+    part-same no_part h = refl
+    part-same (truth b) h = refl
+    part-same (part s) h = λ i. part (bind-same s h i)
+
+-- ---- the declarations that are inline at the leaves
+
+among-left : (e : ℕ) (xs ys : List ℕ) → IsAmong e xs → IsAmong e (xs ++ ys)
+among-left e [] ys h = absurd h
+among-left e (x ∷ xs) ys (inl h) = inl h
+among-left e (x ∷ xs) ys (inr h) = inr (among-left e xs ys h)
+
+among-right : (e : ℕ) (xs ys : List ℕ) → IsAmong e ys → IsAmong e (xs ++ ys)
+among-right e [] ys h = h
+among-right e (x ∷ xs) ys h = inr (among-right e xs ys h)
+
+pub among_cases : (e : ℕ) (xs ys : List ℕ) → IsAmong e (xs ++ ys) → IsAmong e xs ⊎ IsAmong e ys
+among_cases e [] ys h = inr h
+among_cases e (x ∷ xs) ys (inl same) = inl (inl same)
+among_cases e (x ∷ xs) ys (inr h) = elim (among_cases e xs ys h) [
+  | inl i ↦ inl (inr i)
+  | inr i ↦ inr i
+]
+
+pub inlined-both : (rs bs : List ReferenceOf) → inlined_among (rs ++ bs) ≡ inlined_among rs ++ inlined_among bs
+inlined-both [] bs = refl
+inlined-both (a ∷ rest) bs =
+    ap (λ ds. cond a.is_inline (declaration_of a.of) [] ++ ds) (inlined-both rest bs) ∙ sym (append_assoc (cond a.is_inline (declaration_of a.of) []) (inlined_among rest) (inlined_among bs))
+
+module _ (P : ℕ → Type 0) where
+  -- the fact holds of each declaration that is inline among the leaves
+  abbrev pub AtInlined : List ReferenceOf → Type 0
+  AtInlined rs = (e : ℕ) → IsAmong e (inlined_among rs) → P e
+
+  in_front : (front behind : List ReferenceOf) → AtInlined (front ++ behind) → AtInlined front
+  in_front front behind h e a = h e (subst (IsAmong e) (sym (inlined-both front behind)) (among-left e (inlined_among front) (inlined_among behind) a))
+
+  in_back : (front behind : List ReferenceOf) → AtInlined (front ++ behind) → AtInlined behind
+  in_back front behind h e a = h e (subst (IsAmong e) (sym (inlined-both front behind)) (among-right e (inlined_among front) (inlined_among behind) a))
+
+  mutual
+    pub at-leaves : (s : SchemaOf LeafOf) → AtInlined (named_leaves s) → EachLeaf (λ x. AtInlined (leaf_references x)) s
+    at-leaves (leaf x) h = h
+    at-leaves (object facts ps additional names) h =
+        let rest = in_back (property_leaves ps) (part_leaves names ++ part_leaves additional) h in (
+          at-properties ps (in_front (property_leaves ps) (part_leaves names ++ part_leaves additional) h),
+          (at-part additional (in_back (part_leaves names) (part_leaves additional) rest), at-part names (in_front (part_leaves names) (part_leaves additional) rest)),
+        )
+    at-leaves (array facts front rest) h = (at-schemas front (in_front (schema_leaves front) (part_leaves rest) h), at-part rest (in_back (schema_leaves front) (part_leaves rest) h))
+    at-leaves (one_of notes ss) h = at-schemas ss h
+    at-leaves (all_of notes ss) h = at-schemas ss h
+
+    at-schemas : (ss : SchemasOf LeafOf) → AtInlined (schema_leaves ss) → EachSchemaLeaf (λ x. AtInlined (leaf_references x)) ss
+    at-schemas no_schemas h = tt
+    at-schemas (schema s ss) h = (at-leaves s (in_front (named_leaves s) (schema_leaves ss) h), at-schemas ss (in_back (named_leaves s) (schema_leaves ss) h))
+
+    at-properties : (ps : PropertiesOf LeafOf) → AtInlined (property_leaves ps) → EachPropertyLeaf (λ x. AtInlined (leaf_references x)) ps
+    at-properties no_properties h = tt
+    at-properties (property k s ps) h = (at-leaves s (in_front (named_leaves s) (property_leaves ps) h), at-properties ps (in_back (named_leaves s) (property_leaves ps) h))
+
+    at-part : (p : PartOf LeafOf) → AtInlined (part_leaves p) → EachPartLeaf (λ x. AtInlined (leaf_references x)) p
+    at-part no_part h = tt
+    at-part (truth b) h = tt
+    at-part (part s) h = at-leaves s h
+
+  together : (front behind : List ReferenceOf) → AtInlined front → AtInlined behind → AtInlined (front ++ behind)
+  together front behind f g e a = elim (among_cases e (inlined_among front) (inlined_among behind) (subst (IsAmong e) (inlined-both front behind) a)) [
+    | inl h ↦ f e h
+    | inr h ↦ g e h
+  ]
+
+  mutual
+    pub from-leaves : (s : SchemaOf LeafOf) → EachLeaf (λ x. AtInlined (leaf_references x)) s → AtInlined (named_leaves s)
+    from-leaves (leaf x) h = h
+    from-leaves (object facts ps additional names) h =
+        together (property_leaves ps) (part_leaves names ++ part_leaves additional) (from-properties ps h.0) (together (part_leaves names) (part_leaves additional) (from-part names h.1.1) (from-part additional h.1.0))
+    from-leaves (array facts front rest) h = together (schema_leaves front) (part_leaves rest) (from-schemas front h.0) (from-part rest h.1)
+    from-leaves (one_of notes ss) h = from-schemas ss h
+    from-leaves (all_of notes ss) h = from-schemas ss h
+
+    from-schemas : (ss : SchemasOf LeafOf) → EachSchemaLeaf (λ x. AtInlined (leaf_references x)) ss → AtInlined (schema_leaves ss)
+    from-schemas no_schemas h = λ e a. absurd a
+    from-schemas (schema s ss) h = together (named_leaves s) (schema_leaves ss) (from-leaves s h.0) (from-schemas ss h.1)
+
+    from-properties : (ps : PropertiesOf LeafOf) → EachPropertyLeaf (λ x. AtInlined (leaf_references x)) ps → AtInlined (property_leaves ps)
+    from-properties no_properties h = λ e a. absurd a
+    from-properties (property k s ps) h = together (named_leaves s) (property_leaves ps) (from-leaves s h.0) (from-properties ps h.1)
+
+    from-part : (p : PartOf LeafOf) → EachPartLeaf (λ x. AtInlined (leaf_references x)) p → AtInlined (part_leaves p)
+    from-part no_part h = λ e a. absurd a
+    from-part (truth b) h = λ e a. absurd a
+    from-part (part s) h = from-leaves s h

@@ -1,0 +1,5 @@
+use Rattle.closing.proofs.Described.{references_accept}
+use Rattle.closing.proofs.law.references_accept.Goals as goal
+
+pub returns : goal.returns
+returns c = references_accept c.forms_accept.ensures

@@ -1,0 +1,178 @@
+//! The schemas of declarations, in which those of others stand.
+
+ghost use Rattle.std.specs.Prelude.{◌≡◌, ◌<◌, ℕ, length, map, get_or, IfOk};
+ghost use Rattle.schema_core.specs.Schema.{schema_view, leaf};
+ghost use Rattle.open_types.specs.Open.{open_view};
+ghost use Rattle.component.specs.Leaves.{term_view};
+ghost use Rattle.derive_decl.specs.Structs.{StructOf, struct_at};
+ghost use Rattle.derive_decl.specs.Terms.{term};
+ghost use Rattle.derive_decl.specs.Views.{struct_view};
+ghost use Rattle.inlining.specs.Inlining.{IsAtMost, IsOrder};
+ghost use Rattle.inline_places.specs.Targets.{inlining_of, most_inlined};
+ghost use Rattle.closing.specs.Closed.{any_value, name_of, schema_of, schema_in, struct_schema};
+ghost use Rattle.closing.specs.Described.{AreWithin};
+
+use component::{Term, TermLeaf};
+use derive_decl::Struct;
+use diag::{List, Text};
+use filling::{Fill, copy_schema, filled};
+use open_types::OpenType;
+use schema_core::{Additional, Notes, Object, RefLeaf, Schema, Tree, TypeWord};
+use std::alloc::{AllocError, Global};
+
+/// What stands at the leaves of a term: the schemas of declarations, as far as they are made, and references to components.
+#[derive(Clone, Copy)]
+pub(crate) struct Closing<'s> {
+    pub(crate) structs: &'s [Struct],
+    /// The schema of each declaration; of one that is not made yet, one that says nothing.
+    pub(crate) made: &'s [Schema],
+}
+
+/// The name of the component of the declaration at a place; past the end, an empty one.
+fn name_at(alloc: Global, structs: &[Struct], place: usize) -> Result<Text, AllocError>
+    ensures { IfOk result (λ name. name ≡ (struct_at (map struct_view structs.now) place).name) }
+{
+    if place < structs.len() {
+        structs[place].name.copy(alloc)
+    } else {
+        Text::new(alloc, "")
+    }
+}
+
+/// The name of the component of the type's declaration; of another type, an empty one.
+fn name_of(alloc: Global, structs: &[Struct], ty: &OpenType) -> Result<Text, AllocError>
+    ensures { IfOk result (λ name. name ≡ name_of (map struct_view structs.now) (open_view ty.now)) }
+{
+    match ty {
+        OpenType::Named(place, _) => name_at(alloc, structs, *place),
+        _ => Text::new(alloc, ""),
+    }
+}
+
+/// A schema that says nothing.
+fn any_value(alloc: Global) -> Result<Schema, AllocError>
+    ensures { IfOk result (λ s. schema_view s ≡ any_value) }
+{
+    let object = Object {
+        ty: TypeWord::Any,
+        format: None,
+        enum_values: None,
+        properties: List::new(alloc),
+        required: List::new(alloc),
+        additional: Additional::Absent,
+        property_names: None,
+        minimum: None,
+        notes: Notes::new(),
+    };
+    Ok(Tree::Object(Box::new(alloc, object)?))
+}
+
+/// The schema of the declaration at a place; past the end, one that says nothing.
+fn schema_at(alloc: Global, made: &[Schema], place: usize) -> Result<Schema, AllocError>
+    ensures { IfOk result (λ s. schema_view s ≡ schema_in (map schema_view made.now) place) }
+{
+    if place < made.len() {
+        copy_schema(alloc, &made[place])
+    } else {
+        any_value(alloc)
+    }
+}
+
+/// The schema of the type's declaration; of another type, one that says nothing.
+fn schema_of(alloc: Global, made: &[Schema], ty: &OpenType) -> Result<Schema, AllocError>
+    ensures { IfOk result (λ s. schema_view s ≡ schema_of (schema_in (map schema_view made.now)) (open_view ty.now)) }
+{
+    match ty {
+        OpenType::Named(place, _) => schema_at(alloc, made, *place),
+        _ => any_value(alloc),
+    }
+}
+
+/// A reference with the notes to the component of the type's declaration.
+fn reference_to(
+    alloc: Global,
+    structs: &[Struct],
+    ty: &OpenType,
+    notes: &Notes,
+) -> Result<Schema, AllocError>
+    ensures { IfOk result (λ s. schema_view s ≡ leaf (record { name = name_of (map struct_view structs.now) (open_view ty.now); notes = notes.now })) }
+{
+    Ok(Tree::Leaf(RefLeaf {
+        name: name_of(alloc, structs, ty)?,
+        notes: notes.copy(alloc)?,
+    }))
+}
+
+impl Fill for Closing<'_> {
+    ghost use Rattle.std.specs.Prelude.{map};
+    ghost use Rattle.schema_core.specs.declared.tree.RefLeaf.{RefLeaf as AnyReference};
+    ghost use Rattle.schema_core.specs.Schema.{schema_view};
+    ghost use Rattle.component.specs.Leaves.{LeafOf, leaf_view};
+    ghost use Rattle.derive_decl.specs.Views.{struct_view};
+    ghost use Rattle.closing.specs.Closed.{put, schema_in};
+
+    type Hole = TermLeaf;
+
+    type Leaf = RefLeaf;
+
+    ghost Origin = { LeafOf };
+
+    ghost origin = { leaf_view };
+
+    ghost Meaning = { AnyReference };
+
+    ghost meaning = { λ l. l };
+
+    ghost put = { λ c l. put (map struct_view c.structs.now) (schema_in (map schema_view c.made.now)) l };
+
+    fn fill(&self, alloc: Global, leaf: &TermLeaf) -> Result<Schema, AllocError> {
+        match leaf {
+            TermLeaf::Param(_) => any_value(alloc),
+            TermLeaf::Named { of, inline, notes } => {
+                if *inline {
+                    schema_of(alloc, self.made, of)
+                } else {
+                    reference_to(alloc, self.structs, of, notes)
+                }
+            }
+        }
+    }
+}
+
+/// As many schemas that say nothing as there are structs.
+fn none_made(alloc: Global, structs: &[Struct]) -> Result<Vec<Schema>, AllocError>
+    ensures { IfOk result (λ made. length made.items ≡ length structs.now) }
+{
+    let mut made = Vec::new(alloc);
+    for _ in 0..structs.len() {
+        made.push(any_value(alloc)?)?;
+    }
+    Ok(made)
+}
+
+/// The schema of each declaration, where `order` has each behind those whose schemas stand in its own.
+pub(crate) fn closed(
+    alloc: Global,
+    structs: &[Struct],
+    terms: &[Term],
+    order: &[usize],
+) -> Result<Vec<Schema>, AllocError>
+    requires terms { map term_view terms.now ≡ map (λ s. term (struct_view s)) structs.now }
+    requires within { AreWithin (length (map struct_view structs.now)) (map struct_view structs.now) }
+    requires depth { IsAtMost most_inlined (inlining_of (map struct_view structs.now)) }
+    requires order { IsOrder (inlining_of (map struct_view structs.now)) order.now }
+    ensures many { IfOk result (λ made. length made.items ≡ length structs.now) }
+    ensures schemas { IfOk result (λ made. (d : ℕ) → d < length structs.now → schema_in (map schema_view made.items) d ≡ struct_schema (map struct_view structs.now) d) }
+{
+    inlining::orders_stand();
+    let mut made = none_made(alloc, structs)?;
+    for place in order {
+        let closing = Closing {
+            structs,
+            made: made.as_slice(),
+        };
+        let schema = filled(alloc, &terms[*place], &closing)?;
+        made[*place] = schema;
+    }
+    Ok(made)
+}

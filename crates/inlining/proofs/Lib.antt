@@ -1,0 +1,5 @@
+pub mod Among
+pub mod Counts
+pub mod Marks
+pub mod Orders
+pub mod Paths

@@ -1,0 +1,4 @@
+pub mod Counts
+pub mod Depths
+pub mod Inlining
+pub mod Marks

@@ -1,0 +1,55 @@
+//! How many copies of schemas stand in all.
+
+ghost use Rattle.std.specs.Prelude.{◌≡◌, ◌<◌, ◌↔◌, ℕ, length, slice_index, IfOk, IsTrue};
+ghost use Rattle.inlining.specs.Counts.{saturated, count_of};
+ghost use Rattle.inlining.specs.Inlining.{IsAmong, IsOrder, IsAtMost, sum_below, all_copies};
+
+use diag::List;
+use std::alloc::{AllocError, Global};
+
+/// How many copies stand where the schema of a declaration with these targets stands, where the copies of its targets are
+/// counted.
+fn count_of(targets: &[usize], counts: &[usize]) -> usize
+    requires { (t : ℕ) → IsAmong t targets.now → t < length counts.now }
+    ensures { result ≡ count_of counts.now targets.now }
+{
+    let mut count = 1_usize;
+    for target in targets {
+        count = count.saturating_add(counts[*target]);
+    }
+    count
+}
+
+/// How many copies stand in all, where those of each declaration are counted.
+fn total_of(counts: &[usize]) -> usize
+    ensures { result ≡ saturated (sum_below (slice_index counts.now) (length counts.now)) }
+{
+    let mut total = 0_usize;
+    for count in counts {
+        total = total.saturating_add(*count);
+    }
+    total
+}
+
+/// Whether more copies of schemas stand in all than the limit. Where the schema of a declaration stands, those of its targets
+/// stand too, each as often as it is given. The order has each declaration behind its targets, and no inline path has more
+/// declarations than `most`. It can only want memory.
+pub fn are_more_copies(
+    alloc: Global,
+    targets: &[List<usize>],
+    order: &[usize],
+    most: usize,
+    limit: usize,
+) -> Result<bool, AllocError>
+    requires order { IsOrder targets.now order.now }
+    requires depth { IsAtMost most targets.now }
+    requires limit { limit < usize.MAX }
+    ensures { IfOk result (λ more. IsTrue more ↔ (limit < all_copies targets.now most)) }
+{
+    let mut counts = vec![in alloc; 0; targets.len()]?;
+    for place in order {
+        let count = count_of(targets[*place].as_slice(), counts.as_slice());
+        counts[*place] = count;
+    }
+    Ok(limit < total_of(counts.as_slice()))
+}

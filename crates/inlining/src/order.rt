@@ -1,0 +1,147 @@
+//! The depth of inlining, and an order in which each schema stands behind those that stand in it.
+
+ghost use Rattle.std.specs.Prelude.{◌≡◌, ◌<◌, ◌≤◌, ◌+◌, ◌++◌, ℕ, false, length, MatchOption, IfOk, OnOk, IsTrue};
+ghost use Rattle.inlining.specs.Depths.{IsDepth};
+ghost use Rattle.inlining.specs.Inlining.{IsAmong, AreTargets, IsPath};
+ghost use Rattle.inlining.specs.Marks.{mark, are_marked, no_marks, next_marks, marks_of, AreRounds, new_marks};
+
+use diag::List;
+use std::alloc::{AllocError, Global};
+
+/// How deep declarations stand in each other's schemas.
+#[derive(Debug, Drop)]
+pub enum Depth {
+    /// No inline path is longer than it may be: each declaration, once, behind those whose schemas stand in its own.
+    Within(List<usize>),
+    /// An inline path that is longer by one than it may be.
+    Beyond(List<usize>),
+}
+
+/// The first of the targets that is not marked.
+fn unmarked_target(targets: &[usize], marks: &[bool]) -> Option<usize>
+    requires { (t : ℕ) → IsAmong t targets.now → t < length marks.now }
+    ensures { MatchOption result (IsTrue (are_marked marks.now targets.now)) (λ t. IsAmong t targets.now × (mark marks.now t ≡ false)) }
+{
+    for target in targets {
+        if !marks[*target] {
+            return Some(*target);
+        }
+    }
+    None
+}
+
+/// The first declaration that is not marked.
+fn unmarked(marks: &[bool]) -> Option<usize>
+    ensures { MatchOption result ((d : ℕ) → d < length marks.now → IsTrue (mark marks.now d)) (λ d. (d < length marks.now) × (mark marks.now d ≡ false)) }
+{
+    for (place, mark) in marks.iter().enumerate() {
+        if !*mark {
+            return Some(place);
+        }
+    }
+    None
+}
+
+/// No marks, for each declaration.
+fn no_marks(alloc: Global, targets: &[List<usize>]) -> Result<List<bool>, AllocError>
+    ensures { IfOk result (λ marks. marks ≡ no_marks targets.now) }
+{
+    let mut marks = List::new(alloc);
+    for _ in 0..targets.len() {
+        marks.push(false)?;
+    }
+    Ok(marks)
+}
+
+/// The marks of the next round: of the declarations whose targets are all marked.
+fn next_marks(
+    alloc: Global,
+    targets: &[List<usize>],
+    marks: &[bool],
+) -> Result<List<bool>, AllocError>
+    requires targets { AreTargets targets.now }
+    requires marks { length marks.now ≡ length targets.now }
+    ensures { IfOk result (λ next. next ≡ next_marks targets.now marks.now) }
+{
+    let mut next = List::new(alloc);
+    for of in targets {
+        next.push(unmarked_target(of.as_slice(), marks).is_none())?;
+    }
+    Ok(next)
+}
+
+/// Adds the declarations that are marked and were not before.
+fn push_marked(order: &mut List<usize>, before: &[bool], marks: &[bool]) -> Result<(), AllocError>
+    requires { length before.now ≡ length marks.now }
+    ensures { OnOk result (order.new ≡ order.old ++ new_marks before.now marks.now (length marks.now)) }
+{
+    for place in 0..marks.len() {
+        if marks[place] && !before[place] {
+            order.push(place)?;
+        }
+    }
+    Ok(())
+}
+
+/// An inline path that begins with a declaration that no round marked. It is longer by one than there were rounds.
+fn path_from(
+    alloc: Global,
+    targets: &[List<usize>],
+    rounds: &[List<bool>],
+    first: usize,
+) -> Result<List<usize>, AllocError>
+    requires targets { AreTargets targets.now }
+    requires rounds { AreRounds targets.now rounds.now }
+    requires first { first < length targets.now }
+    requires unmarked { mark (marks_of targets.now (length rounds.now)) first ≡ false }
+    ensures path { IfOk result (λ path. IsPath targets.now path) }
+    ensures length { IfOk result (λ path. length path ≡ length rounds.now + 1) }
+{
+    let mut path = List::new(alloc);
+    let mut place = first;
+    let mut left = rounds.len();
+    while left > 0 {
+        left -= 1;
+        path.push(place)?;
+        let of = targets[place].as_slice();
+        place = match unmarked_target(of, rounds[left].as_slice()) {
+            Some(target) => target,
+            None => unreachable!(),
+        };
+    }
+    path.push(place)?;
+    Ok(path)
+}
+
+/// How deep declarations stand in each other's schemas, where each has its targets: the declarations whose schemas stand in
+/// its own, by their places. An inline path may have at most as many declarations as `most`. Each round goes over all
+/// targets, and there are no more rounds than `most`, nor than the longest inline path has declarations. It can only want
+/// memory.
+pub fn inline_order(
+    alloc: Global,
+    targets: &[List<usize>],
+    most: usize,
+) -> Result<Depth, AllocError>
+    requires { AreTargets targets.now }
+    ensures { IfOk result (λ depth. IsDepth most targets.now depth) }
+{
+    let mut order = List::new(alloc);
+    let mut rounds = List::new(alloc);
+    let mut marks = no_marks(alloc, targets)?;
+    'rounds: for _ in 0..most {
+        if unmarked(marks.as_slice()).is_none() {
+            return Ok(Depth::Within(order));
+        }
+        let next = next_marks(alloc, targets, marks.as_slice())?;
+        push_marked(&mut order, marks.as_slice(), next.as_slice())?;
+        rounds.push(marks)?;
+        marks = next;
+    }
+    match unmarked(marks.as_slice()) {
+        None => Ok(Depth::Within(order)),
+        Some(first) => {
+            let path = path_from(alloc, targets, rounds.as_slice(), first)?;
+            Ok(Depth::Beyond(path))
+        }
+    }
+}
