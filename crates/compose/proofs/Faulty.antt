@@ -5,7 +5,7 @@ use Rattle.diag.specs.declared.error.DeriveError.{DeriveError}
 use Rattle.diag.specs.declared.kind.Kind.TheVariants.{Arity, DuplicateName, Syntax}
 use Rattle.diag.specs.declared.span.Span.{Span}
 use Rattle.written_types.specs.declared.written.Ident.{Ident}
-use Rattle.syntax.specs.Items.{FieldItem, FieldItems, named, unnamed, unit, BodyItem, struct_body, DeclaredItem}
+use Rattle.syntax.specs.Items.{FieldItem, named, unnamed, unit, BodyItem, struct_body, DeclaredItem}
 use Rattle.resolving.specs.Resolved.{Fault, IsFault, IsRefusedFor, Somewhere}
 use Rattle.scopes.specs.Names.{place_among, Repeats, duplicate_message}
 use Rattle.derive_decl.specs.Faults.{field_idents, body_fields, fieldless_message, IsFaultyType, IsFaultyMember, IsFaultyBody, IsFaultyItem}

@@ -1,5 +1,5 @@
 -- The targets of terms are those of their structs.
-use Rattle.std.proofs.Common.{List, [], ◌∷◌, map, ◌≡◌, refl, ap, sym, ◌∙◌}
+use Rattle.std.proofs.Common.{List, [], ◌∷◌, map, ◌≡◌, refl, ap, ◌∙◌}
 use Rattle.component.specs.Leaves.{term_view}
 use Rattle.component.specs.declared.term.TermLeaf.{TermLeaf}
 use Rattle.schema_core.specs.declared.tree.Tree.{Tree}

@@ -296,7 +296,7 @@ fn chain(alloc: Global, many: usize, often: usize, end: &str) -> Result<String, 
 /// As many structs without fields.
 fn structs(alloc: Global, many: usize) -> Result<String, AllocError> {
     let mut source = String::new(alloc);
-    for at in 1..many + 1 {
+    for at in 0..many {
         source.push_str(format!(in alloc; "struct A{at} {{}} ")?.as_str())?;
     }
     Ok(source)
@@ -346,9 +346,9 @@ fn field(
 fn hostile(alloc: Global, form: &str, many: usize) -> Result<String, AllocError> {
     match form {
         "brackets" => {
-            let open = repeated(alloc, "[", many - 1)?;
-            let close = repeated(alloc, "]", many - 1)?;
-            format!(in alloc; "#![{open}{close}]")
+            let open = repeated(alloc, "[", many)?;
+            let close = repeated(alloc, "]", many)?;
+            format!(in alloc; "#!{open}{close}")
         }
         "open brackets" => repeated(alloc, "{", many),
         "lists" => field(alloc, many, "Vec<", "bool", ">"),
@@ -378,12 +378,12 @@ const HOSTILE: [(&str, usize, &str); 26] = [
     (
         "brackets",
         65,
-        "TooDeep 65..66 nesting is deeper than 64, 0",
+        "TooDeep 66..67 nesting is deeper than 64, 0",
     ),
     (
         "open brackets",
         64,
-        "Syntax 63..64 unexpected text in a declaration, 0",
+        "Syntax 64..64 unexpected text in a declaration, 0",
     ),
     (
         "open brackets",
@@ -406,19 +406,19 @@ const HOSTILE: [(&str, usize, &str); 26] = [
     ),
     (
         "arguments",
-        1,
+        255,
         "Arity 14..18 wrong number of type arguments for bool, 0",
     ),
     (
         "arguments",
         256,
-        "Arity 14..18 wrong number of type arguments for bool, 0",
+        "TypeSize 14..788 a type has more than 256 names, 0",
     ),
     ("structs", 1000, "no refusal"),
     (
         "structs",
         1001,
-        "TooManyInstances 14900..14905 more than 1000 instances are reachable, 0",
+        "TooManyInstances 14897..14902 more than 1000 instances are reachable, 0",
     ),
     ("inlined", 32, "no refusal"),
     (
