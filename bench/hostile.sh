@@ -33,7 +33,7 @@ sources = [
     ("255 inlined", chained(2, 255)),
     ("32 levels of 255", chained(32, 255)),
     ("33 levels of 255", chained(33, 255)),
-    ("1,000 of 39 inlined", " ".join("struct A%d { p: (%s) }" % (at, "A0, " * 9) for at in range(1, 1000)) + " struct A0 { " + ", ".join("f%d: Option<Vec<String>>" % k for k in range(39)) + " }"),
+    ("9,000 copies", " ".join("struct A%d { p: (%s) }" % (at, "A0, " * 9) for at in range(1, 1000)) + " struct A0 { " + ", ".join("f%d: Option<Vec<String>>" % k for k in range(39)) + " }"),
     ("one comment", "/*" + "x" * (size - 4) + "*/"),
     ("nested comments", "/*" * (size // 4) + "*/" * (size // 4)),
     ("open comments", filled("/*")),
