@@ -1,0 +1,6 @@
+pub mod Margins
+pub mod Unclosed
+pub mod Words
+pub mod Idents
+pub mod Serde
+pub mod Whole

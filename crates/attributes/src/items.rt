@@ -1,0 +1,137 @@
+//! The items of serde lists.
+
+ghost use Rattle.std.specs.Prelude.{◌≡◌, ◌<◌, ◌≤◌, length, map, IfOk};
+ghost use Rattle.tokens.specs.Trees.{trees_view};
+ghost use Rattle.words.specs.Words.{words_of, words_view, ident_of};
+ghost use Rattle.words.specs.Reading.{Gives};
+ghost use Rattle.lists.specs.Lists.{turn_at, list_of};
+ghost use Rattle.attributes.specs.Attributes.{attribute_view};
+ghost use Rattle.attributes.specs.Forms.{form_view};
+ghost use Rattle.attributes.specs.AttributeReading.{text_at, value_at, serde_item_at, serde_list, serde_items_in, serde_items};
+
+use crate::attribute::{Attribute, Meta};
+use crate::meta::Form;
+use crate::path::ident_at;
+use crate::serde_item::{SerdeItem, SerdeText};
+use diag::{List, Span};
+use lists::after_comma;
+use literal_values::text_value;
+use std::alloc::{AllocError, Global};
+use tokens::{Group, TokenTree};
+use words::{Sign, Stop, ident_of, literal_at, optional_sign, stop_at};
+
+/// The text of a string literal, and what follows it.
+#[tactic(auto, unfolding(crate::specs::AttributeReading::text_at))]
+fn text_at(alloc: Global, trees: &[TokenTree]) -> Result<(SerdeText, &[TokenTree]), Stop>
+    ensures value { Gives (λ p. (p.0, words_view p.1.now)) result (text_at (words_view trees.now)) }
+    ensures shorter { IfOk result (λ p. length p.1.now < length trees.now) }
+{
+    let (token, rest) = literal_at(trees)?;
+    match text_value(alloc, token)? {
+        Some(text) => {
+            let span = token.span;
+            Ok((SerdeText { text, span }, rest))
+        }
+        None => Err(stop_at(trees)),
+    }
+}
+
+/// The text behind `=`, where one stands, and what follows it, a group or nothing.
+#[tactic(auto, unfolding(crate::specs::AttributeReading::value_at))]
+fn value_at(alloc: Global, trees: &[TokenTree]) -> Result<(Option<SerdeText>, &[TokenTree]), Stop>
+    ensures value { Gives (λ p. (p.0, words_view p.1.now)) result (value_at (words_view trees.now)) }
+    ensures shorter { IfOk result (λ p. length p.1.now ≤ length trees.now) }
+{
+    if let [TokenTree::Group(_), rest @ ..] = trees {
+        return Ok((None, rest));
+    }
+    match optional_sign(trees, Sign::Equals) {
+        Some((_, rest)) => {
+            let (text, rest) = text_at(alloc, rest)?;
+            Ok((Some(text), rest))
+        }
+        None => Ok((None, trees)),
+    }
+}
+
+#[tactic(auto, unfolding(crate::specs::AttributeReading::serde_item_at))]
+fn serde_item_at(alloc: Global, trees: &[TokenTree]) -> Result<(SerdeItem, &[TokenTree]), Stop>
+    ensures value { Gives (λ p. (p.0, words_view p.1.now)) result (serde_item_at (words_view trees.now)) }
+    ensures shorter { IfOk result (λ p. length p.1.now < length trees.now) }
+{
+    let (token, rest) = ident_at(trees)?;
+    let (value, rest) = value_at(alloc, rest)?;
+    let name = ident_of(alloc, token)?;
+    Ok((SerdeItem { name, value }, rest))
+}
+
+#[tactic(auto, unfolding(lists::specs::Lists::turn_at))]
+fn serde_turn(alloc: Global, trees: &[TokenTree]) -> Result<(SerdeItem, &[TokenTree]), Stop>
+    ensures value { Gives (λ p. (p.0, words_view p.1.now)) result (turn_at serde_item_at (words_view trees.now)) }
+    ensures shorter { IfOk result (λ p. length p.1.now < length trees.now) }
+{
+    let (item, rest) = serde_item_at(alloc, trees)?;
+    let rest = after_comma(rest)?;
+    Ok((item, rest))
+}
+
+fn items_of(alloc: Global, trees: &[TokenTree]) -> Result<List<SerdeItem>, Stop>
+    ensures { Gives (λ items. items) result (list_of serde_item_at (words_view trees.now)) }
+{
+    let mut items = List::new(alloc);
+    let mut rest = trees;
+    'items: while !rest.is_empty() {
+        let (item, after) = serde_turn(alloc, rest)?;
+        items.push(item)?;
+        rest = after;
+    }
+    Ok(items)
+}
+
+/// The items inside of the group. Where its trees ended too soon, reading stopped at its closing bracket.
+fn items_inside(alloc: Global, group: &Group) -> Result<List<SerdeItem>, Stop>
+    ensures { Gives (λ items. items) result (list_of serde_item_at (words_of (trees_view group.now.trees))) }
+{
+    match items_of(alloc, group.trees.as_slice()) {
+        Ok(items) => Ok(items),
+        Err(stop) => Err(stop.inside(group)),
+    }
+}
+
+/// The items of what stands behind a path, which stands at the span. It stops where that is no list of items.
+pub(crate) fn serde_list(alloc: Global, form: Form<'_>, at: Span) -> Result<List<SerdeItem>, Stop>
+    ensures { Gives (λ items. items) result (serde_list (form_view form.entry)) }
+{
+    match form {
+        Form::Items(group) => items_inside(alloc, group),
+        Form::Word | Form::NameValue(_) => Err(Stop::Unexpected(at)),
+    }
+}
+
+/// The items of the attribute, if it is a serde list.
+fn items_in(alloc: Global, attribute: &Attribute) -> Result<List<SerdeItem>, AllocError>
+    ensures { IfOk result (λ items. items ≡ serde_items_in (attribute_view attribute.now)) }
+{
+    if !attribute.is("serde") {
+        return Ok(List::new(alloc));
+    }
+    match &attribute.meta {
+        Meta::Items(group) => match items_inside(alloc, group) {
+            Ok(items) => Ok(items),
+            Err(Stop::Memory) => Err(AllocError),
+            Err(_) => Ok(List::new(alloc)),
+        },
+        Meta::Word | Meta::NameValue(_) | Meta::Doc(_) => Ok(List::new(alloc)),
+    }
+}
+
+/// The items of all serde lists among the attributes, in order. A group that is no list of items has none.
+pub fn serde_items(alloc: Global, attributes: &[Attribute]) -> Result<List<SerdeItem>, AllocError>
+    ensures { IfOk result (λ items. items ≡ serde_items (map attribute_view attributes.now)) }
+{
+    let mut items = List::new(alloc);
+    for attribute in attributes {
+        items.append(items_in(alloc, attribute)?)?;
+    }
+    Ok(items)
+}

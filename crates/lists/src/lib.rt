@@ -1,0 +1,8 @@
+//! Lists with commas between their items, perhaps one at the end, as a source has them between brackets.
+#![tactic(auto)]
+
+mod comma;
+#[cfg(test)]
+mod tests;
+
+pub use comma::after_comma;
