@@ -1,11 +1,12 @@
 -- The values of literals (The Rust Reference, "Tokens": "String literals", "Raw string literals", "Integer literals").
-use Rattle.std.specs.Prelude.{ℕ, zero, suc, ◌+◌, ◌*◌, ◌^◌, List, [], ◌∷◌, ◌++◌, length, map, take, drop, chars, encode_utf8, codes, bytes_eq, Bool, true, false, cond, not, ◌||◌, ◌&&◌, ◌==◌, nat_lt, Option, Some, None, option_map, unwrap_or, position}
+use Rattle.std.specs.Prelude.{ℕ, ◌+◌, ◌*◌, ◌^◌, List, [], ◌∷◌, ◌++◌, length, map, take, drop, chars, encode_utf8, codes, bytes_eq, Bool, true, false, cond, not, ◌||◌, ◌&&◌, ◌==◌, nat_lt, Option, Some, None, option_map, unwrap_or, position}
 use Rattle.std.specs.Char.{digit_value}
 use Rattle.std.specs.Int.Digits.{number_from_digits}
 use Rattle.std.specs.Option.{option_or}
 use Rattle.std.specs.List.{filter, list_all, list_any}
 use lib.Utf8.{scalar}
 use Rattle.literals.specs.Literals.{is_digit, is_hex_digit}
+use Rattle.literals.specs.Scanning.{after_hashes}
 use Rattle.tokens.specs.declared.token.Token.{Token}
 use Rattle.tokens.specs.declared.token.TokenKind.{TokenKind}
 use Rattle.tokens.specs.declared.token.TokenKind.TheVariants as kind
@@ -48,19 +49,21 @@ abbrev mutual
       cond (skips && is_blank c) (unescaped true cs)
       (cond (c == 34) (ended cs) (cond (c == 92) (after_backslash cs) (put c (unescaped false cs))))
 
+  -- an escape without its backslash
   pub after_backslash : List ℕ → Option (List ℕ)
   after_backslash [] = None
   after_backslash (c ∷ cs) =
       cond (c == 10) (unescaped true cs) (cond (c == 120) (after_x cs) (cond (c == 117) (after_u cs)
       (put_escaped (escaped_among c short_escapes) (unescaped false cs))))
 
-  -- two hexadecimal digits up to 7F
+  -- after x: two hexadecimal digits up to 7F
   pub after_x : List ℕ → Option (List ℕ)
   after_x [] = None
   after_x (high ∷ []) = None
   after_x (high ∷ low ∷ cs) =
       cond (nat_lt (digit_value high) 8 && is_hex_digit low) (put (digit_value high * 16 + digit_value low) (unescaped false cs)) None
 
+  -- a character's number in braces
   pub after_u : List ℕ → Option (List ℕ)
   after_u [] = None
   after_u (c ∷ cs) = cond (c == 123) (in_code 0 0 cs) None
@@ -73,13 +76,7 @@ abbrev mutual
       (cond (nat_lt 0 digits)
       (cond (c == 95) (in_code digits number cs) (cond ((c == 125) && scalar number) (put number (unescaped false cs)) None)) None)
 
--- what follows so many signs #
-abbrev pub after_hashes : ℕ → List ℕ → Option (List ℕ)
-after_hashes zero cs = Some cs
-after_hashes (suc n) [] = None
-after_hashes (suc n) (c ∷ cs) = cond (c == 35) (after_hashes n cs) None
-
--- the value ends where the signs # follow a quote, and else goes on
+-- after a quote: the value ends where its signs # follow, and else goes on
 abbrev pub closed_or : Option (List ℕ) → Option (List ℕ) → Option (List ℕ)
 closed_or None more = more
 closed_or (Some rest) more = ended rest
@@ -119,14 +116,16 @@ suffix_place text = unwrap_or (position (λ b. (b == 105) || (b == 117)) text) (
 abbrev pub digits_of : List ℕ → List ℕ
 digits_of text = map digit_value (filter (λ b. not (b == 95)) text)
 
+-- there is a digit
 abbrev pub are_some : List ℕ → Bool
 are_some [] = false
 are_some (d ∷ ds) = true
 
--- there are digits, each of the base, and their number is at most 2^64 - 1
+-- there are digits, all of the base, and their number is at most 2^64 - 1
 abbrev pub is_number : ℕ → List ℕ → Bool
 is_number base digits = are_some digits && list_all (λ d. nat_lt d base) digits && nat_lt (number_from_digits base digits) (2 ^ 64)
 
+-- the number that digits write in a base
 abbrev pub number_in : ℕ → List ℕ → Option ℕ
 number_in base text = cond (is_number base (digits_of text)) (Some (number_from_digits base (digits_of text))) None
 
@@ -145,6 +144,7 @@ unsuffixed [] = None
 unsuffixed (b ∷ []) = cond (is_digit b) (number_in 10 (b ∷ [])) None
 unsuffixed (b ∷ c ∷ bs) = cond (b == 48) (number_after (base_of c) (b ∷ c ∷ bs) bs) (cond (is_digit b) (number_in 10 (b ∷ c ∷ bs)) None)
 
+-- a number, perhaps with the name of an integer type
 abbrev pub whole_value : List ℕ → Option ℕ
 whole_value text = cond (is_integer_suffix (drop (suffix_place text) text)) (unsuffixed (take (suffix_place text) text)) None
 

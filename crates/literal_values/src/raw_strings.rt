@@ -2,12 +2,12 @@
 
 ghost use Rattle.std.specs.Prelude.{◌≡◌, chars, length, MatchOption};
 ghost use Rattle.std.specs.Str.{IsUtf8};
-ghost use Rattle.literal_values.specs.Values.{after_hashes, raw_text, raw_string};
+ghost use Rattle.literal_values.specs.Values.{raw_text, raw_string};
 ghost use Rattle.literal_values.specs.Pieces.{BeginsWith};
 ghost use Rattle.literal_values.specs.declared.strings.Quoting.TheVariants.{Raw};
 
 use crate::strings::{Piece, last_piece};
-use literals::split_first_char;
+use literals::{after_hashes, split_first_char};
 
 const MAX_HASHES: usize = 255;
 
@@ -25,22 +25,6 @@ pub fn opened_raw(text: &str) -> Option<(usize, &str)>
         }
         hashes += 1;
     }
-}
-
-/// What follows so many signs `#` at the front.
-fn after_hashes(hashes: usize, text: &str) -> Option<&str>
-    ensures { MatchOption result (after_hashes hashes (chars text.now) ≡ None) (λ rest. after_hashes hashes (chars text.now) ≡ Some (chars rest.now)) }
-{
-    let mut rest = text;
-    let mut left = hashes;
-    'hashes: while left > 0 {
-        match split_first_char(rest) {
-            Some(('#', after)) => rest = after,
-            _ => return None,
-        }
-        left -= 1;
-    }
-    Some(rest)
 }
 
 /// What a raw text begins with.
