@@ -13,3 +13,5 @@ mod tests;
 
 pub use laws::{literals_are_longest, literals_have_quotes};
 pub use literal::after_literal;
+pub use raw_strings::after_hashes;
+pub use scan::split_first_char;

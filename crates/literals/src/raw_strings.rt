@@ -7,8 +7,8 @@ use crate::scan::split_first_char;
 
 const MAX_HASHES: usize = 255;
 
-/// What follows so many signs `#` at the front.
-fn after_hashes(hashes: usize, text: &str) -> Option<&str>
+/// What follows so many signs `#` at the front; `None` where fewer stand there.
+pub fn after_hashes(hashes: usize, text: &str) -> Option<&str>
     ensures { Leaves result text.now (after_hashes hashes (chars text.now)) }
 {
     let mut rest = text;

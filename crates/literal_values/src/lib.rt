@@ -1,0 +1,12 @@
+//! The values of literals: texts, whole numbers and truth values (The Rust Reference, "Tokens").
+#![tactic(auto)]
+
+mod escapes;
+mod numbers;
+mod raw_strings;
+mod strings;
+#[cfg(test)]
+mod tests;
+mod value;
+
+pub use value::{LiteralValue, is_string, literal_value};
