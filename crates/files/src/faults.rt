@@ -8,8 +8,8 @@ use std::alloc::Global;
 /// How many calls failed, up to 2^64 - 1, and the path of the last of them.
 #[derive(Drop)]
 pub(crate) struct Faults {
-    count: u64,
-    path: Option<String>,
+    pub(crate) count: u64,
+    pub(crate) path: Option<String>,
 }
 
 impl Faults {

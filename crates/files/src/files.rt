@@ -24,12 +24,7 @@ pub trait Files {
     /// The bytes of the file at the path, if they are at most `most`. It answers `Longer` where the file has more, and
     /// `Failed` where there is no file or reading it failed. `Failed` counts a fault, and the path is kept; every other
     /// answer leaves the count and the path of the last fault. No call changes a file.
-    fn read_file(
-        &mut self,
-        alloc: Global,
-        path: &str,
-        most: usize,
-    ) -> Result<FileBytes, FileAnswer>
+    fn read_file(&mut self, alloc: Global, path: &str, most: usize) -> Result<FileBytes, FileAnswer>
         requires { most + 1 < 2 ^ 64 }
         ensures bytes { IfOk result (λ bytes. IsHeld (tells self.old) (held self.old path.now) bytes) }
         ensures short { IfOk result (λ bytes. length bytes ≤ most) }

@@ -12,3 +12,5 @@ pub use files::Files;
 pub use memory::{HonestFiles, MemoryFiles};
 pub use standard::StdFiles;
 
+#[cfg(test)]
+mod tests;

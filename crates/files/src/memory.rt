@@ -27,7 +27,7 @@ fn is_among(numbers: &[usize], number: usize) -> bool
 #[derive(Drop)]
 pub struct HonestFiles {
     files: Vec<(String, Vec<u8>)>,
-    faults: Faults,
+    pub(crate) faults: Faults,
 }
 
 impl HonestFiles {
@@ -57,12 +57,7 @@ impl Files for HonestFiles {
 
     ghost faults = { λ files. honest_faults files };
 
-    fn read_file(
-        &mut self,
-        alloc: Global,
-        path: &str,
-        most: usize,
-    ) -> Result<FileBytes, FileAnswer>
+    fn read_file(&mut self, alloc: Global, path: &str, most: usize) -> Result<FileBytes, FileAnswer>
         requires { most + 1 < 2 ^ 64 }
         ensures bytes { IfOk result (λ bytes. honest_held self.old path.now ≡ Some bytes) }
         ensures short { IfOk result (λ bytes. length bytes ≤ most) }
@@ -91,7 +86,7 @@ impl Files for HonestFiles {
 /// Files in memory, of which chosen calls fail.
 #[derive(Drop)]
 pub struct MemoryFiles {
-    honest: HonestFiles,
+    pub(crate) honest: HonestFiles,
     fails: Vec<usize>,
     calls: usize,
 }
@@ -129,12 +124,7 @@ impl Files for MemoryFiles {
 
     ghost faults = { λ files. memory_faults files };
 
-    fn read_file(
-        &mut self,
-        alloc: Global,
-        path: &str,
-        most: usize,
-    ) -> Result<FileBytes, FileAnswer>
+    fn read_file(&mut self, alloc: Global, path: &str, most: usize) -> Result<FileBytes, FileAnswer>
         requires { most + 1 < 2 ^ 64 }
         ensures bytes { IfOk result (λ bytes. memory_held self.old path.now ≡ Some bytes) }
         ensures short { IfOk result (λ bytes. length bytes ≤ most) }

@@ -13,7 +13,7 @@ use streams::{ReadError, StdSource, read_all};
 #[derive(Drop)]
 pub struct StdFiles<R> {
     runtime: R,
-    faults: Faults,
+    pub(crate) faults: Faults,
 }
 
 impl<R: FileSystem> StdFiles<R> {
