@@ -1,4 +1,4 @@
-ghost use Rattle.std.specs.Prelude.{◌≡◌, ◌≢◌, ◌≤◌, ◌<◌, ◌+◌, ◌^◌, ◌⊎◌, ℕ, List, Bool, length, IfOk, None, Some};
+ghost use Rattle.std.specs.Prelude.{◌≡◌, ◌≢◌, ◌≤◌, ◌<◌, ◌+◌, ◌^◌, ◌⊎◌, ℕ, List, Bool, length, IfOk, Some};
 ghost use Rattle.std.specs.declared.option.Option.{Option};
 ghost use Rattle.streams.specs.Faults.{CountsFault};
 ghost use Rattle.files.specs.Held.{IsHeld, IsMissing};
