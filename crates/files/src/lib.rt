@@ -1,0 +1,16 @@
+//! Whole files, read by their paths, with a count of the faults on the way.
+#![tactic(auto)]
+
+mod faults;
+mod file;
+mod files;
+mod memory;
+mod standard;
+
+pub use file::{FileAnswer, FileBytes};
+pub use files::Files;
+pub use memory::{HonestFiles, MemoryFiles};
+pub use standard::StdFiles;
+
+#[cfg(test)]
+mod tests;
