@@ -1,8 +1,10 @@
-//! What is configured: bounds on what deriving may take, and which instances get components.
+//! What is configured: bounds on what deriving may take, which instances get components, and what names become.
 #![tactic(auto)]
 
 mod collect;
 mod config;
+mod members;
+mod renames;
 #[cfg(test)]
 mod tests;
 
