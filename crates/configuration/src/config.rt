@@ -1,7 +1,7 @@
-ghost use Rattle.std.specs.Prelude.{◌≡◌, ◌≤◌, ◌⊎◌, IfOk, IfErr, MatchOption};
+ghost use Rattle.std.specs.Prelude.{◌≡◌, ◌≤◌, ◌⊎◌, ◌↔◌, IsTrue, IfOk, IfErr, MatchOption};
 ghost use Rattle.serde_json.specs.View.{view as view_of};
 ghost use Rattle.configuration.specs.Configuration.{empty_configuration, Configuration};
-ghost use Rattle.configuration.specs.Form.{IsConfiguration, IsConfigurationText, IsBadConfig};
+ghost use Rattle.configuration.specs.Form.{KeepsEmpty, IsConfiguration, IsConfigurationText, IsBadConfig};
 
 use crate::collect::SchemaCollect;
 use crate::members::{collect_at, is_empty_list_at, is_empty_object_at, is_object_of, whole_at};
@@ -156,9 +156,6 @@ fn configured(alloc: Global, value: &Value) -> Result<Option<Config>, AllocError
         renames,
     }))
 }
-
-ghost use Rattle.std.specs.Prelude.{◌↔◌, IsTrue};
-ghost use Rattle.configuration.specs.Form.{KeepsEmpty};
 
 /// Whether the members that must be empty are.
 fn keeps_empty(value: &Value) -> bool

@@ -3,6 +3,7 @@
 
 mod collect;
 mod config;
+mod law;
 mod members;
 mod renames;
 #[cfg(test)]
@@ -10,3 +11,4 @@ mod tests;
 
 pub use collect::SchemaCollect;
 pub use config::Config;
+pub use law::configurations_are_one;

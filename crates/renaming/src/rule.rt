@@ -1,4 +1,6 @@
 ghost use Rattle.std.specs.Prelude.{◌≡◌};
+ghost use Rattle.renaming.specs.Rules.{name_of};
+ghost use Rattle.renaming.specs.declared.rule.RenameRule.{RenameRule as AnyRule};
 
 use std::fmt;
 use std::str::FromStr;
@@ -23,8 +25,6 @@ pub enum RenameRule {
 pub struct UnknownRule;
 
 impl RenameRule {
-    ghost use Rattle.renaming.specs.Rules.{name_of};
-
     /// The rule's name, as it is written in an attribute.
     pub fn name(&self) -> &'static str
         ensures { result.now ≡ name_of self.now }
@@ -75,9 +75,6 @@ impl fmt::Display for RenameRule {
         f.write_str(self.name())
     }
 }
-
-ghost use Rattle.renaming.specs.Rules.{name_of};
-ghost use Rattle.renaming.specs.declared.rule.RenameRule.{RenameRule as AnyRule};
 
 /// No two rules have the same name.
 pub fn rules_have_own_names()
