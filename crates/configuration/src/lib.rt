@@ -1,10 +1,14 @@
-//! What is configured: bounds on what deriving may take, and which instances get components.
+//! What is configured: bounds on what deriving may take, which instances get components, and what names become.
 #![tactic(auto)]
 
 mod collect;
 mod config;
+mod law;
+mod members;
+mod renames;
 #[cfg(test)]
 mod tests;
 
 pub use collect::SchemaCollect;
 pub use config::Config;
+pub use law::configurations_are_one;

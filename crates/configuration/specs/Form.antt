@@ -1,0 +1,107 @@
+-- The form of a configuration as JSON (RFC 8259), over the values that serde_json reads from texts.
+use Rattle.std.specs.Prelude.{◌≡◌, ℕ, ◌≤◌, List, [], ◌∷◌, length, Option, Some, None, IfSome, IsTrue, IsUtf8, bytes_eq, codes}
+use Rattle.std.specs.List.{list_all, list_any}
+use Rattle.serde_json.specs.Data.{Data, number, unsigned, string, array, object, Items, no_items, item, Members, no_members, member}
+use Rattle.serde_json.specs.Find.{get}
+use Rattle.serde_json.specs.Read.{read}
+use Rattle.diag.specs.Refusal.{IsRefusal}
+use Rattle.diag.specs.Span.{no_span}
+use Rattle.diag.specs.declared.error.DeriveError.{DeriveError}
+use Rattle.diag.specs.declared.kind.Kind.TheVariants.{BadConfig}
+use Rattle.renaming.specs.declared.row.RenamePlace.{RenamePlace}
+use Rattle.renaming.specs.declared.row.RenamePlace.TheVariants.{Field, Variant}
+use Rattle.renaming.specs.declared.row.RenameRow.{RenameRow}
+use Rattle.renaming.specs.Rules.{name_of}
+use Rattle.configuration.specs.declared.collect.SchemaCollect.{SchemaCollect}
+use Rattle.configuration.specs.declared.collect.SchemaCollect.TheVariants.{NonInlined, All}
+use Rattle.configuration.specs.Configuration.{Configuration}
+
+-- ---- members
+
+abbrev pub names_of : Members → List (List ℕ)
+names_of no_members = []
+names_of (member name value ms) = name ∷ names_of ms
+
+-- an object whose members all have names among these
+abbrev pub IsObjectOf : List (List ℕ) → Data → Type 0
+IsObjectOf names (object ms) = IsTrue (list_all (λ name. list_any (bytes_eq name) names) (names_of ms))
+IsObjectOf names _ = ⊥
+
+-- what a member says, or where it is absent the standard value
+abbrev pub IsGiven : {A : Type 0} → (Data → A → Type 0) → A → Option Data → A → Type 0
+IsGiven says standard None x = x ≡ standard
+IsGiven says standard (Some value) x = says value x
+
+-- a whole number from the least to the most; `10.0` and `-0` are no whole numbers
+abbrev pub IsWhole : ℕ → ℕ → Data → ℕ → Type 0
+IsWhole least most value n = (value ≡ number (unsigned n)) × (least ≤ n) × (n ≤ most)
+
+abbrev pub collect_name : SchemaCollect → List ℕ
+collect_name NonInlined = codes "NonInlined"
+collect_name All = codes "All"
+
+abbrev pub IsCollect : Data → SchemaCollect → Type 0
+IsCollect value collect = value ≡ string (collect_name collect)
+
+-- ---- renames
+
+abbrev pub row_members : List (List ℕ)
+row_members = codes "rule" ∷ codes "place" ∷ codes "from" ∷ codes "to" ∷ []
+
+abbrev pub place_name : RenamePlace → List ℕ
+place_name Field = codes "field"
+place_name Variant = codes "variant"
+
+-- an object that has each member of a row and no other, and says this row
+pub record IsRow (value : Data) (row : RenameRow) : Type 0 where
+  pub members : IsObjectOf row_members value
+  pub rule : get (codes "rule") value ≡ Some (string (name_of row.rule))
+  pub place : get (codes "place") value ≡ Some (string (place_name row.place))
+  pub from : get (codes "from") value ≡ Some (string row.from)
+  pub to : get (codes "to") value ≡ Some (string row.to)
+
+-- each of the items says one of the rows, in order
+abbrev pub AreRows : Items → List RenameRow → Type 0
+AreRows no_items [] = Unit {0}
+AreRows no_items (row ∷ rows) = ⊥
+AreRows (item value items) [] = ⊥
+AreRows (item value items) (row ∷ rows) = IsRow value row × AreRows items rows
+
+abbrev pub IsRenames : Data → List RenameRow → Type 0
+IsRenames (array items) rows = AreRows items rows
+IsRenames _ rows = ⊥
+
+-- ---- the whole
+
+abbrev pub configuration_members : List (List ℕ)
+configuration_members =
+    codes "version" ∷ codes "limit" ∷ codes "copies" ∷ codes "schema_collect" ∷ codes "renames" ∷ codes "aliases" ∷ codes "schemas"
+    ∷ codes "defaults" ∷ []
+
+-- the members that say nothing yet
+pub record KeepsEmpty (value : Data) : Type 0 where
+  pub aliases : IfSome (get (codes "aliases") value) (λ given. given ≡ object no_members)
+  pub schemas : IfSome (get (codes "schemas") value) (λ given. given ≡ object no_members)
+  pub defaults : IfSome (get (codes "defaults") value) (λ given. given ≡ array no_items)
+
+-- an object of these members, each of which may be absent, that says this configuration
+pub record IsConfiguration (value : Data) (c : Configuration) : Type 0 where
+  pub members : IsObjectOf configuration_members value
+  pub version : IsGiven (IsWhole 1 1) 1 (get (codes "version") value) 1
+  pub limit : IsGiven (IsWhole 1 4096) 1000 (get (codes "limit") value) c.limit
+  pub copies : IsGiven (IsWhole 1 100000) 10000 (get (codes "copies") value) c.copies
+  pub collect : IsGiven IsCollect NonInlined (get (codes "schema_collect") value) c.collect
+  pub renames : IsGiven IsRenames [] (get (codes "renames") value) c.renames
+  pub empty : KeepsEmpty value
+
+-- a text of at most 1,048,576 bytes that serde_json reads as a value that says this configuration
+pub record IsConfigurationText (bytes : List ℕ) (c : Configuration) : Type 0 where
+  pub short : length bytes ≤ 1048576
+  pub utf8 : IsUtf8 bytes
+  pub value : Data
+  pub reads : read bytes ≡ Some value
+  pub says : IsConfiguration value c
+
+-- the refusal of what is no configuration
+abbrev pub IsBadConfig : DeriveError → Type 0
+IsBadConfig error = IsRefusal BadConfig no_span (codes "the configuration is not of the stated form") error
