@@ -9,4 +9,4 @@ mod strings;
 mod tests;
 mod value;
 
-pub use value::{LiteralValue, is_string, literal_value};
+pub use value::{LiteralValue, is_string, literal_value, text_value};

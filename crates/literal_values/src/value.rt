@@ -31,6 +31,16 @@ pub fn literal_value(alloc: Global, token: &Token) -> Result<Option<LiteralValue
     }
 }
 
+/// The value of a string, with its escapes decoded. `None` for any other token.
+pub fn text_value(alloc: Global, token: &Token) -> Result<Option<Text>, AllocError>
+    ensures { IfOk result (λ value. value ≡ text_value token.now) }
+{
+    match token.kind {
+        TokenKind::Literal => string_value(alloc, token.text.as_str()),
+        _ => Ok(None),
+    }
+}
+
 /// Whether the value of the token is a text.
 pub fn is_string(token: &Token) -> bool
     ensures { result ≡ is_some (text_value token.now) }
