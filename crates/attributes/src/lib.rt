@@ -19,6 +19,8 @@ mod meta;
 mod path;
 mod read;
 mod serde_item;
+#[cfg(test)]
+mod tests;
 
 
 

@@ -1,6 +1,6 @@
 -- What a schema is described as (The Rust Reference, "Doc comments").
 use Rattle.std.specs.Prelude.{ℕ, List, [], ◌∷◌, Option, Some, None}
-use Rattle.syntax.specs.Comments.{joined}
+use Rattle.attributes.specs.Comments.{joined}
 use Rattle.std.specs.Borrow.{Bor}
 use Rattle.component.specs.declared.container.ComponentDescription.{ComponentDescription}
 use Rattle.component.specs.declared.container.ComponentDescription.TheVariants as descriptions

@@ -1,8 +1,8 @@
 -- What declarations are resolved to (the serde data model): structs with named fields, with unnamed ones, and without fields.
 use Rattle.std.specs.Prelude.{ℕ, zero, suc, List, [], ◌∷◌, Bool, true, false, not, Option, Some, None, option_map, option_and_then}
 use Rattle.written_types.specs.declared.written.Ident.{Ident}
-use Rattle.syntax.specs.declared.item.Attribute.{Attribute}
-use Rattle.syntax.specs.Comments.{docs_of, formatted}
+use Rattle.attributes.specs.Attributes.{AttributeItem}
+use Rattle.attributes.specs.Comments.{docs_of, formatted}
 use Rattle.syntax.specs.Items.{FieldItem, FieldItems, named, unnamed, unit, BodyItem, struct_body, DeclaredItem}
 use Rattle.open_types.specs.Open.{Open}
 use Rattle.open_types.specs.Open as types
@@ -80,7 +80,7 @@ all_of f [] = Some []
 all_of f (x ∷ xs) = option_and_then (λ y. option_map (λ ys. y ∷ ys) (all_of f xs)) (f x)
 
 -- doc comments as a description, where they say something
-abbrev pub description_of : List Attribute → Option (List ℕ)
+abbrev pub description_of : List AttributeItem → Option (List ℕ)
 description_of attributes = said (formatted (docs_of attributes))
 
 -- a field with its name, its description and the type that its written type stands for
@@ -105,7 +105,7 @@ abbrev pub body_form : (List ℕ → Option ℕ) → BodyItem → Option FormOf
 body_form place_of (struct_body fs) = form_of place_of fs
 
 -- what a declaration is resolved to, where it has a form
-abbrev pub struct_from : List Attribute → Ident → FormOf → StructOf
+abbrev pub struct_from : List AttributeItem → Ident → FormOf → StructOf
 struct_from attributes x form = record { name = x.text; description = description_of attributes; form = form }
 
 abbrev pub struct_of : (List ℕ → Option ℕ) → DeclaredItem → Option StructOf

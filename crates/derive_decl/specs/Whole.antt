@@ -2,14 +2,14 @@
 use Rattle.std.specs.Prelude.{◌≡◌, ℕ, List, [], ◌∷◌, Option, Some, option_map}
 use Rattle.schema_core.specs.Meaning.{IsDistinct}
 use Rattle.written_types.specs.declared.written.Ident.{Ident}
-use Rattle.syntax.specs.declared.item.Attribute.{Attribute}
+use Rattle.attributes.specs.Attributes.{AttributeItem}
 use Rattle.syntax.specs.Items.{BodyItem, DeclaredItem}
 use Rattle.scopes.specs.Names.{place_among}
 use Rattle.derive_decl.specs.Structs.{StructOf, names_of, all_of, body_form, struct_from, struct_of}
 use Rattle.derive_decl.specs.Faults.{HasSmall}
 
 -- The struct is what a declaration of these attributes, this name and this body is resolved to: its members have different names, and its types are not too large.
-pub record IsResolved (place_of : List ℕ → Option ℕ) (attributes : List Attribute) (x : Ident) (body : BodyItem) (of : StructOf) : Type 0 where
+pub record IsResolved (place_of : List ℕ → Option ℕ) (attributes : List AttributeItem) (x : Ident) (body : BodyItem) (of : StructOf) : Type 0 where
   pub resolved : option_map (struct_from attributes x) (body_form place_of body) ≡ Some of
   pub distinct : IsDistinct (names_of of.form)
   pub small : HasSmall body

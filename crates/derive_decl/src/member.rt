@@ -1,6 +1,7 @@
 //! Named fields with resolved types.
 
-ghost use Rattle.std.specs.Prelude.{◌≡◌, ◌⊎◌, ◌≤◌, IfOk, IfErr, Some};
+ghost use Rattle.std.specs.Prelude.{◌≡◌, ◌⊎◌, ◌≤◌, IfOk, IfErr, Some, map};
+ghost use Rattle.attributes.specs.Attributes.{attribute_view};
 ghost use Rattle.diag.specs.Refusal.{IsRefusal};
 ghost use Rattle.open_types.specs.Open.{open_view};
 ghost use Rattle.resolving.specs.Names.{size};
@@ -51,7 +52,7 @@ pub(crate) fn description_of(
     alloc: Global,
     attributes: &[Attribute],
 ) -> Result<Option<Text>, AllocError>
-    ensures { IfOk result (λ description. description ≡ description_of attributes.now) }
+    ensures { IfOk result (λ description. description ≡ description_of (map attribute_view attributes.now)) }
 {
     let comments = CommentAttributes::from_attributes(alloc, attributes)?;
     ComponentDescription::CommentAttributes(&comments).text(alloc)
@@ -77,7 +78,7 @@ fn member_with(
     ty: OpenType,
 ) -> Result<Member, AllocError>
     ensures ident { IfOk result (λ m. m.ident ≡ ident.now) }
-    ensures member { IfOk result (λ m. member_view m ≡ member_from ident.now (description_of attributes.now) (open_view ty)) }
+    ensures member { IfOk result (λ m. member_view m ≡ member_from ident.now (description_of (map attribute_view attributes.now)) (open_view ty)) }
 {
     Ok(Member {
         ident: ident.copy(alloc)?,

@@ -1,6 +1,7 @@
 //! Structs with named fields.
 
 ghost use Rattle.std.specs.Prelude.{◌≡◌, ◌⊎◌, map, IfOk, IfErr, Some};
+ghost use Rattle.attributes.specs.Attributes.{attribute_view};
 ghost use Rattle.std.specs.List.{AllByRecursion};
 ghost use Rattle.schema_core.specs.Meaning.{IsDistinct};
 ghost use Rattle.schema_core.specs.Schema.{object_view, named_views};
@@ -60,7 +61,7 @@ impl NamedStructSchema {
     ) -> Result<NamedStructSchema, DeriveError>
         requires { IsScope root.now.container.now.scope.now }
         ensures form { IfOk result (λ s. form_of (known root.now.container.now) (named (map field_view fields.now)) ≡ Some (named_view s)) }
-        ensures description { IfOk result (λ s. s.description ≡ description_of root.now.attributes.now) }
+        ensures description { IfOk result (λ s. s.description ≡ description_of (map attribute_view root.now.attributes.now)) }
         ensures distinct { IfOk result (λ s. IsDistinct (member_names (map member_view s.members))) }
         ensures small { IfOk result (λ _. AllByRecursion IsSmall (map field_view fields.now)) }
         ensures refused { IfErr result (λ e. (e ≡ DeriveError.Memory) ⊎ AreFaultyMembers (known root.now.container.now) (map field_view fields.now) e) }

@@ -1,6 +1,7 @@
 //! The schema of a declaration.
 
 ghost use Rattle.std.specs.Prelude.{◌≡◌, ◌⊎◌, map, IfOk, IfErr, Some};
+ghost use Rattle.attributes.specs.Attributes.{attribute_view};
 ghost use Rattle.std.specs.List.{AllByRecursion};
 ghost use Rattle.schema_core.specs.Meaning.{IsDistinct};
 ghost use Rattle.open_types.specs.Open.{open_view};
@@ -34,7 +35,7 @@ pub struct Schema<'a> {
 fn fields_form(alloc: Global, root: &Root<'_>, fields: &Fields) -> Result<Form, DeriveError>
     requires { IsScope root.now.container.now.scope.now }
     ensures form { IfOk result (λ f. form_of (known root.now.container.now) (fields_view fields.now) ≡ Some (form_view f)) }
-    ensures description { IfOk result (λ f. form_description f ≡ description_of root.now.attributes.now) }
+    ensures description { IfOk result (λ f. form_description f ≡ description_of (map attribute_view root.now.attributes.now)) }
     ensures distinct { IfOk result (λ f. IsDistinct (names_of (form_view f))) }
     ensures small { IfOk result (λ _. AllByRecursion IsSmall (fields_in (fields_view fields.now))) }
     ensures refused { IfErr result (λ e. (e ≡ DeriveError.Memory) ⊎ AreFaulty (known root.now.container.now) root.now.ident.now (fields_view fields.now) e) }
@@ -57,7 +58,7 @@ fn fields_form(alloc: Global, root: &Root<'_>, fields: &Fields) -> Result<Form, 
 fn body_form(alloc: Global, root: &Root<'_>, body: &Body) -> Result<Form, DeriveError>
     requires { IsScope root.now.container.now.scope.now }
     ensures form { IfOk result (λ f. body_form (known root.now.container.now) (body_view body.now) ≡ Some (form_view f)) }
-    ensures description { IfOk result (λ f. form_description f ≡ description_of root.now.attributes.now) }
+    ensures description { IfOk result (λ f. form_description f ≡ description_of (map attribute_view root.now.attributes.now)) }
     ensures distinct { IfOk result (λ f. IsDistinct (names_of (form_view f))) }
     ensures small { IfOk result (λ _. HasSmall (body_view body.now)) }
     ensures refused { IfErr result (λ e. (e ≡ DeriveError.Memory) ⊎ IsFaultyBody (known root.now.container.now) root.now.ident.now (body_view body.now) e) }
@@ -95,7 +96,7 @@ impl<'a> Schema<'a> {
     /// `Syntax`, at a named field without a name.
     pub fn resolve(&self, alloc: Global) -> Result<Struct, DeriveError>
         requires { IsScope self.now.container.now.scope.now }
-        ensures resolved { IfOk result (λ s. IsResolved (known self.now.container.now) self.now.attributes.now self.now.ident.now (body_view self.now.body.now) (struct_view s)) }
+        ensures resolved { IfOk result (λ s. IsResolved (known self.now.container.now) (map attribute_view self.now.attributes.now) self.now.ident.now (body_view self.now.body.now) (struct_view s)) }
         ensures refused { IfErr result (λ e. (e ≡ DeriveError.Memory) ⊎ IsFaultyBody (known self.now.container.now) self.now.ident.now (body_view self.now.body.now) e) }
     {
         let root = Root {
@@ -114,7 +115,7 @@ impl<'a> Schema<'a> {
     /// It is refused as `resolve` is.
     pub fn place_types(&self, alloc: Global) -> Result<List<OpenType>, DeriveError>
         requires { IsScope self.now.container.now.scope.now }
-        ensures types { IfOk result (λ ts. (of : StructOf) × IsResolved (known self.now.container.now) self.now.attributes.now self.now.ident.now (body_view self.now.body.now) of × (types_of of.form ≡ map open_view ts)) }
+        ensures types { IfOk result (λ ts. (of : StructOf) × IsResolved (known self.now.container.now) (map attribute_view self.now.attributes.now) self.now.ident.now (body_view self.now.body.now) of × (types_of of.form ≡ map open_view ts)) }
         ensures refused { IfErr result (λ e. (e ≡ DeriveError.Memory) ⊎ IsFaultyBody (known self.now.container.now) self.now.ident.now (body_view self.now.body.now) e) }
     {
         let resolved = self.resolve(alloc)?;
@@ -123,7 +124,8 @@ impl<'a> Schema<'a> {
 }
 
 impl ToTerm for Schema<'_> {
-    ghost use Rattle.std.specs.Prelude.{◌≡◌};
+    ghost use Rattle.std.specs.Prelude.{◌≡◌, map};
+    ghost use Rattle.attributes.specs.Attributes.{attribute_view};
     ghost use Rattle.scopes.specs.Scopes.{IsScope};
     ghost use Rattle.syntax.specs.Items.{body_view};
     ghost use Rattle.derive_decl.specs.Structs.{StructOf};
@@ -134,7 +136,7 @@ impl ToTerm for Schema<'_> {
 
     ghost is_ready = { λ s. IsScope s.container.now.scope.now };
 
-    ghost has_term = { λ s t. (of : StructOf) × IsResolved (known s.container.now) s.attributes.now s.ident.now (body_view s.body.now) of × (t ≡ term of) };
+    ghost has_term = { λ s t. (of : StructOf) × IsResolved (known s.container.now) (map attribute_view s.attributes.now) s.ident.now (body_view s.body.now) of × (t ≡ term of) };
 
     ghost is_refused = { λ s e. IsFaultyBody (known s.container.now) s.ident.now (body_view s.body.now) e };
 

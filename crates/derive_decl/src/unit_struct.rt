@@ -1,6 +1,7 @@
 //! Structs without fields.
 
-ghost use Rattle.std.specs.Prelude.{◌≡◌, IfOk, IfErr};
+ghost use Rattle.std.specs.Prelude.{◌≡◌, IfOk, IfErr, map};
+ghost use Rattle.attributes.specs.Attributes.{attribute_view};
 ghost use Rattle.component.specs.Leaves.{term_view};
 ghost use Rattle.derive_decl.specs.Structs.{description_of, no_fields};
 ghost use Rattle.derive_decl.specs.Terms.{form_term};
@@ -20,7 +21,7 @@ pub struct UnitStructVariant {
 impl UnitStructVariant {
     /// The struct of the declaration.
     pub fn new(alloc: Global, root: &Root<'_>) -> Result<UnitStructVariant, DeriveError>
-        ensures description { IfOk result (λ s. s.description ≡ description_of root.now.attributes.now) }
+        ensures description { IfOk result (λ s. s.description ≡ description_of (map attribute_view root.now.attributes.now)) }
         ensures refused { IfErr result (λ e. e ≡ DeriveError.Memory) }
     {
         Ok(UnitStructVariant {

@@ -1,6 +1,7 @@
 //! Structs with unnamed fields.
 
 ghost use Rattle.std.specs.Prelude.{◌≡◌, ◌⊎◌, pos, map, length, IfOk, IfErr, Some};
+ghost use Rattle.attributes.specs.Attributes.{attribute_view};
 ghost use Rattle.std.specs.List.{AllByRecursion};
 ghost use Rattle.diag.specs.Refusal.{IsRefusal};
 ghost use Rattle.open_types.specs.Open.{open_view};
@@ -73,7 +74,7 @@ impl UnnamedStructSchema {
     ) -> Result<UnnamedStructSchema, DeriveError>
         requires { IsScope root.now.container.now.scope.now }
         ensures form { IfOk result (λ s. form_of (known root.now.container.now) (unnamed (map field_view fields.now)) ≡ Some (unnamed_view s)) }
-        ensures description { IfOk result (λ s. s.description ≡ description_of root.now.attributes.now) }
+        ensures description { IfOk result (λ s. s.description ≡ description_of (map attribute_view root.now.attributes.now)) }
         ensures small { IfOk result (λ _. AllByRecursion IsSmall (map field_view fields.now)) }
         ensures refused { IfErr result (λ e. (e ≡ DeriveError.Memory) ⊎ AreFaultyTypes (known root.now.container.now) root.now.ident.now (map field_view fields.now) e) }
     {

@@ -24,6 +24,7 @@ use Rattle.syntax.specs.Source.{Reads, NestsTooDeep, IsUnreadable, IsTooDeep}
 use Rattle.syntax.proofs.Types.{type_sound, type_complete, opens_deep, deep_enough}
 use Rattle.syntax.proofs.Sound.{source_sound}
 use Rattle.syntax.proofs.Deep.{source_deep}
+use Rattle.lists.proofs.Complete as lists
 use Rattle.syntax.proofs.Complete as complete
 
 -- a source has at most one list of trees
@@ -37,13 +38,13 @@ DeepNest = (source : List ℕ) (ts : Trees) (at : Span) → IsCut source ts → 
 abbrev ty : List Word → Read Written
 ty = type_at most_levels
 
-type_found : (n : ℕ) (ws rest : List Word) (t : Written) → IsType ws t rest → Stops rest → complete.Finds (type_at n) (type_at n ws) (t, rest)
+type_found : (n : ℕ) (ws rest : List Word) (t : Written) → IsType ws t rest → Stops rest → lists.Finds (type_at n) (type_at n ws) (t, rest)
 type_found n ws rest t r stops = elim (type_complete r stops n) [
   | inl e ↦ inl e
   | inr d ↦ inr (d.0, d.1, (ws, d.1))
 ]
 
-opens_found : (ws : List Word) (at : Span) → OpensType most_levels ws at → complete.IsDeep ty (ty ws)
+opens_found : (ws : List Word) (at : Span) → OpensType most_levels ws at → lists.IsDeep ty (ty ws)
 opens_found ws at o = let d = opens_deep o in (d.0, d.1, (ws, d.1))
 
 -- ---- one source
@@ -55,7 +56,7 @@ unbounded_sound : (ws : List Word) (t : Written) (rest : List Word) → unbounde
 unfolding unbounded
 unbounded_sound ws t rest e = type_sound (deep_enough ws).0 ws t rest e
 
-unbounded_found : (ws rest : List Word) (t : Written) → IsType ws t rest → Stops rest → complete.Finds unbounded (unbounded ws) (t, rest)
+unbounded_found : (ws rest : List Word) (t : Written) → IsType ws t rest → Stops rest → lists.Finds unbounded (unbounded ws) (t, rest)
 unfolding unbounded
 unbounded_found ws rest t r stops = elim (type_complete r stops (deep_enough ws).0) [
   | inl e ↦ inl e

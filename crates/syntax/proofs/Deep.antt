@@ -10,17 +10,23 @@ use Rattle.words.specs.declared.vocabulary.Sign.TheVariants.{Colon, Comma, Semic
 use Rattle.words.specs.Words.{Word, name, underscore, keyword, sign, lifetime, literal, doc, group, words_of}
 use Rattle.words.specs.Reading.{Fault, deep, Read, ◌>>=◌, first_as, as_name, as_keyword, as_sign, keyword_at, sign_at, group_at}
 use Rattle.type_grammar.specs.Reading.{type_at}
-use Rattle.syntax.specs.declared.item.Attribute.{Attribute}
+use Rattle.lists.specs.Lists.{after_comma, turn_at, many_at, many_of, itself, list_of}
+use Rattle.attributes.specs.Attributes.{AttributeItem}
+use Rattle.attributes.specs.AttributeWords.{is_inner_doc}
+use Rattle.attributes.specs.AttributeGrammar.{IsAttributes}
+use Rattle.attributes.specs.AttributeReading.{attributes_at}
+use Rattle.attributes.proofs.Whole.{attributes_sound, attributes_shallow}
 use Rattle.syntax.specs.Items.{FieldItems, unit, DeclaredItem}
-use Rattle.syntax.specs.ItemWords.{is_inner_doc, after_semicolon}
-use Rattle.syntax.specs.ItemGrammar.{IsDocs, IsVisibility, IsNamedField, IsUnnamedField}
+use Rattle.syntax.specs.ItemWords.{after_semicolon}
+use Rattle.syntax.specs.ItemGrammar.{IsVisibility, IsNamedField, IsUnnamedField}
 use Rattle.syntax.specs.ItemDepth.{most_levels, OpensNamed, in_named, OpensUnnamed, in_unnamed, OpensList, in_first, behind, OpensFields, in_named_fields, in_unnamed_fields, OpensItems, in_struct, behind_use, behind_struct, OpensSource, behind_inner_doc, behind_inner_attribute, in_items}
-use Rattle.syntax.specs.ItemReading.{docs_at, after_visibility, named_field_at, unnamed_field_at, after_comma, turn_at, many_at, many_of, itself, list_of, fields_in, fields_at, struct_at, left_by, use_or_struct, item_at, kept, after_inner_attribute, inner_at, inner_from, after_inner_within, after_inner, source_at}
-use Rattle.syntax.proofs.Read.{bind_ok, bind_err, ok_is, first_shallow}
-use Rattle.syntax.proofs.Stands.{name-is, keyword-is, sign-is, group-is}
-use Rattle.syntax.proofs.Fronts.{docs_sound, visibility_sound}
+use Rattle.syntax.specs.ItemReading.{after_visibility, named_field_at, unnamed_field_at, fields_in, fields_at, struct_at, left_by, use_or_struct, item_at, kept, after_inner_attribute, inner_at, inner_from, after_inner_within, after_inner, source_at}
+use Rattle.lists.proofs.Read.{bind_ok, bind_err, ok_is, first_shallow}
+use Rattle.lists.proofs.Stands.{name-is, keyword-is, sign-is, group-is}
+use Rattle.syntax.proofs.Fronts.{visibility_sound}
 use Rattle.syntax.proofs.Types.{type_sound, deep_opens}
-use Rattle.syntax.proofs.Sound.{comma_read, turn_sound, ItemRead}
+use Rattle.lists.proofs.Sound.{comma_read, turn_sound}
+use Rattle.syntax.proofs.Sound.{ItemRead}
 use Rattle.syntax.proofs.Sound as sound
 
 abbrev ty : List Word → Read Written
@@ -30,6 +36,12 @@ ty = type_at most_levels
 past : {A B : Type 0} (kind : Word → Option A) (ws : List Word) (f : A × List Word → Result B Fault) (at : Span) → (first_as kind ws >>= f) ≡ Err (deep at) → (p : A × List Word) × (first_as kind ws ≡ Ok p) × (f p ≡ Err (deep at))
 past kind ws f at e = elim (bind_err (first_as kind ws) e) [
   | inl h ↦ absurd (first_shallow kind ws at h)
+  | inr h ↦ h
+]
+
+past_attributes : {B : Type 0} (ws : List Word) (f : List AttributeItem × List Word → Result B Fault) (at : Span) → (attributes_at ws >>= f) ≡ Err (deep at) → (p : List AttributeItem × List Word) × (attributes_at ws ≡ Ok p) × (f p ≡ Err (deep at))
+past_attributes ws f at e = elim (bind_err (attributes_at ws) e) [
+  | inl h ↦ absurd (attributes_shallow ws at h)
   | inr h ↦ h
 ]
 
@@ -78,19 +90,19 @@ module _ {A : Type 0} (item : List Word → Read A) (IsItem : List Word → A �
 named_deep : (ws : List Word) (at : Span) → named_field_at ty ws ≡ Err (deep at) → OpensNamed ws at
 unfolding named_field_at
 named_deep ws at e =
-    let d = docs_at ws in
-    let us = after_visibility false d.1 in
-    let x = past as_name us _ at e in
+    let d = past_attributes ws _ at e in
+    let us = after_visibility false d.0.1 in
+    let x = past as_name us _ at d.2 in
     let c = past (as_sign Colon) x.0.1 _ at x.2 in
     let is : us ≡ name x.0.0 ∷ sign Colon c.0.0 ∷ c.0.1 = name-is us x.0 x.1 ∙ ap (λ v. name x.0.0 ∷ v) (sign-is Colon x.0.1 c.0 c.1) in
-    in_named (docs_sound ws) (subst (λ v. IsVisibility d.1 v) is (visibility_sound false d.1)) (deep_opens most_levels c.0.1 at (handed_on (ty c.0.1) _ at c.2))
+    in_named (attributes_sound ws d.0.0 d.0.1 d.1) (subst (λ v. IsVisibility d.0.1 v) is (visibility_sound false d.0.1)) (deep_opens most_levels c.0.1 at (handed_on (ty c.0.1) _ at c.2))
 
 unnamed_deep : (ws : List Word) (at : Span) → unnamed_field_at ty ws ≡ Err (deep at) → OpensUnnamed ws at
 unfolding unnamed_field_at
 unnamed_deep ws at e =
-    let d = docs_at ws in
-    let us = after_visibility true d.1 in
-    in_unnamed (docs_sound ws) (visibility_sound true d.1) (deep_opens most_levels us at (handed_on (ty us) _ at e))
+    let d = past_attributes ws _ at e in
+    let us = after_visibility true d.0.1 in
+    in_unnamed (attributes_sound ws d.0.0 d.0.1 d.1) (visibility_sound true d.0.1) (deep_opens most_levels us at (handed_on (ty us) _ at d.2))
 
 fields_in_deep : (b : Bracket) (inside : Trees) (s : Span) (ws : List Word) (at : Span) → fields_in ty b (words_of inside) ws ≡ Err (deep at) → OpensFields (group b inside s ∷ ws) at
 fields_in_deep Curly inside s ws at e =
@@ -119,9 +131,9 @@ fields_deep (literal t ∷ ws) at e = unit_deep (literal t ∷ ws) at e
 fields_deep (doc t ∷ ws) at e = unit_deep (doc t ∷ ws) at e
 fields_deep (group b inside s ∷ ws) at e = fields_in_deep b inside s ws at e
 
-struct_deep : (ws us : List Word) (docs : List Attribute) (start : List Word) (at : Span) → IsDocs ws docs start → IsVisibility start us → struct_at ty docs start us ≡ Err (deep at) → OpensItems ws at
+struct_deep : (ws us : List Word) (attrs : List AttributeItem) (start : List Word) (at : Span) → IsAttributes ws attrs start → IsVisibility start us → struct_at ty attrs start us ≡ Err (deep at) → OpensItems ws at
 unfolding struct_at
-struct_deep ws us docs start at ds v e =
+struct_deep ws us attrs start at ds v e =
     let k = past (as_keyword Struct) us _ at e in
     let x = past as_name k.0.1 _ at k.2 in
     let word = keyword-is Struct us k.0 k.1 in
@@ -132,13 +144,13 @@ left_shallow : (r : Option (List Word)) (at : Span) → left_by r ≡ Err (deep 
 left_shallow None at e = cc
 left_shallow (Some rest) at e = cc
 
-item_from_deep : (ws start us : List Word) (docs : List Attribute) (at : Span) (r : Read Span) → IsDocs ws docs start → IsVisibility start us → use_or_struct ty docs start us r ≡ Err (deep at) → OpensItems ws at
-item_from_deep ws start us docs at (Ok u) ds v e = absurd (left_shallow (after_semicolon u.1) at e)
-item_from_deep ws start us docs at (Err f) ds v e = struct_deep ws us docs start at ds v (handed_on (struct_at ty docs start us) _ at e)
+item_from_deep : (ws start us : List Word) (attrs : List AttributeItem) (at : Span) (r : Read Span) → IsAttributes ws attrs start → IsVisibility start us → use_or_struct ty attrs start us r ≡ Err (deep at) → OpensItems ws at
+item_from_deep ws start us attrs at (Ok u) ds v e = absurd (left_shallow (after_semicolon u.1) at e)
+item_from_deep ws start us attrs at (Err f) ds v e = struct_deep ws us attrs start at ds v (handed_on (struct_at ty attrs start us) _ at e)
 
 item_deep : (ws : List Word) (at : Span) → item_at ty ws ≡ Err (deep at) → OpensItems ws at
 unfolding item_at
-item_deep ws at e = let d = docs_at ws in let us = after_visibility false d.1 in item_from_deep ws d.1 us d.0 at (keyword_at Use us) (docs_sound ws) (visibility_sound false d.1) e
+item_deep ws at e = let d = past_attributes ws _ at e in let us = after_visibility false d.0.1 in item_from_deep ws d.0.1 us d.0.0 at (keyword_at Use us) (attributes_sound ws d.0.0 d.0.1 d.1) (visibility_sound false d.0.1) d.2
 
 more_deep : (ws rest : List Word) (o : Option DeclaredItem) (at : Span) → ItemRead ws o rest → OpensItems rest at → OpensItems ws at
 more_deep ws rest None at r h = behind_use r h

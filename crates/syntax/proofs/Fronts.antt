@@ -1,7 +1,6 @@
--- What stands before a field's name or type, and before an item's first keyword: doc comments and a visibility.
+-- What stands before a field's name or type, and before an item's first keyword: attributes and a visibility.
 use Rattle.std.proofs.Common.{◌≡◌, ◌∙◌, ℕ, ◌≤◌, ◌⊎◌, inl, inr, List, [], ◌∷◌, ◌++◌, length, refl, ap, sym, subst, arith, codes, take, drop, ◌-◌, Bool, true, false, not, ◌&&◌, ◌||◌, cond, Option, Some, None, Ok, Err}
 use Rattle.std.proofs.lemmas.Slice.Eq.{bytes_eq-Decides}
-use Rattle.std.proofs.lemmas.List.{take-append-drop}
 use Rattle.std.specs.Option.{option_map}
 use Rattle.std.specs.Str.{bytes_eq}
 use Rattle.diag.specs.declared.span.Span.{Span}
@@ -11,51 +10,22 @@ use Rattle.written_types.specs.declared.written.Ident.{Ident}
 use Rattle.words.specs.declared.vocabulary.Keyword.TheVariants.{Pub}
 use Rattle.words.specs.Words.{Word, name, underscore, keyword, sign, lifetime, literal, doc, group, words_of}
 use Rattle.words.specs.Reading.{wrong, Read, taken, as_keyword, keyword_at}
-use Rattle.syntax.specs.declared.item.Attribute.{Attribute}
-use Rattle.syntax.specs.ItemWords.{begins, is_inner_text, doc_attribute, as_outer_doc, unclosed, is_restriction}
-use Rattle.syntax.specs.ItemGrammar.{IsDocs, no_docs, more_docs, IsVisibility, private, public, restricted}
-use Rattle.syntax.specs.ItemReading.{docs_from, docs_at, is_scope, ends_item, after_scope, after_pub, after_visibility, inner_at}
-use Rattle.syntax.proofs.Stands.{keyword-is}
-
--- a text that does not end in `*/` is left as it is
-unclosed_from : (text : List ℕ) (b : Bool) → b ≡ false → text ≡ cond b (take (length text - 2) text) text
-unclosed_from text false e = refl
-unclosed_from text true e = cc
+use Rattle.attributes.specs.Attributes.{AttributeItem}
+use Rattle.attributes.specs.AttributeWords.{begins, is_inner_text, doc_attribute, as_outer_doc}
+use Rattle.attributes.specs.AttributeGrammar.{IsAttribute, outer_doc, in_brackets, IsAttributes, no_attributes, more_attributes}
+use Rattle.attributes.specs.AttributeReading.{begin_attributes}
+use Rattle.syntax.specs.ItemWords.{is_restriction}
+use Rattle.syntax.specs.ItemGrammar.{IsVisibility, private, public, restricted}
+use Rattle.syntax.specs.ItemReading.{is_scope, ends_item, after_scope, after_pub, after_visibility, inner_at}
+use Rattle.lists.proofs.Stands.{keyword-is}
 
 pub bool_cases : (b : Bool) → (b ≡ true) ⊎ (b ≡ false)
 bool_cases true = inl refl
 bool_cases false = inr refl
 
-pub left_unclosed : (text : List ℕ) → ((front : List ℕ) → text ≡ front ++ codes "*/" → ⊥) → text ≡ unclosed text
-left_unclosed text none = elim (bool_cases (bytes_eq (drop (length text - 2) text) (codes "*/"))) [
-  | inl ends ↦ absurd (none (take (length text - 2) text)
-      (sym (take-append-drop (length text - 2) text) ∙ ap (λ v. take (length text - 2) text ++ v) ((bytes_eq-Decides (drop (length text - 2) text) (codes "*/")).0 ends)))
-  | inr other ↦ unclosed_from text (bytes_eq (drop (length text - 2) text) (codes "*/")) other
-]
-
--- ---- doc comments
-docs_from_sound : (w : Word) (ws : List Word) (o : Option Attribute) → as_outer_doc w ≡ o → IsDocs ws (docs_at ws).0 (docs_at ws).1 → IsDocs (w ∷ ws) (docs_from o (w ∷ ws) (docs_at ws)).0 (docs_from o (w ∷ ws) (docs_at ws)).1
-docs_from_sound w ws None e h = no_docs
-docs_from_sound w ws (Some a) e h = more_docs e h
-
-pub docs_sound : (ws : List Word) → IsDocs ws (docs_at ws).0 (docs_at ws).1
-docs_sound [] = no_docs
-docs_sound (w ∷ ws) = docs_from_sound w ws (as_outer_doc w) refl (docs_sound ws)
-
-pub docs_no_longer : {ws rest : List Word} {docs : List Attribute} → IsDocs ws docs rest → length rest ≤ length ws
-docs_no_longer no_docs = omega arith
-docs_no_longer (more_docs e r) = omega (arith, docs_no_longer r)
-
--- no doc comment stands first
-abbrev pub NoDoc : List Word → Type 0
-NoDoc ws = docs_at ws ≡ ([], ws)
-
-pub no_doc_first : (w : Word) (ws : List Word) → as_outer_doc w ≡ None → NoDoc (w ∷ ws)
-no_doc_first w ws e = ap (λ o. docs_from o (w ∷ ws) (docs_at ws)) e
-
-pub docs_complete : {ws us : List Word} {docs : List Attribute} → IsDocs ws docs us → NoDoc us → docs_at ws ≡ (docs, us)
-docs_complete no_docs n = n
-docs_complete (more_docs {w = w} {a = a} {ws = ws} e r) n = ap (λ o. docs_from o (w ∷ ws) (docs_at ws)) e ∙ ap (λ (p : List Attribute × List Word). (a ∷ p.0, p.1)) (docs_complete r n)
+-- no attribute stands first
+abbrev pub NoAttribute : List Word → Type 0
+NoAttribute ws = begin_attributes ws ≡ false
 
 -- ---- visibilities
 pub scope-is : (w : Word) → is_scope w ≡ true → (inside : Trees) × (s : Span) × (w ≡ group Round inside s) × (is_restriction (words_of inside) ≡ true)
@@ -92,10 +62,10 @@ visibility_no_longer private = omega arith
 visibility_no_longer public = omega arith
 visibility_no_longer (restricted e) = omega arith
 
-pub visibility_no_doc : {ws rest : List Word} → IsVisibility ws rest → NoDoc rest → NoDoc ws
-visibility_no_doc private n = n
-visibility_no_doc public n = refl
-visibility_no_doc (restricted e) n = refl
+pub visibility_no_attribute : {ws rest : List Word} → IsVisibility ws rest → NoAttribute rest → NoAttribute ws
+visibility_no_attribute private n = n
+visibility_no_attribute public n = refl
+visibility_no_attribute (restricted e) n = refl
 
 -- `pub` does not stand first
 pub pub_left : (in_tuple : Bool) (w : Word) (ws : List Word) → as_keyword Pub w ≡ None → after_visibility in_tuple (w ∷ ws) ≡ w ∷ ws
@@ -125,12 +95,12 @@ not_inner : (mark : List ℕ) → (bytes_eq mark (codes "///") ≡ true) ⊎ (by
 not_inner mark (inl e) = subst (λ v. (bytes_eq v (codes "//!") || bytes_eq v (codes "/*!")) ≡ false) (sym ((bytes_eq-Decides mark (codes "///")).0 e)) refl
 not_inner mark (inr e) = subst (λ v. (bytes_eq v (codes "//!") || bytes_eq v (codes "/*!")) ≡ false) (sym ((bytes_eq-Decides mark (codes "/**")).0 e)) refl
 
-outer_begins : (a b : Bool) (x y : List ℕ) (s : Span) (z : Attribute) → option_map (doc_attribute s) (cond a (Some x) (cond b (Some y) None)) ≡ Some z → (a ≡ true) ⊎ (b ≡ true)
+outer_begins : (a b : Bool) (x y : List ℕ) (s : Span) (z : AttributeItem) → option_map (doc_attribute s) (cond a (Some x) (cond b (Some y) None)) ≡ Some z → (a ≡ true) ⊎ (b ≡ true)
 outer_begins true b x y s z e = inl refl
 outer_begins false true x y s z e = inr refl
 outer_begins false false x y s z e = cc
 
-doc_no_inner : (w : Word) (ws : List Word) (a : Attribute) → as_outer_doc w ≡ Some a → NoInner (w ∷ ws)
+doc_no_inner : (w : Word) (ws : List Word) (a : AttributeItem) → as_outer_doc w ≡ Some a → NoInner (w ∷ ws)
 doc_no_inner (name x) ws a e = cc
 doc_no_inner (underscore x) ws a e = cc
 doc_no_inner (keyword k x) ws a e = cc
@@ -143,9 +113,13 @@ doc_no_inner (doc t) ws a e =
     ap (λ b. cond b (Ok ws) (Err wrong)) is
 doc_no_inner (group b ts s) ws a e = cc
 
-pub docs_no_inner : {ws us : List Word} {docs : List Attribute} → IsDocs ws docs us → NoInner us → NoInner ws
-docs_no_inner no_docs n = n
-docs_no_inner (more_docs {w = w} {a = a} {ws = ws} e r) n = doc_no_inner w ws a e
+attribute_no_inner : {ws rest : List Word} {xs : List AttributeItem} → IsAttribute ws xs rest → NoInner ws
+attribute_no_inner (outer_doc {w = w} {a = a} {rest = rest} e) = doc_no_inner w rest a e
+attribute_no_inner (in_brackets p m f) = refl
+
+pub attributes_no_inner : {ws us : List Word} {xs : List AttributeItem} → IsAttributes ws xs us → NoInner us → NoInner ws
+attributes_no_inner no_attributes n = n
+attributes_no_inner (more_attributes a r) n = attribute_no_inner a
 
 pub visibility_no_inner : {us vs : List Word} → IsVisibility us vs → NoInner vs → NoInner us
 visibility_no_inner private n = n

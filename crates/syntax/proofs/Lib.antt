@@ -1,9 +1,5 @@
-mod Margins
 mod Turns
-mod Read
-mod Stands
 mod Inner
-mod Many
 mod Types
 mod Fronts
 mod Sound

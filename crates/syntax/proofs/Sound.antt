@@ -11,72 +11,29 @@ use Rattle.words.specs.declared.vocabulary.Sign.TheVariants.{Colon, Comma, Semic
 use Rattle.words.specs.Words.{Word, name, underscore, keyword, sign, lifetime, literal, doc, group, words_of}
 use Rattle.words.specs.Reading.{Fault, Read, ◌>>=◌, as_sign, name_at, keyword_at, sign_at, group_at}
 use Rattle.type_grammar.specs.Grammar.{IsType}
-use Rattle.syntax.specs.declared.item.Attribute.{Attribute}
+use Rattle.lists.specs.Lists.{many_at, many_of, list_of}
+use Rattle.attributes.specs.Attributes.{AttributeItem}
+use Rattle.attributes.specs.AttributeWords.{is_inner_doc}
+use Rattle.attributes.specs.AttributeGrammar.{IsAttributes}
+use Rattle.attributes.specs.AttributeReading.{attributes_at}
+use Rattle.attributes.proofs.Whole.{attributes_sound, attributes_no_longer}
 use Rattle.syntax.specs.Items.{FieldItem, FieldItems, named, unnamed, unit, DeclaredItem}
-use Rattle.syntax.specs.ItemWords.{is_inner_doc, after_semicolon}
-use Rattle.syntax.specs.ItemGrammar.{IsDocs, IsVisibility, IsNamedField, named_field, IsUnnamedField, unnamed_field, IsList, no_items, last_item, more_items, IsFields, named_fields, unnamed_fields, no_fields, IsUse, use_line, IsStruct, struct_item, IsItems, nothing, used, declared, IsSource, inner_doc, inner_attribute, items}
-use Rattle.syntax.specs.ItemReading.{docs_at, after_visibility, field_of, named_field_at, unnamed_field_at, after_comma, turn_at, many_at, many_of, itself, list_of, fields_in, fields_at, declared_of, struct_at, left_by, use_or_struct, item_at, kept, after_inner_attribute, inner_at, inner_from, after_inner_within, after_inner, source_at}
-use Rattle.syntax.proofs.Read.{bind_ok, ok_is, along}
-use Rattle.syntax.proofs.Stands.{name-is, keyword-is, sign-is, group-is}
-use Rattle.syntax.proofs.Fronts.{docs_sound, docs_no_longer, visibility_sound, visibility_no_longer}
+use Rattle.syntax.specs.ItemWords.{after_semicolon}
+use Rattle.syntax.specs.ItemGrammar.{IsVisibility, IsNamedField, named_field, IsUnnamedField, unnamed_field, IsFields, named_fields, unnamed_fields, no_fields, IsUse, use_line, IsStruct, struct_item, IsItems, nothing, used, declared, IsSource, inner_doc, inner_attribute, items}
+use Rattle.syntax.specs.ItemReading.{after_visibility, field_of, named_field_at, unnamed_field_at, fields_in, fields_at, declared_of, struct_at, left_by, use_or_struct, item_at, kept, after_inner_attribute, inner_at, inner_from, after_inner_within, after_inner, source_at}
+use Rattle.lists.proofs.Read.{bind_ok, ok_is, along}
+use Rattle.lists.proofs.Stands.{name-is, keyword-is, sign-is, group-is}
+use Rattle.syntax.proofs.Fronts.{visibility_sound, visibility_no_longer}
 use Rattle.syntax.proofs.Types.{type_shorter}
-use Rattle.syntax.proofs.Many.{Shortens}
-
--- ---- items of a list
-pub comma_read : (ws rest : List Word) → after_comma ws ≡ Ok rest → ((ws ≡ []) × (rest ≡ [])) ⊎ ((at : Span) × (ws ≡ sign Comma at ∷ rest))
-comma_read [] rest e = inl (refl, sym (ok_is e))
-comma_read (w ∷ ws) rest e =
-    let comma = bind_ok (sign_at Comma (w ∷ ws)) e in
-    let same : comma.0.1 ≡ rest = ok_is comma.2 in
-    inr (comma.0.0, sign-is Comma (w ∷ ws) comma.0 comma.1 ∙ ap (λ v. sign Comma comma.0.0 ∷ v) same)
-
-pub turn_sound : {A : Type 0} (item : List Word → Read A) (ws : List Word) (x : A) (rest : List Word) → turn_at item ws ≡ Ok (x, rest) → (mid : List Word) × (item ws ≡ Ok (x, mid)) × (after_comma mid ≡ Ok rest)
-unfolding turn_at
-turn_sound item ws x rest e =
-    let p = bind_ok (item ws) e in
-    let comma = bind_ok (after_comma p.0.1) p.2 in
-    along (λ v w. (mid : List Word) × (item ws ≡ Ok (v, mid)) × (after_comma mid ≡ Ok w)) (p.0.0, comma.0) (x, rest) comma.2 (p.0.1, p.1, comma.1)
-
-pub turn_shortens : {A : Type 0} (item : List Word → Read A) → Shortens item → Shortens (turn_at item)
-turn_shortens item shortens ws x rest e =
-    let h = turn_sound item ws x rest e in
-    let less = shortens ws x h.0 h.1 in
-    elim (comma_read h.0 rest h.2) [
-      | inl k ↦ let one = ap length k.0 in let other = ap length k.1 in omega arith
-      | inr k ↦ let fewer = ap length k.1 in omega arith
-    ]
-
-none_left : {A B : Type 0} (keep : A → List B) (item : List Word → Read A) (n : ℕ) (xs : List B) → many_at keep item n [] ≡ Ok xs → xs ≡ []
-unfolding many_at
-none_left keep item zero xs e = cc
-none_left keep item (suc n) xs e = sym (ok_is e)
-
-module _ {A : Type 0} (item : List Word → Read A) (IsItem : List Word → A → List Word → Type 0) (sound : (ws : List Word) (x : A) (rest : List Word) → item ws ≡ Ok (x, rest) → IsItem ws x rest) where
-  list_within : (n : ℕ) (ws : List Word) (xs : List A) → many_at itself (turn_at item) n ws ≡ Ok xs → IsList IsItem ws xs
-  unfolding many_at
-  list_within zero ws xs e = cc
-  list_within (suc n) [] xs e = subst (λ v. IsList IsItem [] v) (ok_is e) no_items
-  list_within (suc n) (w ∷ ws) xs e =
-      let first = bind_ok (turn_at item (w ∷ ws)) e in
-      let others = bind_ok (many_at itself (turn_at item) n first.0.1) first.2 in
-      let h = turn_sound item (w ∷ ws) first.0.0 first.0.1 first.1 in
-      subst (λ v. IsList IsItem (w ∷ ws) v) (ok_is others.2)
-      (elim (comma_read h.0 first.0.1 h.2) [
-        | inl k ↦ let nothing_left = none_left itself (turn_at item) n others.0 (ap (many_at itself (turn_at item) n) (sym k.1) ∙ others.1) in
-            subst (λ v. IsList IsItem (w ∷ ws) (first.0.0 ∷ v)) (sym nothing_left) (last_item (sound (w ∷ ws) first.0.0 [] (subst (λ v. item (w ∷ ws) ≡ Ok (first.0.0, v)) k.0 h.1)))
-        | inr k ↦ more_items (sound (w ∷ ws) first.0.0 _ (subst (λ v. item (w ∷ ws) ≡ Ok (first.0.0, v)) k.1 h.1)) (list_within n first.0.1 others.0 others.1)
-      ])
-
-  pub list_sound : (ws : List Word) (xs : List A) → list_of item ws ≡ Ok xs → IsList IsItem ws xs
-  unfolding many_of
-  list_sound ws xs e = list_within (suc (length ws)) ws xs e
+use Rattle.lists.proofs.Many.{Shortens}
+use Rattle.lists.proofs.Sound.{list_sound}
 
 -- ---- what an item is longer than
 pub named_shorter : {ws rest : List Word} {f : FieldItem} → IsNamedField ws f rest → length rest < length ws
-named_shorter (named_field d v r) = omega (arith, docs_no_longer d, visibility_no_longer v, type_shorter r)
+named_shorter (named_field d v r) = omega (arith, attributes_no_longer d, visibility_no_longer v, type_shorter r)
 
 pub unnamed_shorter : {ws rest : List Word} {f : FieldItem} → IsUnnamedField ws f rest → length rest < length ws
-unnamed_shorter (unnamed_field d v r) = omega (arith, docs_no_longer d, visibility_no_longer v, type_shorter r)
+unnamed_shorter (unnamed_field d v r) = omega (arith, attributes_no_longer d, visibility_no_longer v, type_shorter r)
 
 fields_shorter : {ws rest : List Word} {fs : FieldItems} → IsFields ws fs rest → length rest < length ws
 fields_shorter (named_fields r) = omega arith
@@ -92,10 +49,10 @@ semicolon_shorter [] rest e = cc
 semicolon_shorter (w ∷ ws) rest e = semicolon_from (is_some (as_sign Semicolon w)) ws rest (after_semicolon ws) (semicolon_shorter ws rest) e
 
 pub use_shorter : {ws rest : List Word} → IsUse ws rest → length rest < length ws
-use_shorter (use_line {vs = vs} {rest = rest} d v e) = omega (arith, docs_no_longer d, visibility_no_longer v, semicolon_shorter vs rest e)
+use_shorter (use_line {vs = vs} {rest = rest} d v e) = omega (arith, attributes_no_longer d, visibility_no_longer v, semicolon_shorter vs rest e)
 
 pub struct_shorter : {ws rest : List Word} {d : DeclaredItem} → IsStruct ws d rest → length rest < length ws
-struct_shorter (struct_item d v r) = omega (arith, docs_no_longer d, visibility_no_longer v, fields_shorter r)
+struct_shorter (struct_item d v r) = omega (arith, attributes_no_longer d, visibility_no_longer v, fields_shorter r)
 
 -- an item that is read
 abbrev pub ItemRead : List Word → Option DeclaredItem → List Word → Type 0
@@ -153,22 +110,22 @@ module _ (ty : List Word → Read Written) (sound : (ws : List Word) (t : Writte
   pub named_sound : (ws : List Word) (f : FieldItem) (rest : List Word) → named_field_at ty ws ≡ Ok (f, rest) → IsNamedField ws f rest
   unfolding named_field_at
   named_sound ws f rest e =
-      let d = docs_at ws in
-      let us = after_visibility false d.1 in
-      let x = bind_ok (name_at us) e in
+      let d = bind_ok (attributes_at ws) e in
+      let us = after_visibility false d.0.1 in
+      let x = bind_ok (name_at us) d.2 in
       let c = bind_ok (sign_at Colon x.0.1) x.2 in
       let t = bind_ok (ty c.0.1) c.2 in
       let is : us ≡ name x.0.0 ∷ sign Colon c.0.0 ∷ c.0.1 = name-is us x.0 x.1 ∙ ap (λ v. name x.0.0 ∷ v) (sign-is Colon x.0.1 c.0 c.1) in
-      along (λ v w. IsNamedField ws v w) (field_of d.0 (Some x.0.0) d.1 t.0) (f, rest) t.2
-      (named_field (docs_sound ws) (subst (λ v. IsVisibility d.1 v) is (visibility_sound false d.1)) (sound c.0.1 t.0.0 t.0.1 t.1))
+      along (λ v w. IsNamedField ws v w) (field_of d.0.0 (Some x.0.0) d.0.1 t.0) (f, rest) t.2
+      (named_field (attributes_sound ws d.0.0 d.0.1 d.1) (subst (λ v. IsVisibility d.0.1 v) is (visibility_sound false d.0.1)) (sound c.0.1 t.0.0 t.0.1 t.1))
 
   pub unnamed_sound : (ws : List Word) (f : FieldItem) (rest : List Word) → unnamed_field_at ty ws ≡ Ok (f, rest) → IsUnnamedField ws f rest
   unfolding unnamed_field_at
   unnamed_sound ws f rest e =
-      let d = docs_at ws in
-      let us = after_visibility true d.1 in
-      let t = bind_ok (ty us) e in
-      along (λ v w. IsUnnamedField ws v w) (field_of d.0 None d.1 t.0) (f, rest) t.2 (unnamed_field (docs_sound ws) (visibility_sound true d.1) (sound us t.0.0 t.0.1 t.1))
+      let d = bind_ok (attributes_at ws) e in
+      let us = after_visibility true d.0.1 in
+      let t = bind_ok (ty us) d.2 in
+      along (λ v w. IsUnnamedField ws v w) (field_of d.0.0 None d.0.1 t.0) (f, rest) t.2 (unnamed_field (attributes_sound ws d.0.0 d.0.1 d.1) (visibility_sound true d.0.1) (sound us t.0.0 t.0.1 t.1))
 
   pub named_shortens : Shortens (named_field_at ty)
   named_shortens ws f rest e = named_shorter (named_sound ws f rest e)
@@ -205,34 +162,34 @@ module _ (ty : List Word → Read Written) (sound : (ws : List Word) (t : Writte
   fields_sound (doc t ∷ ws) fs rest e = unit_sound (doc t ∷ ws) fs rest e
   fields_sound (group b inside s ∷ ws) fs rest e = fields_in_sound b inside s ws fs rest e
 
-  struct_sound : (ws us : List Word) (docs : List Attribute) (start : List Word) (d : DeclaredItem) (rest : List Word) → IsDocs ws docs start → IsVisibility start us → struct_at ty docs start us ≡ Ok (d, rest) → IsStruct ws d rest
+  struct_sound : (ws us : List Word) (attrs : List AttributeItem) (start : List Word) (d : DeclaredItem) (rest : List Word) → IsAttributes ws attrs start → IsVisibility start us → struct_at ty attrs start us ≡ Ok (d, rest) → IsStruct ws d rest
   unfolding struct_at
-  struct_sound ws us docs start d rest ds v e =
+  struct_sound ws us attrs start d rest ds v e =
       let k = bind_ok (keyword_at Struct us) e in
       let x = bind_ok (name_at k.0.1) k.2 in
       let fs = bind_ok (fields_at ty x.0.1) x.2 in
       let word = keyword-is Struct us k.0 k.1 in
       let is : us ≡ keyword Struct word.0 ∷ name x.0.0 ∷ x.0.1 = word.1 ∙ ap (λ v. keyword Struct word.0 ∷ v) (name-is k.0.1 x.0 x.1) in
-      along (λ v w. IsStruct ws v w) (declared_of docs x.0.0 start fs.0) (d, rest) fs.2 (struct_item ds (subst (λ v. IsVisibility start v) is v) (fields_sound x.0.1 fs.0.0 fs.0.1 fs.1))
+      along (λ v w. IsStruct ws v w) (declared_of attrs x.0.0 start fs.0) (d, rest) fs.2 (struct_item ds (subst (λ v. IsVisibility start v) is v) (fields_sound x.0.1 fs.0.0 fs.0.1 fs.1))
 
-  left_sound : (ws start us vs : List Word) (docs : List Attribute) (x : Ident) (o : Option DeclaredItem) (rest : List Word) (r : Option (List Word)) → after_semicolon vs ≡ r → IsDocs ws docs start → IsVisibility start (keyword Use x ∷ vs)
+  left_sound : (ws start us vs : List Word) (attrs : List AttributeItem) (x : Ident) (o : Option DeclaredItem) (rest : List Word) (r : Option (List Word)) → after_semicolon vs ≡ r → IsAttributes ws attrs start → IsVisibility start (keyword Use x ∷ vs)
       → left_by r ≡ Ok (o, rest) → ItemRead ws o rest
-  left_sound ws start us vs docs x o rest None is ds v e = cc
-  left_sound ws start us vs docs x o rest (Some after) is ds v e = along (λ v w. ItemRead ws v w) (None, after) (o, rest) e (use_line ds v is)
+  left_sound ws start us vs attrs x o rest None is ds v e = cc
+  left_sound ws start us vs attrs x o rest (Some after) is ds v e = along (λ v w. ItemRead ws v w) (None, after) (o, rest) e (use_line ds v is)
 
-  item_from_sound : (ws start us : List Word) (docs : List Attribute) (o : Option DeclaredItem) (rest : List Word) (r : Read Span) → keyword_at Use us ≡ r → IsDocs ws docs start → IsVisibility start us
-      → use_or_struct ty docs start us r ≡ Ok (o, rest) → ItemRead ws o rest
-  item_from_sound ws start us docs o rest (Ok u) is ds v e =
-      let word = keyword-is Use us u is in left_sound ws start us u.1 docs word.0 o rest (after_semicolon u.1) refl ds (subst (λ w. IsVisibility start w) word.1 v) e
-  item_from_sound ws start us docs o rest (Err f) is ds v e =
-      let d = bind_ok (struct_at ty docs start us) e in along (λ v w. ItemRead ws v w) (Some d.0.0, d.0.1) (o, rest) d.2 (struct_sound ws us docs start d.0.0 d.0.1 ds v d.1)
+  item_from_sound : (ws start us : List Word) (attrs : List AttributeItem) (o : Option DeclaredItem) (rest : List Word) (r : Read Span) → keyword_at Use us ≡ r → IsAttributes ws attrs start → IsVisibility start us
+      → use_or_struct ty attrs start us r ≡ Ok (o, rest) → ItemRead ws o rest
+  item_from_sound ws start us attrs o rest (Ok u) is ds v e =
+      let word = keyword-is Use us u is in left_sound ws start us u.1 attrs word.0 o rest (after_semicolon u.1) refl ds (subst (λ w. IsVisibility start w) word.1 v) e
+  item_from_sound ws start us attrs o rest (Err f) is ds v e =
+      let d = bind_ok (struct_at ty attrs start us) e in along (λ v w. ItemRead ws v w) (Some d.0.0, d.0.1) (o, rest) d.2 (struct_sound ws us attrs start d.0.0 d.0.1 ds v d.1)
 
   pub item_sound : (ws : List Word) (o : Option DeclaredItem) (rest : List Word) → item_at ty ws ≡ Ok (o, rest) → ItemRead ws o rest
   unfolding item_at
   item_sound ws o rest e =
-      let d = docs_at ws in
-      let us = after_visibility false d.1 in
-      item_from_sound ws d.1 us d.0 o rest (keyword_at Use us) refl (docs_sound ws) (visibility_sound false d.1) e
+      let d = bind_ok (attributes_at ws) e in
+      let us = after_visibility false d.0.1 in
+      item_from_sound ws d.0.1 us d.0.0 o rest (keyword_at Use us) refl (attributes_sound ws d.0.0 d.0.1 d.1) (visibility_sound false d.0.1) d.2
 
   pub item_shortens : Shortens (item_at ty)
   item_shortens ws o rest e = item_shorter ws o rest (item_sound ws o rest e)

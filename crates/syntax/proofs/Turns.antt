@@ -1,20 +1,10 @@
--- Readers of items by the branches of their code.
-use Rattle.std.proofs.Common.{◌≡◌, ◌∙◌, ◌<◌, ◌-◌, ℕ, zero, suc, List, [], ◌∷◌, length, refl, ap, ap₂, sym, arith, get_or, Ok}
+-- What items span, over the trees.
+use Rattle.std.proofs.Common.{◌≡◌, ◌∙◌, ◌<◌, ◌-◌, ℕ, zero, suc, List, [], ◌∷◌, length, refl, ap, ap₂, sym, arith, get_or}
 use Rattle.tokens.specs.declared.token.TokenTree.{TokenTree}
 use Rattle.tokens.specs.Trees.{tree_view}
-use Rattle.words.specs.declared.vocabulary.Sign.TheVariants.{Comma}
 use Rattle.words.specs.Words.{Word, words_view, word_of, cover}
-use Rattle.words.specs.Reading.{◌>>=◌, sign_at}
+use Rattle.lists.proofs.Turns.{length_view}
 use Rattle.syntax.specs.ItemWords.{span_of, spanning}
-use Rattle.syntax.specs.ItemReading.{after_comma}
-
-pub comma_follows : (ts : List TokenTree) → 0 < length ts → after_comma (words_view ts) ≡ (sign_at Comma (words_view ts) >>= λ p. Ok p.1)
-comma_follows [] h = absurd (omega arith)
-comma_follows (t ∷ ts) h = refl
-
-pub length_view : (ts : List TokenTree) → length (words_view ts) ≡ length ts
-length_view [] = refl
-length_view (t ∷ ts) = ap suc (length_view ts)
 
 word_at : (ts : List TokenTree) (i : ℕ) (d : TokenTree) (w : Word) → i < length ts → get_or (words_view ts) i w ≡ word_of (tree_view (get_or ts i d))
 word_at [] i d w h = absurd (omega arith)

@@ -9,20 +9,21 @@ use Rattle.words.specs.declared.vocabulary.Keyword.TheVariants.{Struct}
 use Rattle.words.specs.declared.vocabulary.Sign.TheVariants.{Colon, Comma, Hash, Exclamation}
 use Rattle.words.specs.Words.{Word, name, keyword, sign, doc, group, words_of}
 use Rattle.type_grammar.specs.Opening.{OpensType}
-use Rattle.syntax.specs.declared.item.Attribute.{Attribute}
+use Rattle.attributes.specs.Attributes.{AttributeItem}
+use Rattle.attributes.specs.AttributeWords.{is_inner_text}
+use Rattle.attributes.specs.AttributeGrammar.{IsAttributes}
 use Rattle.syntax.specs.Items.{DeclaredItem}
-use Rattle.syntax.specs.ItemWords.{is_inner_text}
-use Rattle.syntax.specs.ItemGrammar.{IsDocs, IsVisibility, IsNamedField, IsUnnamedField, IsUse, IsStruct}
+use Rattle.syntax.specs.ItemGrammar.{IsVisibility, IsNamedField, IsUnnamedField, IsUse, IsStruct}
 
 abbrev pub most_levels : ℕ
 most_levels = 64
 
 -- in a field's type
 pub data OpensNamed : List Word → Span → Type 0 where
-  in_named : {x : Ident} {s at : Span} {docs : List Attribute} {ws us vs : List Word} → IsDocs ws docs us → IsVisibility us (name x ∷ sign Colon s ∷ vs) → OpensType most_levels vs at → OpensNamed ws at
+  in_named : {x : Ident} {s at : Span} {attrs : List AttributeItem} {ws us vs : List Word} → IsAttributes ws attrs us → IsVisibility us (name x ∷ sign Colon s ∷ vs) → OpensType most_levels vs at → OpensNamed ws at
 
 pub data OpensUnnamed : List Word → Span → Type 0 where
-  in_unnamed : {at : Span} {docs : List Attribute} {ws us vs : List Word} → IsDocs ws docs us → IsVisibility us vs → OpensType most_levels vs at → OpensUnnamed ws at
+  in_unnamed : {at : Span} {attrs : List AttributeItem} {ws us vs : List Word} → IsAttributes ws attrs us → IsVisibility us vs → OpensType most_levels vs at → OpensUnnamed ws at
 
 -- in a list: in its first item, or in those behind it
 pub data OpensList {A : Type 0} (IsItem : List Word → A → List Word → Type 0) (Opens : List Word → Span → Type 0) : List Word → Span → Type 0 where
@@ -36,7 +37,7 @@ pub data OpensFields : List Word → Span → Type 0 where
 
 -- in items
 pub data OpensItems : List Word → Span → Type 0 where
-  in_struct : {x y : Ident} {at : Span} {docs : List Attribute} {ws us vs : List Word} → IsDocs ws docs us → IsVisibility us (keyword Struct x ∷ name y ∷ vs) → OpensFields vs at → OpensItems ws at
+  in_struct : {x y : Ident} {at : Span} {attrs : List AttributeItem} {ws us vs : List Word} → IsAttributes ws attrs us → IsVisibility us (keyword Struct x ∷ name y ∷ vs) → OpensFields vs at → OpensItems ws at
   behind_use : {at : Span} {ws rest : List Word} → IsUse ws rest → OpensItems rest at → OpensItems ws at
   behind_struct : {at : Span} {ws rest : List Word} {d : DeclaredItem} → IsStruct ws d rest → OpensItems rest at → OpensItems ws at
 

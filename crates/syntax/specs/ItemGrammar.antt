@@ -7,17 +7,15 @@ use Rattle.tokens.specs.Trees.{Trees}
 use Rattle.written_types.specs.declared.written.Ident.{Ident}
 use Rattle.written_types.specs.Written.{Written}
 use Rattle.words.specs.declared.vocabulary.Keyword.TheVariants.{Pub, Struct, Use}
-use Rattle.words.specs.declared.vocabulary.Sign.TheVariants.{Colon, Comma, Semicolon, Hash, Exclamation}
+use Rattle.words.specs.declared.vocabulary.Sign.TheVariants.{Colon, Semicolon, Hash, Exclamation}
 use Rattle.words.specs.Words.{Word, name, keyword, sign, doc, group, words_of}
 use Rattle.type_grammar.specs.Grammar.{IsType}
-use Rattle.syntax.specs.declared.item.Attribute.{Attribute}
+use Rattle.lists.specs.Lists.{IsList}
+use Rattle.attributes.specs.Attributes.{AttributeItem}
+use Rattle.attributes.specs.AttributeWords.{is_inner_text}
+use Rattle.attributes.specs.AttributeGrammar.{IsAttributes}
 use Rattle.syntax.specs.Items.{FieldItem, FieldItems, named, unnamed, unit, struct_body, DeclaredItem}
-use Rattle.syntax.specs.ItemWords.{as_outer_doc, is_inner_text, after_semicolon, is_restriction, spanning}
-
--- outer-doc*
-pub data IsDocs : List Word → List Attribute → List Word → Type 0 where
-  no_docs : {rest : List Word} → IsDocs rest [] rest
-  more_docs : {w : Word} {a : Attribute} {ws rest : List Word} {docs : List Attribute} → as_outer_doc w ≡ Some a → IsDocs ws docs rest → IsDocs (w ∷ ws) (a ∷ docs) rest
+use Rattle.syntax.specs.ItemWords.{after_semicolon, is_restriction, spanning}
 
 -- vis? = ("pub" ( "(" ("crate" | "self" | "super") ")" | "(" "in" any* ")" )?)?
 pub data IsVisibility : List Word → List Word → Type 0 where
@@ -25,21 +23,15 @@ pub data IsVisibility : List Word → List Word → Type 0 where
   public : {x : Ident} {rest : List Word} → IsVisibility (keyword Pub x ∷ rest) rest
   restricted : {x : Ident} {inside : Trees} {s : Span} {rest : List Word} → is_restriction (words_of inside) ≡ true → IsVisibility (keyword Pub x ∷ group Round inside s ∷ rest) rest
 
--- outer-doc* vis? name ":" type
+-- attribute* vis? name ":" type
 pub data IsNamedField : List Word → FieldItem → List Word → Type 0 where
-  named_field : {x : Ident} {s : Span} {t : Written} {docs : List Attribute} {ws us vs rest : List Word} → IsDocs ws docs us → IsVisibility us (name x ∷ sign Colon s ∷ vs) → IsType vs t rest
-      → IsNamedField ws (record { attrs = docs; ident = Some x; ty = t; span = spanning us rest }) rest
+  named_field : {x : Ident} {s : Span} {t : Written} {attrs : List AttributeItem} {ws us vs rest : List Word} → IsAttributes ws attrs us → IsVisibility us (name x ∷ sign Colon s ∷ vs) → IsType vs t rest
+      → IsNamedField ws (record { attrs = attrs; ident = Some x; ty = t; span = spanning us rest }) rest
 
--- outer-doc* vis? type
+-- attribute* vis? type
 pub data IsUnnamedField : List Word → FieldItem → List Word → Type 0 where
-  unnamed_field : {t : Written} {docs : List Attribute} {ws us vs rest : List Word} → IsDocs ws docs us → IsVisibility us vs → IsType vs t rest
-      → IsUnnamedField ws (record { attrs = docs; ident = None; ty = t; span = spanning us rest }) rest
-
--- list of x: all of the words, separated by commas, a last comma allowed, perhaps empty
-pub data IsList {A : Type 0} (IsItem : List Word → A → List Word → Type 0) : List Word → List A → Type 0 where
-  no_items : IsList IsItem [] []
-  last_item : {ws : List Word} {x : A} → IsItem ws x [] → IsList IsItem ws (x ∷ [])
-  more_items : {s : Span} {ws mid : List Word} {x : A} {xs : List A} → IsItem ws x (sign Comma s ∷ mid) → IsList IsItem mid xs → IsList IsItem ws (x ∷ xs)
+  unnamed_field : {t : Written} {attrs : List AttributeItem} {ws us vs rest : List Word} → IsAttributes ws attrs us → IsVisibility us vs → IsType vs t rest
+      → IsUnnamedField ws (record { attrs = attrs; ident = None; ty = t; span = spanning us rest }) rest
 
 -- what follows the name of a struct: "{" list of named "}" | "(" list of unnamed ")" ";" | ";"
 pub data IsFields : List Word → FieldItems → List Word → Type 0 where
@@ -48,14 +40,14 @@ pub data IsFields : List Word → FieldItems → List Word → Type 0 where
       → IsFields (group Round inside s ∷ sign Semicolon end ∷ rest) (unnamed fs) rest
   no_fields : {end : Span} {rest : List Word} → IsFields (sign Semicolon end ∷ rest) unit rest
 
--- outer-doc* vis? "use" any* ";"
+-- attribute* vis? "use" any* ";"
 pub data IsUse : List Word → List Word → Type 0 where
-  use_line : {x : Ident} {docs : List Attribute} {ws us vs rest : List Word} → IsDocs ws docs us → IsVisibility us (keyword Use x ∷ vs) → after_semicolon vs ≡ Some rest → IsUse ws rest
+  use_line : {x : Ident} {attrs : List AttributeItem} {ws us vs rest : List Word} → IsAttributes ws attrs us → IsVisibility us (keyword Use x ∷ vs) → after_semicolon vs ≡ Some rest → IsUse ws rest
 
--- outer-doc* vis? "struct" name and the fields
+-- attribute* vis? "struct" name and the fields
 pub data IsStruct : List Word → DeclaredItem → List Word → Type 0 where
-  struct_item : {x y : Ident} {docs : List Attribute} {ws us vs rest : List Word} {fs : FieldItems} → IsDocs ws docs us → IsVisibility us (keyword Struct x ∷ name y ∷ vs) → IsFields vs fs rest
-      → IsStruct ws (record { attrs = docs; ident = y; body = struct_body fs; span = spanning us rest }) rest
+  struct_item : {x y : Ident} {attrs : List AttributeItem} {ws us vs rest : List Word} {fs : FieldItems} → IsAttributes ws attrs us → IsVisibility us (keyword Struct x ∷ name y ∷ vs) → IsFields vs fs rest
+      → IsStruct ws (record { attrs = attrs; ident = y; body = struct_body fs; span = spanning us rest }) rest
 
 -- item*, where a `use` line leaves nothing
 pub data IsItems : List Word → List DeclaredItem → Type 0 where

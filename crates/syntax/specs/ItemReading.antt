@@ -15,18 +15,12 @@ use Rattle.words.specs.declared.stopping.Stop.{Stop}
 use Rattle.words.specs.declared.stopping.Stop.TheVariants as stop
 use Rattle.words.specs.Words.{Word, group, words_of}
 use Rattle.words.specs.Reading.{Fault, wrong, Read, ◌>>=◌, as_sign, name_at, keyword_at, sign_at, group_at}
-use Rattle.syntax.specs.declared.item.Attribute.{Attribute}
+use Rattle.lists.specs.Lists.{many_of, list_of}
+use Rattle.attributes.specs.Attributes.{AttributeItem}
+use Rattle.attributes.specs.AttributeWords.{is_inner_doc}
+use Rattle.attributes.specs.AttributeReading.{attributes_at}
 use Rattle.syntax.specs.Items.{FieldItem, FieldItems, named, unnamed, unit, struct_body, DeclaredItem}
-use Rattle.syntax.specs.ItemWords.{as_outer_doc, is_inner_doc, after_semicolon, is_restriction, spanning}
-
--- outer-doc*, and what follows
-abbrev pub docs_from : Option Attribute → List Word → List Attribute × List Word → List Attribute × List Word
-docs_from None ws others = ([], ws)
-docs_from (Some a) ws others = (a ∷ others.0, others.1)
-
-abbrev pub docs_at : List Word → List Attribute × List Word
-docs_at [] = ([], [])
-docs_at (w ∷ ws) = docs_from (as_outer_doc w) (w ∷ ws) (docs_at ws)
+use Rattle.syntax.specs.ItemWords.{after_semicolon, is_restriction, spanning}
 
 -- what follows vis?; behind `pub`, where an unnamed field may end, a group is its type
 abbrev pub is_scope : Word → Bool
@@ -48,41 +42,14 @@ after_pub in_tuple ws (Err e) = ws
 unfoldable pub after_visibility : Bool → List Word → List Word
 after_visibility in_tuple ws = after_pub in_tuple ws (keyword_at Pub ws)
 
-abbrev pub field_of : List Attribute → Option Ident → List Word → Written × List Word → FieldItem × List Word
-field_of docs x start t = (record { attrs = docs; ident = x; ty = t.0; span = spanning start t.1 }, t.1)
+abbrev pub field_of : List AttributeItem → Option Ident → List Word → Written × List Word → FieldItem × List Word
+field_of attrs x start t = (record { attrs = attrs; ident = x; ty = t.0; span = spanning start t.1 }, t.1)
 
 unfoldable pub named_field_at : (List Word → Read Written) → List Word → Read FieldItem
-named_field_at ty ws =
-    let d = docs_at ws in
-    name_at (after_visibility false d.1) >>= λ x. sign_at Colon x.1 >>= λ c. ty c.1 >>= λ t. Ok (field_of d.0 (Some x.0) d.1 t)
+named_field_at ty ws = attributes_at ws >>= λ d. name_at (after_visibility false d.1) >>= λ x. sign_at Colon x.1 >>= λ c. ty c.1 >>= λ t. Ok (field_of d.0 (Some x.0) d.1 t)
 
 unfoldable pub unnamed_field_at : (List Word → Read Written) → List Word → Read FieldItem
-unnamed_field_at ty ws = let d = docs_at ws in ty (after_visibility true d.1) >>= λ t. Ok (field_of d.0 None d.1 t)
-
--- what follows a comma, or nothing where nothing is left
-abbrev pub after_comma : List Word → Result (List Word) Fault
-after_comma [] = Ok []
-after_comma (w ∷ ws) = sign_at Comma (w ∷ ws) >>= λ p. Ok p.1
-
--- an item, and the comma behind it
-unfoldable pub turn_at : {A : Type 0} → (List Word → Read A) → List Word → Read A
-turn_at item ws = item ws >>= λ p. after_comma p.1 >>= λ rest. Ok (p.0, rest)
-
--- what is kept of each item, up to the end of the words, with a bound on the number of items
-unfoldable pub many_at : {A B : Type 0} → (A → List B) → (List Word → Read A) → ℕ → List Word → Result (List B) Fault
-many_at keep item zero ws = Err wrong
-many_at keep item (suc n) [] = Ok []
-many_at keep item (suc n) (w ∷ ws) = item (w ∷ ws) >>= λ p. many_at keep item n p.1 >>= λ xs. Ok (keep p.0 ++ xs)
-
-unfoldable pub many_of : {A B : Type 0} → (A → List B) → (List Word → Read A) → List Word → Result (List B) Fault
-many_of keep item ws = many_at keep item (suc (length ws)) ws
-
-abbrev pub itself : {A : Type 0} → A → List A
-itself x = x ∷ []
-
--- all of the words, as a list of items
-abbrev pub list_of : {A : Type 0} → (List Word → Read A) → List Word → Result (List A) Fault
-list_of item ws = many_of itself (turn_at item) ws
+unnamed_field_at ty ws = attributes_at ws >>= λ d. ty (after_visibility true d.1) >>= λ t. Ok (field_of d.0 None d.1 t)
 
 -- what follows the name of a struct
 abbrev pub fields_in : (List Word → Read Written) → Bracket → List Word → List Word → Read FieldItems
@@ -95,27 +62,27 @@ fields_at ty [] = Err wrong
 fields_at ty (group b inside s ∷ ws) = fields_in ty b (words_of inside) ws
 fields_at ty (w ∷ ws) = sign_at Semicolon (w ∷ ws) >>= λ end. Ok (unit, end.1)
 
-abbrev pub declared_of : List Attribute → Ident → List Word → FieldItems × List Word → DeclaredItem × List Word
-declared_of docs x start fs = (record { attrs = docs; ident = x; body = struct_body fs.0; span = spanning start fs.1 }, fs.1)
+abbrev pub declared_of : List AttributeItem → Ident → List Word → FieldItems × List Word → DeclaredItem × List Word
+declared_of attrs x start fs = (record { attrs = attrs; ident = x; body = struct_body fs.0; span = spanning start fs.1 }, fs.1)
 
--- a struct whose docs and visibility were read
-unfoldable pub struct_at : (List Word → Read Written) → List Attribute → List Word → List Word → Read DeclaredItem
-struct_at ty docs start ws = keyword_at Struct ws >>= λ s. name_at s.1 >>= λ x. fields_at ty x.1 >>= λ fs. Ok (declared_of docs x.0 start fs)
+-- a struct whose attributes and visibility were read
+unfoldable pub struct_at : (List Word → Read Written) → List AttributeItem → List Word → List Word → Read DeclaredItem
+struct_at ty attrs start ws = keyword_at Struct ws >>= λ s. name_at s.1 >>= λ x. fields_at ty x.1 >>= λ fs. Ok (declared_of attrs x.0 start fs)
 
 abbrev pub left_by : Option (List Word) → Read (Option DeclaredItem)
 left_by None = Err wrong
 left_by (Some rest) = Ok (None, rest)
 
 -- a `use` line, of which nothing is kept, or a struct
-abbrev pub use_or_struct : (List Word → Read Written) → List Attribute → List Word → List Word → Read Span → Read (Option DeclaredItem)
-use_or_struct ty docs start ws (Ok u) = left_by (after_semicolon u.1)
-use_or_struct ty docs start ws (Err e) = struct_at ty docs start ws >>= λ d. Ok (Some d.0, d.1)
+abbrev pub use_or_struct : (List Word → Read Written) → List AttributeItem → List Word → List Word → Read Span → Read (Option DeclaredItem)
+use_or_struct ty attrs start ws (Ok u) = left_by (after_semicolon u.1)
+use_or_struct ty attrs start ws (Err e) = struct_at ty attrs start ws >>= λ d. Ok (Some d.0, d.1)
+
+abbrev pub use_or_struct_in : (List Word → Read Written) → List AttributeItem → List Word → List Word → Read (Option DeclaredItem)
+use_or_struct_in ty attrs start us = use_or_struct ty attrs start us (keyword_at Use us)
 
 unfoldable pub item_at : (List Word → Read Written) → List Word → Read (Option DeclaredItem)
-item_at ty ws =
-    let d = docs_at ws in
-    let us = after_visibility false d.1 in
-    use_or_struct ty d.0 d.1 us (keyword_at Use us)
+item_at ty ws = attributes_at ws >>= λ d. use_or_struct_in ty d.0 d.1 (after_visibility false d.1)
 
 abbrev pub kept : Option DeclaredItem → List DeclaredItem
 kept None = []
@@ -146,10 +113,6 @@ items_at ty ws = many_of kept (item_at ty) ws
 
 unfoldable pub source_at : (List Word → Read Written) → List Word → Result (List DeclaredItem) Fault
 source_at ty ws = items_at ty (after_inner ws)
-
--- r with more at its front
-abbrev pub with_front : {A : Type 0} → List A → Result (List A) Fault → Result (List A) Fault
-with_front front r = r >>= λ xs. Ok (front ++ xs)
 
 -- an error of the kind at a span of a text with so many bytes
 abbrev pub IsPlaced : ℕ → DeriveError → Type 0

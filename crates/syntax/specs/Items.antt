@@ -3,7 +3,7 @@ use Rattle.std.specs.Prelude.{List, Option, map}
 use Rattle.diag.specs.declared.span.Span.{Span}
 use Rattle.written_types.specs.declared.written.Ident.{Ident}
 use Rattle.written_types.specs.Written.{Written, written_view}
-use Rattle.syntax.specs.declared.item.Attribute.{Attribute}
+use Rattle.attributes.specs.Attributes.{AttributeItem, attribute_view}
 use Rattle.syntax.specs.declared.item.Field.{Field}
 use Rattle.syntax.specs.declared.item.Fields.{Fields}
 use Rattle.syntax.specs.declared.item.Fields.TheVariants as forms
@@ -12,9 +12,9 @@ use Rattle.syntax.specs.declared.item.Body.TheVariants as bodies
 use Rattle.syntax.specs.declared.item.Declaration.{Declaration}
 use Rattle.syntax.specs.declared.item.Declarations.{Declarations}
 
--- a field with its docs, its name where it has one, and its type
+-- a field with its attributes, its name where it has one, and its type
 pub record FieldItem : Type 0 where
-  pub attrs : List Attribute
+  pub attrs : List AttributeItem
   pub ident : Option Ident
   pub ty : Written
   pub span : Span
@@ -29,14 +29,14 @@ pub data BodyItem : Type 0 where
   struct_body : FieldItems → BodyItem
 
 pub record DeclaredItem : Type 0 where
-  pub attrs : List Attribute
+  pub attrs : List AttributeItem
   pub ident : Ident
   pub body : BodyItem
   pub span : Span
 
 -- what the program's values are
 abbrev pub field_view : Field → FieldItem
-field_view f = record { attrs = f.attrs; ident = f.ident; ty = written_view f.ty; span = f.span }
+field_view f = record { attrs = map attribute_view f.attrs; ident = f.ident; ty = written_view f.ty; span = f.span }
 
 abbrev pub fields_view : Fields → FieldItems
 fields_view (forms.Named fs) = named (map field_view fs)
@@ -47,7 +47,7 @@ abbrev pub body_view : Body → BodyItem
 body_view (bodies.Struct fs) = struct_body (fields_view fs)
 
 abbrev pub declaration_view : Declaration → DeclaredItem
-declaration_view d = record { attrs = d.attrs; ident = d.ident; body = body_view d.body; span = d.span }
+declaration_view d = record { attrs = map attribute_view d.attrs; ident = d.ident; body = body_view d.body; span = d.span }
 
 abbrev pub declarations_view : Declarations → List DeclaredItem
 declarations_view ds = map declaration_view ds.items

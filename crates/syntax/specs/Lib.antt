@@ -4,4 +4,3 @@ pub mod ItemGrammar
 pub mod ItemDepth
 pub mod ItemReading
 pub mod Source
-pub mod Comments

@@ -1,21 +1,6 @@
-use diag::{List, Span, Text};
+use attributes::Attribute;
+use diag::{List, Span};
 use written_types::{Ident, WrittenType};
-
-/// What an attribute says.
-#[derive(Debug, Drop, PartialEq, Eq)]
-pub enum Meta {
-    /// The text of a doc comment: what follows its first three characters, without a closing `*/`.
-    Doc(Text),
-}
-
-/// An attribute. Its span is the whole comment. Two are equal where they say the same.
-#[derive(Debug, Drop)]
-#[derive_where(PartialEq, Eq)]
-pub struct Attribute {
-    pub meta: Meta,
-    #[derive_where(skip(EqHashOrd))]
-    pub span: Span,
-}
 
 /// A field of a struct, without a name where its form has none. The span goes from the visibility, or else from the
 /// name or the type, to the end of the type.

@@ -6,20 +6,22 @@ ghost use Rattle.tokens.specs.Trees.{trees_view};
 ghost use Rattle.words.specs.Words.{words_of, words_view};
 ghost use Rattle.words.specs.Reading.{Gives};
 ghost use Rattle.type_grammar.specs.Reading.{type_at};
+ghost use Rattle.lists.specs.Lists.{turn_at, list_of};
+ghost use Rattle.attributes.specs.Attributes.{attribute_view};
 ghost use Rattle.syntax.specs.Items.{field_view, fields_view, declaration_view};
 ghost use Rattle.syntax.specs.ItemDepth.{most_levels};
-ghost use Rattle.syntax.specs.ItemReading.{named_field_at, unnamed_field_at, after_comma, turn_at, list_of, fields_at, struct_at, item_at, items_at};
+ghost use Rattle.syntax.specs.ItemReading.{named_field_at, unnamed_field_at, fields_at, struct_at, item_at, items_at};
 
-use crate::docs::docs_at;
-use crate::item::{Attribute, Body, Declaration, Field, Fields};
+use crate::item::{Body, Declaration, Field, Fields};
 use crate::scope::{after_semicolon, after_visibility, spanning};
+use attributes::{Attribute, attributes_at};
 use diag::List;
+use lists::after_comma;
 use std::alloc::Global;
 use tokens::{Bracket, Group, TokenTree};
 use type_grammar::{MAX_LEVELS, type_at};
 use words::{
-    Keyword, Sign, Stop, ident_of, keyword_at, name_at, optional_keyword, optional_sign, sign_at,
-    stop_at,
+    Keyword, Sign, Stop, ident_of, keyword_at, name_at, optional_keyword, sign_at, stop_at,
 };
 
 #[tactic(auto, unfolding(crate::specs::ItemReading::named_field_at))]
@@ -27,7 +29,7 @@ fn named_field_at(alloc: Global, trees: &[TokenTree]) -> Result<(Field, &[TokenT
     ensures value { Gives (λ p. (field_view p.0, words_view p.1.now)) result (named_field_at (type_at most_levels) (words_view trees.now)) }
     ensures shorter { IfOk result (λ p. length p.1.now < length trees.now) }
 {
-    let (attrs, start) = docs_at(alloc, trees)?;
+    let (attrs, start) = attributes_at(alloc, trees)?;
     let (name, rest) = name_at(after_visibility(start, false))?;
     let (_, rest) = sign_at(rest, Sign::Colon)?;
     let (ty, rest) = type_at(alloc, rest, MAX_LEVELS)?;
@@ -49,7 +51,7 @@ fn unnamed_field_at(alloc: Global, trees: &[TokenTree]) -> Result<(Field, &[Toke
     ensures value { Gives (λ p. (field_view p.0, words_view p.1.now)) result (unnamed_field_at (type_at most_levels) (words_view trees.now)) }
     ensures shorter { IfOk result (λ p. length p.1.now < length trees.now) }
 {
-    let (attrs, start) = docs_at(alloc, trees)?;
+    let (attrs, start) = attributes_at(alloc, trees)?;
     let (ty, rest) = type_at(alloc, after_visibility(start, true), MAX_LEVELS)?;
     let span = spanning(start, rest);
     Ok((
@@ -63,22 +65,7 @@ fn unnamed_field_at(alloc: Global, trees: &[TokenTree]) -> Result<(Field, &[Toke
     ))
 }
 
-/// What follows a comma, or nothing where nothing is left.
-#[tactic(auto, using(crate::proofs::Turns::comma_follows))]
-fn after_comma(trees: &[TokenTree]) -> Result<&[TokenTree], Stop>
-    ensures value { Gives (λ rest. words_view rest.now) result (after_comma (words_view trees.now)) }
-    ensures shorter { IfOk result (λ rest. length rest.now ≤ length trees.now) }
-{
-    match trees {
-        [] => Ok(trees),
-        [_, ..] => match optional_sign(trees, Sign::Comma) {
-            Some((_, rest)) => Ok(rest),
-            None => Err(stop_at(trees)),
-        },
-    }
-}
-
-#[tactic(auto, unfolding(crate::specs::ItemReading::turn_at))]
+#[tactic(auto, unfolding(lists::specs::Lists::turn_at))]
 fn named_turn(alloc: Global, trees: &[TokenTree]) -> Result<(Field, &[TokenTree]), Stop>
     ensures value { Gives (λ p. (field_view p.0, words_view p.1.now)) result (turn_at (named_field_at (type_at most_levels)) (words_view trees.now)) }
     ensures shorter { IfOk result (λ p. length p.1.now < length trees.now) }
@@ -88,7 +75,7 @@ fn named_turn(alloc: Global, trees: &[TokenTree]) -> Result<(Field, &[TokenTree]
     Ok((field, rest))
 }
 
-#[tactic(auto, unfolding(crate::specs::ItemReading::turn_at))]
+#[tactic(auto, unfolding(lists::specs::Lists::turn_at))]
 fn unnamed_turn(alloc: Global, trees: &[TokenTree]) -> Result<(Field, &[TokenTree]), Stop>
     ensures value { Gives (λ p. (field_view p.0, words_view p.1.now)) result (turn_at (unnamed_field_at (type_at most_levels)) (words_view trees.now)) }
     ensures shorter { IfOk result (λ p. length p.1.now < length trees.now) }
@@ -167,7 +154,7 @@ fn fields_at(alloc: Global, trees: &[TokenTree]) -> Result<(Fields, &[TokenTree]
     }
 }
 
-/// A struct whose docs and visibility, from the start on, were read.
+/// A struct whose attributes and visibility, from the start on, were read.
 #[tactic(auto, unfolding(crate::specs::ItemReading::struct_at))]
 fn struct_at<'t>(
     alloc: Global,
@@ -176,7 +163,7 @@ fn struct_at<'t>(
     trees: &'t [TokenTree],
 ) -> Result<(Declaration, &'t [TokenTree]), Stop>
     requires { length trees.now ≤ length start.now }
-    ensures value { Gives (λ p. (declaration_view p.0, words_view p.1.now)) result (struct_at (type_at most_levels) attrs (words_view start.now) (words_view trees.now)) }
+    ensures value { Gives (λ p. (declaration_view p.0, words_view p.1.now)) result (struct_at (type_at most_levels) (map attribute_view attrs) (words_view start.now) (words_view trees.now)) }
     ensures shorter { IfOk result (λ p. length p.1.now < length start.now) }
 {
     let (_, rest) = keyword_at(trees, Keyword::Struct)?;
@@ -201,7 +188,7 @@ fn item_at(alloc: Global, trees: &[TokenTree]) -> Result<(Option<Declaration>, &
     ensures value { Gives (λ p. (option_map declaration_view p.0, words_view p.1.now)) result (item_at (type_at most_levels) (words_view trees.now)) }
     ensures shorter { IfOk result (λ p. length p.1.now < length trees.now) }
 {
-    let (attrs, start) = docs_at(alloc, trees)?;
+    let (attrs, start) = attributes_at(alloc, trees)?;
     let rest = after_visibility(start, false);
     match optional_keyword(rest, Keyword::Use) {
         Some((_, line)) => match after_semicolon(line) {

@@ -2,21 +2,20 @@
 //!
 //! ```text
 //! source  = (inner-doc | "#" "!" square-group)* item*
-//! item    = outer-doc* vis? (use | struct)
+//! item    = attr* vis? (use | struct)
 //! use     = "use" any* ";"
 //! struct  = "struct" name ("{" named "}" | "(" unnamed ")" ";" | ";")
-//! named   = list of outer-doc* vis? name ":" type
-//! unnamed = list of outer-doc* vis? type
+//! named   = list of attr* vis? name ":" type
+//! unnamed = list of attr* vis? type
 //! vis     = "pub" ( "(" ("crate" | "self" | "super") ")" | "(" "in" any* ")" )?
 //! ```
 //!
-//! A list has commas between its items, perhaps one at the end, and may be empty. A name is an identifier that is no
+//! An attribute is a doc comment or `#[..]`, as crate `attributes` says. A list has commas between its items, perhaps one at the end, and may be empty. A name is an identifier that is no
 //! keyword and not `_`; any is a token other than `;`, or a group. Where `pub` and a group in round brackets are all
 //! of an unnamed field, the group is its type. Brackets nest at most 64 deep, and a type at most 64 levels.
 #![tactic(auto)]
 
-mod comments;
-mod docs;
+mod beginning;
 mod item;
 mod items;
 mod laws;
@@ -25,10 +24,11 @@ mod scope;
 #[cfg(test)]
 mod tests;
 
-pub use comments::CommentAttributes;
-pub use item::{Attribute, Body, Declaration, Declarations, Field, Fields, Meta};
+pub use attributes::{Attribute, CommentAttributes, Meta};
+pub use item::{Body, Declaration, Declarations, Field, Fields};
 pub use laws::{one_reading, one_type_reading};
 pub use lexing::{lex, one_cut};
 pub use parse::{parse_declarations, parse_type};
+pub use literal_values::{LiteralValue, literal_value};
 pub use tokens::{Bracket, Cursor, Group, Token, TokenKind, TokenTree};
 pub use written_types::{GenericArgument, Ident, Path, PathSegment, WrittenType};

@@ -13,7 +13,7 @@ ghost use Rattle.syntax.specs.ItemDepth.{most_levels};
 ghost use Rattle.syntax.specs.ItemReading.{source_at, IsRefusalOf};
 ghost use Rattle.syntax.specs.Source.{Reads, NestsTooDeep, IsUnreadable, IsTooDeep, ReadsType, TypeNestsTooDeep, IsNoType, IsDeepType};
 
-use crate::docs::after_inner;
+use crate::beginning::after_inner;
 use crate::item::{Declaration, Declarations};
 use crate::items::items_of;
 use diag::{DeriveError, Diagnostics, Kind, List, Span};

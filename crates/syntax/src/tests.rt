@@ -1,5 +1,5 @@
 use crate::{
-    Attribute, Body, CommentAttributes, Declaration, Field, Fields, Meta, one_reading,
+    Attribute, Body, Declaration, Field, Fields, Meta, one_reading,
     one_type_reading, parse_declarations, parse_type,
 };
 use diag::{DeriveError, Kind, List, Span};
@@ -9,22 +9,23 @@ use std::test::Fail;
 const KEYWORDS: &str =
     "as break const continue crate else enum extern false fn for if impl in let loop match mod move mut pub ref return self Self static struct super trait true type unsafe use where while async await dyn abstract become box do final macro override priv typeof unsized virtual yield try";
 
-fn push_docs(text: &mut String, attributes: &List<Attribute>) -> Result<(), Fail> {
+/// Docs in brackets, and the first words of other attributes.
+fn push_attributes(text: &mut String, attributes: &List<Attribute>) -> Result<(), Fail> {
     for attribute in attributes.as_slice() {
-        match &attribute.meta {
-            Meta::Doc(doc) => {
-                text.push('[')?;
-                text.push_str(doc.as_str())?;
-                text.push(']')?;
-            }
+        text.push('[')?;
+        if let Meta::Doc(doc) = &attribute.meta {
+            text.push_str(doc.as_str())?;
+        } else if let Some(segment) = attribute.path.segments.as_slice().first() {
+            text.push_str(segment.ident.text.as_str())?;
         }
+        text.push(']')?;
     }
     Ok(())
 }
 
 fn push_fields(alloc: Global, text: &mut String, fields: &List<Field>) -> Result<(), Fail> {
     for field in fields.as_slice() {
-        push_docs(text, &field.attrs)?;
+        push_attributes(text, &field.attrs)?;
         let name = match &field.ident {
             Some(ident) => ident.text.as_str(),
             None => "_",
@@ -40,7 +41,7 @@ fn push_declaration(
     text: &mut String,
     declaration: &Declaration,
 ) -> Result<(), Fail> {
-    push_docs(text, &declaration.attrs)?;
+    push_attributes(text, &declaration.attrs)?;
     let name = declaration.ident.text.as_str();
     let (start, end) = (declaration.span.start, declaration.span.end);
     text.push_str(format!(in alloc; "{start}..{end} {name}")?.as_str())?;
@@ -60,7 +61,7 @@ fn push_declaration(
     Ok(())
 }
 
-/// The declarations of the source, with docs, names and spans.
+/// The declarations of the source, with attributes, names and spans.
 fn source_text(alloc: Global, source: &str) -> Result<String, Fail> {
     let mut text = String::new(alloc);
     for declaration in parse_declarations(alloc, source)?.items.as_slice() {
@@ -142,6 +143,10 @@ fn reads_declarations(rt: HostRuntime) -> Result<(), Fail> {
             "16..42 type{ 32..40 fn}",
         ),
         (
+            "#[derive(A)] #[serde(a)] pub struct S(#[schema(b)] #[c] u8); #[repr(u8)] use d; #[deprecated] struct T { #[serde(e)] /// f\n pub x: u8 }",
+            "[serde]25..60 S([schema] 56..58 _)[deprecated]94..135 T{[serde][ f] 124..133 x}",
+        ),
+        (
             "/// a\npub struct S { /** b */ /// c\n x: u8, y: u8, }\n/// d\n/// e\nstruct T(/// f\n u8);",
             "[ a]6..52 S{[ b ][ c] 37..42 x 44..49 y}[ d][ e]65..85 T([ f] 81..83 _)",
         ),
@@ -170,7 +175,14 @@ fn refuses_other_text(rt: HostRuntime) -> Result<(), Fail> {
         ("pub pub struct S;", 4, 7),
         ("struct S; x", 10, 11),
         ("enum S {}", 0, 4),
-        ("#[a] struct S;", 0, 1),
+        ("#[a] struct", 11, 11),
+        ("#[a b] struct S;", 4, 5),
+        ("#[serde(3)] struct S;", 8, 9),
+        ("struct S { #[serde] x: u8 }", 13, 18),
+        ("struct S(#[serde(a = 1)] u8);", 21, 22),
+        ("#[serde(a b)] use c;", 10, 11),
+        ("struct S; #[a]", 14, 14),
+        ("struct S { #[a] }", 16, 17),
         ("struct S { pub(crate) }", 22, 23),
         ("struct S { pub(in a;b) x: u8 }", 14, 15),
         ("struct S { pub(crate a) x: u8 }", 14, 15),
@@ -278,28 +290,5 @@ fn nests_to_the_limit(rt: HostRuntime) -> Result<(), Fail> {
     let source = format!(in alloc; "struct S {{ a: {} }}", brackets.as_str())?;
     let span = Span { start: 77, end: 78 };
     assert!(rt; is_refused(alloc, source.as_str(), Kind::TooDeep, span));
-    Ok(())
-}
-
-#[test]
-fn joins_doc_comments(rt: HostRuntime) -> Result<(), Fail> {
-    let alloc = rt.alloc();
-    let cases = [
-        ("struct S;", ""),
-        ("/// a\n///\n///   b  \nstruct S;", "a\n\n  b"),
-        ("///a\n///\t b\nstruct S;", "a\n\t b"),
-        ("/** a\n  b */ struct S;", "a\n  b"),
-    ];
-    for (source, expected) in cases {
-        for declaration in parse_declarations(alloc, source)?.items.as_slice() {
-            let comments = CommentAttributes::from_attributes(alloc, declaration.attrs.as_slice())?;
-            assert_eq!(rt;
-                comments.as_formatted_string(alloc)?.as_str(),
-                expected,
-                "{source}"
-            );
-            assert_eq!(rt; comments.is_empty(), expected.is_empty(), "{source}");
-        }
-    }
     Ok(())
 }

@@ -3,7 +3,8 @@ use Rattle.words.specs.Words.{words_view}
 use Rattle.type_grammar.specs.Reading.{type_at}
 use Rattle.syntax.specs.Items.{declaration_view}
 use Rattle.syntax.specs.ItemDepth.{most_levels}
-use Rattle.syntax.specs.ItemReading.{items_at, with_front}
+use Rattle.lists.specs.Lists.{with_front}
+use Rattle.syntax.specs.ItemReading.{items_at}
 use Rattle.syntax.proofs.items.items_of.Given as goal
 
 abbrev pub invariant-items : goal.invariant-items

@@ -1,5 +1,0 @@
-use Rattle.syntax.proofs.Margins.{indent_is}
-use Rattle.syntax.proofs.comments.indent.Goals as goal
-
-pub returns : goal.returns
-returns c = indent_is c.args.line.now c.trim_ascii_start.result.now c.trim_ascii_start.ensures.value

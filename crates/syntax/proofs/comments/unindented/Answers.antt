@@ -1,7 +1,0 @@
-use Rattle.std.proofs.Math.Nat.{min-le_right}
-use Rattle.syntax.specs.Comments.{indent}
-use Rattle.syntax.proofs.Margins.{within_indent}
-use Rattle.syntax.proofs.comments.unindented.Goals as goal
-
-pub range_from-requires : goal.range_from-requires
-range_from-requires c = λ more. within_indent c.args.line.now c.min-count.result c.utf8.line (rw (c.min-count.ensures, c.indent.ensures) (min-le_right c.args.count (indent c.args.line.now)))
