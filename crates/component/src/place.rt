@@ -4,7 +4,7 @@ ghost use Rattle.std.specs.Prelude.{◌≡◌, IfOk, None, false};
 ghost use Rattle.schema_core.specs.Schema.{tree_views};
 ghost use Rattle.open_types.specs.Open.{open_view, opens_view};
 ghost use Rattle.component.specs.Leaves.{leaf_view, term_view};
-ghost use Rattle.component.specs.Places.{noted, place, inline_places, declared, argument};
+ghost use Rattle.component.specs.Places.{noted, type_word, only_word, leaf_object, tuple_of, list_of, map_object, place, inline_places, declared, argument};
 
 use crate::schemas::{
     any_object, in_place, leaf_object, list_of, map_object, noted, null_default, only_word,
@@ -12,8 +12,9 @@ use crate::schemas::{
 };
 use crate::term::{Term, TermLeaf};
 use diag::{List, Text};
+use leaves::Leaf;
 use open_types::OpenType;
-use schema_core::{Notes, Tree, TypeWord};
+use schema_core::{Notes, SchemaTypeInner, Tree, TypeWord};
 use std::alloc::{AllocError, Global};
 
 /// What is said of a place beside its type.
@@ -63,6 +64,49 @@ fn argument(alloc: Global, at: Place<'_>, parameter: usize) -> Result<Term, Allo
     }
 }
 
+/// Notes of what is said of the place.
+fn notes_of(alloc: Global, at: Place<'_>) -> Result<Notes, AllocError>
+    ensures { IfOk result (λ notes. notes ≡ noted at.entry.deprecated at.entry.description.now) }
+{
+    noted(alloc, at.deprecated, at.description)
+}
+
+fn leaf_place(alloc: Global, at: Place<'_>, leaf: Leaf) -> Result<Term, AllocError>
+    ensures { IfOk result (λ s. term_view s ≡ leaf_object at.entry.nullable (noted at.entry.deprecated at.entry.description.now) leaf) }
+{
+    leaf_object(alloc, at.nullable, notes_of(alloc, at)?, leaf)
+}
+
+fn any_place(alloc: Global, at: Place<'_>) -> Result<Term, AllocError>
+    ensures { IfOk result (λ s. term_view s ≡ only_word TypeWord.Any (noted at.entry.deprecated at.entry.description.now)) }
+{
+    only_word(alloc, TypeWord::Any, notes_of(alloc, at)?)
+}
+
+fn object_place(alloc: Global, at: Place<'_>) -> Result<Term, AllocError>
+    ensures { IfOk result (λ s. term_view s ≡ only_word (type_word at.entry.nullable SchemaTypeInner.Object) (noted at.entry.deprecated at.entry.description.now)) }
+{
+    any_object(alloc, at.nullable, notes_of(alloc, at)?)
+}
+
+fn tuple_place(alloc: Global, at: Place<'_>, items: List<Term>) -> Result<Term, AllocError>
+    ensures { IfOk result (λ s. term_view s ≡ tuple_of at.entry.nullable (noted at.entry.deprecated at.entry.description.now) (tree_views leaf_view items)) }
+{
+    tuple_of(alloc, at.nullable, notes_of(alloc, at)?, items)
+}
+
+fn list_place(alloc: Global, at: Place<'_>, unique: bool, item: Term) -> Result<Term, AllocError>
+    ensures { IfOk result (λ s. term_view s ≡ list_of unique at.entry.nullable (noted at.entry.deprecated at.entry.description.now) (term_view item)) }
+{
+    list_of(alloc, unique, at.nullable, notes_of(alloc, at)?, item)
+}
+
+fn map_place(alloc: Global, at: Place<'_>, names: Term, values: Term) -> Result<Term, AllocError>
+    ensures { IfOk result (λ s. term_view s ≡ map_object at.entry.nullable (noted at.entry.deprecated at.entry.description.now) (term_view names) (term_view values)) }
+{
+    map_object(alloc, at.nullable, notes_of(alloc, at)?, names, values)
+}
+
 /// The schema of a place of the type.
 pub fn place_term(alloc: Global, at: Place<'_>, ty: &OpenType) -> Result<Term, AllocError>
     ensures { IfOk result (λ s. term_view s ≡ place at.entry.nullable at.entry.inline at.entry.deprecated at.entry.description.now (open_view ty.now)) }
@@ -88,7 +132,6 @@ fn inner_place(alloc: Global, inline: bool, ty: &OpenType) -> Result<Term, Alloc
 fn typed_place(alloc: Global, at: Place<'_>, ty: &OpenType) -> Result<Term, AllocError>
     ensures { IfOk result (λ s. term_view s ≡ place at.entry.nullable at.entry.inline at.entry.deprecated at.entry.description.now (open_view ty.now)) }
 {
-    let nullable = at.nullable;
     match ty {
         OpenType::Option(of) => typed_place(
             alloc,
@@ -102,25 +145,16 @@ fn typed_place(alloc: Global, at: Place<'_>, ty: &OpenType) -> Result<Term, Allo
         OpenType::Param(parameter) => argument(alloc, at, *parameter),
         OpenType::Named(_, _) => declared(alloc, at, ty),
         OpenType::Unit => null_default(alloc, &None),
-        OpenType::Leaf(leaf) => leaf_object(alloc, nullable, notes_of(alloc, at)?, *leaf),
-        OpenType::AnyValue => only_word(alloc, TypeWord::Any, notes_of(alloc, at)?),
-        OpenType::FreeObject => any_object(alloc, nullable, notes_of(alloc, at)?),
-        OpenType::Tuple(items) => {
-            let items = inline_places(alloc, items.as_slice())?;
-            tuple_of(alloc, nullable, notes_of(alloc, at)?, items)
-        }
-        OpenType::Items(_, of) => {
-            let item = inner_place(alloc, at.inline, of)?;
-            list_of(alloc, false, nullable, notes_of(alloc, at)?, item)
-        }
-        OpenType::Set(_, of) => {
-            let item = inner_place(alloc, at.inline, of)?;
-            list_of(alloc, true, nullable, notes_of(alloc, at)?, item)
-        }
+        OpenType::Leaf(leaf) => leaf_place(alloc, at, *leaf),
+        OpenType::AnyValue => any_place(alloc, at),
+        OpenType::FreeObject => object_place(alloc, at),
+        OpenType::Tuple(items) => tuple_place(alloc, at, inline_places(alloc, items.as_slice())?),
+        OpenType::Items(_, of) => list_place(alloc, at, false, inner_place(alloc, at.inline, of)?),
+        OpenType::Set(_, of) => list_place(alloc, at, true, inner_place(alloc, at.inline, of)?),
         OpenType::Map(_, key, value) => {
             let names = inner_place(alloc, true, key)?;
             let values = inner_place(alloc, at.inline, value)?;
-            map_object(alloc, nullable, notes_of(alloc, at)?, names, values)
+            map_place(alloc, at, names, values)
         }
     }
 }
@@ -135,11 +169,4 @@ fn inline_places(alloc: Global, types: &[OpenType]) -> Result<List<Term>, AllocE
         items.push(inner_place(alloc, true, ty)?)?;
     }
     Ok(items)
-}
-
-/// Notes of what is said of the place.
-fn notes_of(alloc: Global, at: Place<'_>) -> Result<Notes, AllocError>
-    ensures { IfOk result (λ notes. notes ≡ noted at.entry.deprecated at.entry.description.now) }
-{
-    noted(alloc, at.deprecated, at.description)
 }

@@ -76,7 +76,9 @@ module _ (place_of : List ℕ → Option ℕ) (e : DeriveError) where
 
 all_fault : (ds : List DeclaredItem) (e : DeriveError) → ItemsFault (place_among ds) e ds → IsFaulty ds e
 all_fault ds e (inl r) = inl (r.0, inr r.1, r.2)
-all_fault ds e (inr q) = inr q
+all_fault ds e (inr (inl r)) = inr (inl r)
+all_fault ds e (inr (inr (inl r))) = inr (inr (inl r))
+all_fault ds e (inr (inr (inr r))) = inr (inr (inr (inl r)))
 
 pub faulty_all : (ds : List DeclaredItem) (e : DeriveError) → Somewhere (λ d. IsFaultyItem (place_among ds) d e) ds → IsFaulty ds e
 faulty_all ds e h = all_fault ds e (faulty_in (place_among ds) e ds h)

@@ -1,3 +1,4 @@
+pub mod First
 pub mod Faulty
 pub mod Parts
 pub mod Terms

@@ -16,7 +16,7 @@ use Rattle.derive_decl.specs.Structs.{MemberOf, FormOf, named_fields, unnamed_fi
 use Rattle.derive_decl.specs.Faults.{with_ident, field_idents, fields_in, body_fields, IsSmall}
 use Rattle.derive_decl.specs.Whole.{structs_of, MembersDiffer, IsSmallItem}
 use Rattle.closing.specs.Described.{TypesWithin, AreWithin}
-use Rattle.compose.specs.Faults.{named_in}
+use Rattle.compose.specs.Faults.{named_in, IsAttributed}
 use Rattle.compose.specs.Faults as faults
 use Rattle.compose.specs.Settled.{IsSettled}
 use Rattle.compose.proofs.Parts.{some_same, mapped, joined}
@@ -225,8 +225,8 @@ fields_differ place_of x (d ∷ ds) ss e differ h =
 -- ---- all of it
 
 -- declarations that have structs, whose types are small and whose names differ
-pub settled : ResolvedHaveNoFault → ResolvedAreWithin → (ds : List DeclaredItem) (ss : List StructOf) → structs_of ds ≡ Some ss → AllByRecursion IsSmallItem ds → IsDistinct (declared_names ds) → MembersDiffer ss → IsSettled ds ss
-settled sound within ds ss e small distinct differ = record {
+pub settled : ResolvedHaveNoFault → ResolvedAreWithin → (ds : List DeclaredItem) (ss : List StructOf) → structs_of ds ≡ Some ss → AllByRecursion IsSmallItem ds → IsDistinct (declared_names ds) → MembersDiffer ss → ((span : Span) → IsAttributed ds span → ⊥) → IsSettled ds ss
+settled sound within ds ss e small distinct differ documented = record {
   resolved = e;
   clear = record {
     distinct = λ x h. elim h [
@@ -236,6 +236,7 @@ settled sound within ds ss e small distinct differ = record {
     resolved = λ fault h. none_faulty (place_among ds) sound fault ds ss e small h;
     fielded = λ x h. none_fieldless (place_among ds) x ds ss e h;
     named = λ span h. none_nameless (place_among ds) span ds ss e h;
+    documented = documented;
   };
   names = names;
   apart = (subst IsDistinct (sym names) distinct, differ);

@@ -1,11 +1,13 @@
--- Why declarations have no components: a name given twice, a type that stands for nothing or is too large, a form without a field or a field without a name, or what is beyond a bound.
-use Rattle.std.specs.Prelude.{◌≡◌, ◌⊎◌, ℕ, List, [], Some, None, codes}
+-- Why declarations have no components: a name given twice, a type that stands for nothing or is too large, a form without a field, a field without a name or an attribute that nothing is derived from, or what is beyond a bound.
+use Rattle.std.specs.Prelude.{◌≡◌, ◌⊎◌, ℕ, List, [], ◌∷◌, ◌++◌, Option, Some, None, cond, codes}
+use Rattle.std.specs.List.{flat_map}
 use Rattle.diag.specs.Refusal.{IsRefusal}
 use Rattle.diag.specs.declared.error.DeriveError.{DeriveError}
 use Rattle.diag.specs.declared.kind.Kind.TheVariants.{Arity, DuplicateName, Syntax}
 use Rattle.diag.specs.declared.span.Span.{Span}
 use Rattle.schema_core.specs.Document.{Entry}
 use Rattle.written_types.specs.declared.written.Ident.{Ident}
+use Rattle.attributes.specs.Attributes.{AttributeItem, is_word}
 use Rattle.syntax.specs.Items.{FieldItem, FieldItems, named, unnamed, unit, BodyItem, struct_body, DeclaredItem}
 use Rattle.syntax.specs.Source.{Reads, IsUnreadable, IsTooDeep, NestsTooDeep}
 use Rattle.resolving.specs.Resolved.{Fault, IsFault, IsRefusedFor, Somewhere}
@@ -44,12 +46,28 @@ IsFieldless ds x = Somewhere (λ d. (x ≡ d.ident) × (d.body ≡ struct_body (
 abbrev pub IsNameless : List DeclaredItem → Span → Type 0
 IsNameless ds span = Somewhere (λ d. Somewhere (λ f. (f.ident ≡ None) × (span ≡ f.span)) (named_fields d.body)) ds
 
+-- the attributes of declarations and their fields, in order
+abbrev pub attributes_in : DeclaredItem → List AttributeItem
+attributes_in d = d.attrs ++ flat_map (λ f. f.attrs) (body_fields d.body)
+
+abbrev pub attributes_of : List DeclaredItem → List AttributeItem
+attributes_of ds = flat_map attributes_in ds
+
+-- where the first attribute stands that is of serde, schema, repr or deprecated: nothing is derived from these
+abbrev pub first_other : List AttributeItem → Option Span
+first_other [] = None
+first_other (a ∷ as) = cond (is_word (codes "doc") a.path) (first_other as) (Some a.span)
+
+abbrev pub IsAttributed : List DeclaredItem → Span → Type 0
+IsAttributed ds span = first_other (attributes_of ds) ≡ Some span
+
 -- no such condition holds of the declarations
 pub record AreClear (ds : List DeclaredItem) : Type 0 where
   pub distinct : (x : Ident) → ¬ IsDuplicate ds x
   pub resolved : (fault : Fault) → ¬ IsFaultOf ds fault
   pub fielded : (x : Ident) → ¬ IsFieldless ds x
   pub named : (span : Span) → ¬ IsNameless ds span
+  pub documented : (span : Span) → ¬ IsAttributed ds span
 
 -- ---- the answers
 
@@ -63,6 +81,7 @@ IsFaulty ds e =
     ⊎ ((fault : Fault) × IsFaultOf ds fault × IsRefusedFor fault e)
     ⊎ ((x : Ident) × IsFieldless ds x × IsRefusal Arity x.span fieldless_message e)
     ⊎ ((span : Span) × IsNameless ds span × IsRefusal Syntax span nameless_message e)
+    ⊎ ((span : Span) × IsAttributed ds span × IsRefusal Syntax span nameless_message e)
 
 -- the error refuses declarations of which no condition holds: their instances are beyond a bound
 abbrev pub IsBeyond : Configuration → List DeclaredItem → DeriveError → Type 0

@@ -9,6 +9,7 @@ ghost use Rattle.instances.specs.Bounds.{AreBounded, IsUnbounded};
 ghost use Rattle.compose.specs.Faults.{IsFaulty, IsDerived, IsRefused};
 ghost use Rattle.compose.specs.Settled.{IsSettled};
 
+use crate::attributed::only_docs;
 use closing::components_of;
 use configuration::Config;
 use derive_decl::{Struct, structs_of};
@@ -36,6 +37,7 @@ fn settle(
     ensures settled { IfOk result (λ ss. IsSettled (declarations_view declarations.now) (map struct_view ss)) }
     ensures refused { IfErr result (λ e. (e ≡ DeriveError.Memory) ⊎ IsFaulty (declarations_view declarations.now) e) }
 {
+    only_docs(alloc, declarations)?;
     let places = declared_places(alloc, declarations)?;
     let structs = structs_of(alloc, declarations, &places, config)?;
     resolving::resolved_have_no_fault();
@@ -64,10 +66,11 @@ fn bounded_components(
 
 /// The components of the source's declarations.
 ///
-/// A refusal is of kind `TooDeep` or `Syntax`, where the source cannot be read. Else it is of kind `DuplicateName`,
-/// `UnknownType`, `Arity` or `TypeSize`: a name that two declarations have comes first; then, declaration by declaration, what
-/// is wrong with a field's type, before a name that two fields have; a form of unnamed fields without a field is `Arity`. Else
-/// it is `TooManyInstances`, `InlineDepth` or `TooManyCopies`, in this order, where the instances are beyond a bound of the
+/// A refusal is of kind `TooDeep` or `Syntax`, where the source cannot be read; or where a declaration or a field has an
+/// attribute of `serde`, `schema`, `repr` or `deprecated`, from which nothing is derived. Else it is of kind `DuplicateName`,
+/// `UnknownType`, `Arity`, `TypeSize` or `Syntax`: a name that two declarations have comes first; then, declaration by
+/// declaration, what is wrong with a field's type, before a name that two fields have; a form of unnamed fields without a
+/// field is `Arity`, and a named field without a name, which no source has, `Syntax`. Else it is `TooManyInstances`, `InlineDepth` or `TooManyCopies`, in this order, where the instances are beyond a bound of the
 /// configuration.
 pub fn derive_components(
     alloc: Global,

@@ -1,6 +1,7 @@
 //! From a source to the components of its declarations, which describe the JSON that serde reads for them.
 #![tactic(auto)]
 
+mod attributed;
 mod derive;
 #[cfg(test)]
 mod tests;

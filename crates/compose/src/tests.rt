@@ -7,8 +7,12 @@ use std::alloc::{AllocError, Global};
 use std::test::Fail;
 
 /// The schemas of the source's components, as the document's text has them.
-const SCHEMAS: [(&str, &str); 23] = [
+const SCHEMAS: [(&str, &str); 24] = [
     ("", ""),
+    (
+        "#[derive(A)] #[doc = \" B.\"] #[doc(hidden)] struct C { #[cfg(d)] #[doc = \"E.\"] f: u8, /// G.\n #[doc = \" H.\"] i: bool }",
+        r#""C":{"description":"B.","properties":{"f":{"description":"E.","format":"int32","minimum":0,"type":"integer"},"i":{"description":"G.\nH.","type":"boolean"}},"required":["f","i"],"type":"object"}"#,
+    ),
     ("struct Empty {}", r#""Empty":{"type":"object"}"#),
     (
         "use a::{b, c}; pub(crate) struct r#type {}",
@@ -198,7 +202,27 @@ fn refusal_text(alloc: Global, source: &str) -> Result<String, Fail> {
 }
 
 /// Sources with the kind, the bytes and the message of their refusals.
-const FAULTS: [(&str, &str); 20] = [
+const FAULTS: [(&str, &str); 25] = [
+    (
+        "#[derive(A)] #[serde(default)] struct B {} struct B {}",
+        "Syntax 13..30 unexpected text in a declaration",
+    ),
+    (
+        "struct B {} struct B { x: Gone, #[schema] y: u8 }",
+        "Syntax 32..41 unexpected text in a declaration",
+    ),
+    (
+        "struct A(#[deprecated] u8); #[repr(u8)] struct B;",
+        "Syntax 9..22 unexpected text in a declaration",
+    ),
+    (
+        "#[repr(u8)] use a; struct B; #[deprecated = \"c\"] struct C;",
+        "Syntax 29..48 unexpected text in a declaration",
+    ),
+    (
+        "struct A { #[serde(x y)] z: u8 }",
+        "Syntax 21..22 unexpected text in a declaration",
+    ),
     (
         "struct A {} struct A {}",
         "DuplicateName 19..20 name A is given twice",

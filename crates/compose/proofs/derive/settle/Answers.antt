@@ -28,4 +28,4 @@ pub returns-clause-settled : goal.returns-clause-settled
 returns-clause-settled c =
     let ds = declarations_view c.args.declarations.now in
     let ss = map struct_view c.in_ok-structs.structs in
-    settled c.resolved_have_no_fault.ensures c.resolved_are_within.ensures ds ss c.in_ok-structs.ensures.resolved c.in_ok-structs.ensures.small c.in_ok-places.ensures.distinct c.in_ok-structs.ensures.distinct
+    settled c.resolved_have_no_fault.ensures c.resolved_are_within.ensures ds ss c.in_ok-structs.ensures.resolved c.in_ok-structs.ensures.small c.in_ok-places.ensures.distinct c.in_ok-structs.ensures.distinct c.in_ok-only_docs.ensures.documented
