@@ -2,3 +2,4 @@ pub mod Joined
 pub mod Segments
 pub mod Views
 pub mod Equal
+pub mod AttributeTrees

@@ -5,6 +5,7 @@
 mod ask;
 mod build;
 mod copy;
+mod format_value;
 mod known_format;
 mod laws;
 mod path;

@@ -1,7 +1,9 @@
 use crate::{GenericType, KnownFormat, PrimitiveType, SchemaPath, SchemaType, TypeTree, ValueType};
-use diag::{List, Span, Text};
+use diag::{DeriveError, Kind, List, Span, Text};
 use schema_core::{SchemaTypeInner, TypeWord};
 use std::process::Abort;
+use std::test::Fail;
+use tokens::{Bracket, Group, Token, TokenKind, TokenTree};
 use written_types::{GenericArgument, Ident, Path, PathSegment, WrittenType};
 
 fn ident<R: Abort + AllocGlobal>(rt: &R, word: &str) -> Ident {
@@ -459,4 +461,149 @@ fn trait_objects(rt: HostRuntime) {
     let arguments = list_of(&rt, Some(plain(&rt, "T")));
     let object = WrittenType::TraitObject(path(&rt, &[], "A", arguments, 4), SPAN);
     assert!(rt; has_tree(&rt, object, &BOUND));
+}
+
+fn token<R: Abort + AllocGlobal>(rt: &R, kind: TokenKind, text: &str, start: usize) -> TokenTree {
+    TokenTree::Token(Token {
+        kind,
+        text: Text::new(rt.alloc(), text).expect(rt, "a text"),
+        span: Span {
+            start,
+            end: start + text.len(),
+        },
+    })
+}
+
+fn group<R: AllocGlobal>(rt: &R, start: usize, end: usize) -> TokenTree {
+    TokenTree::Group(Group {
+        bracket: Bracket::Round,
+        trees: List::new(rt.alloc()),
+        span: Span { start, end },
+    })
+}
+
+fn attribute<R: Abort + AllocGlobal>(rt: &R) -> Ident {
+    Ident {
+        text: Text::new(rt.alloc(), "format").expect(rt, "a text"),
+        raw: false,
+        span: Span { start: 3, end: 9 },
+    }
+}
+
+fn custom<R: Abort + AllocGlobal>(rt: &R, text: &str) -> KnownFormat {
+    KnownFormat::Custom(Text::new(rt.alloc(), text).expect(rt, "a text"))
+}
+
+#[test]
+fn formats_in_attributes(rt: HostRuntime) -> Result<(), Fail> {
+    let cases = [
+        (TokenKind::Ident, "Int32", KnownFormat::Int32),
+        (TokenKind::Ident, "Int64", KnownFormat::Int64),
+        (TokenKind::Ident, "Float", KnownFormat::Float),
+        (TokenKind::Ident, "Double", KnownFormat::Double),
+        (TokenKind::Ident, "Byte", KnownFormat::Byte),
+        (TokenKind::Ident, "Binary", KnownFormat::Binary),
+        (TokenKind::Ident, "Date", KnownFormat::Date),
+        (TokenKind::Ident, "DateTime", KnownFormat::DateTime),
+        (TokenKind::Ident, "Duration", KnownFormat::Duration),
+        (TokenKind::Ident, "Password", KnownFormat::Password),
+        (TokenKind::Ident, "Email", KnownFormat::Email),
+        (TokenKind::Ident, "IdnEmail", KnownFormat::IdnEmail),
+        (TokenKind::Ident, "Hostname", KnownFormat::Hostname),
+        (TokenKind::Ident, "IdnHostname", KnownFormat::IdnHostname),
+        (TokenKind::Ident, "Ipv4", KnownFormat::Ipv4),
+        (TokenKind::Ident, "Ipv6", KnownFormat::Ipv6),
+        (TokenKind::Ident, "UriTemplate", KnownFormat::UriTemplate),
+        (TokenKind::Ident, "JsonPointer", KnownFormat::JsonPointer),
+        (
+            TokenKind::Ident,
+            "RelativeJsonPointer",
+            KnownFormat::RelativeJsonPointer,
+        ),
+        (TokenKind::Ident, "Regex", KnownFormat::Regex),
+        (TokenKind::Ident, "r#Regex", KnownFormat::Regex),
+        (TokenKind::Literal, "\"uuid\"", custom(&rt, "uuid")),
+        (TokenKind::Literal, "\"Int32\"", custom(&rt, "Int32")),
+        (TokenKind::Literal, "r#\"a\\n\"#", custom(&rt, "a\\n")),
+        (TokenKind::Literal, "\"\"", custom(&rt, "")),
+    ];
+    for (kind, text, format) in cases {
+        let trees = [token(&rt, kind, text, 20)];
+        let found = KnownFormat::parse(rt.alloc(), trees.as_slice(), &attribute(&rt));
+        match found {
+            Ok(found) => assert_eq!(rt; found, format, "{text}"),
+            Err(_) => assert!(rt; false, "{text}"),
+        }
+    }
+    Ok(())
+}
+
+/// Whether the trees are refused at the bytes with the message.
+fn is_refused<R: Abort + AllocGlobal>(
+    rt: &R,
+    trees: &[TokenTree],
+    start: usize,
+    end: usize,
+    message: &str,
+) -> bool {
+    match KnownFormat::parse(rt.alloc(), trees, &attribute(rt)) {
+        Err(DeriveError::Refused(refusal)) => {
+            refusal.kind() == Kind::BadValue
+                && refusal.span().start == start
+                && refusal.span().end == end
+                && refusal.message() == message
+        }
+        _ => false,
+    }
+}
+
+#[test]
+fn other_formats_are_refused(rt: HostRuntime) -> Result<(), Fail> {
+    let expected =
+        "expected one of: Int32, Int64, Float, Double, Byte, Binary, Date, DateTime, Duration, Password, Email, IdnEmail, Hostname, IdnHostname, Ipv4, Ipv6, UriTemplate, JsonPointer, RelativeJsonPointer, Regex";
+    for name in ["Uuid", "int32", "Custom", "Unknown", "type", "_", "true"] {
+        let message = format!(in rt.alloc(); "unexpected format: {name}, {expected}")?;
+        let trees = [token(&rt, TokenKind::Ident, name, 20)];
+        let end = 20 + name.len();
+        assert!(rt;
+            is_refused(&rt, trees.as_slice(), 20, end, message.as_str()),
+            "{name}"
+        );
+    }
+    let raw = [token(&rt, TokenKind::Ident, "r#type", 20)];
+    let message = format!(in rt.alloc(); "unexpected format: type, {expected}")?;
+    assert!(rt; is_refused(&rt, raw.as_slice(), 20, 26, message.as_str()));
+
+    let message = "unexpected value of format";
+    for literal in ["1", "'a'", "b\"a\"", "\"a\"u8", "1.5"] {
+        let trees = [token(&rt, TokenKind::Literal, literal, 20)];
+        let end = 20 + literal.len();
+        assert!(rt;
+            is_refused(&rt, trees.as_slice(), 20, end, message),
+            "{literal}"
+        );
+    }
+    assert!(rt; is_refused(&rt, &[], 3, 9, message));
+    assert!(rt; is_refused(&rt, [group(&rt, 20, 25)].as_slice(), 20, 25, message));
+    assert!(rt;
+        is_refused(
+            &rt,
+            [token(&rt, TokenKind::Punct, "-", 20)].as_slice(),
+            20,
+            21,
+            message
+        )
+    );
+    let two = [
+        token(&rt, TokenKind::Ident, "Int32", 20),
+        token(&rt, TokenKind::Literal, "\"a\"", 26),
+    ];
+    assert!(rt; is_refused(&rt, two.as_slice(), 20, 29, message));
+    let three = [
+        token(&rt, TokenKind::Ident, "Date", 20),
+        token(&rt, TokenKind::Punct, "!", 24),
+        group(&rt, 25, 27),
+    ];
+    assert!(rt; is_refused(&rt, three.as_slice(), 20, 27, message));
+    Ok(())
 }
