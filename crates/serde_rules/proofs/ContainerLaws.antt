@@ -1,14 +1,17 @@
 -- What items say of a struct or an enum, with one item more.
-use Rattle.std.proofs.Common.{◌≡◌, ◌≢◌, ◌<◌, ℕ, suc, List, [], ◌∷◌, ◌++◌, length, take, drop, get_or, Bool, true, false, ◌||◌, ◌&&◌, cond, IsTrue, Option, Some, None, IsSome, is_some, MatchOption, Result, Ok, Err, refl, ap, sym, subst, ◌∙◌, ◌⊎◌, inl, inr, codes, fold, find, bytes_eq}
+use Rattle.std.proofs.Common.{◌≡◌, ◌≢◌, ◌<◌, ℕ, zero, suc, arith, IsSomeAnd, option_map, List, [], ◌∷◌, ◌++◌, length, take, drop, get_or, Bool, true, false, ◌||◌, ◌&&◌, cond, Option, Some, None, IsSome, is_some, MatchOption, Result, Ok, Err, refl, ap, sym, subst, ◌∙◌, ◌⊎◌, inl, inr, codes, fold, find, bytes_eq}
 use Rattle.std.specs.List.{list_all}
 use Rattle.std.specs.Option.{option_or, option_and_then, option_map_or}
 use Rattle.std.proofs.Common.{drop-cons}
 use Rattle.std.proofs.lemmas.List.{take-append-drop}
 use Rattle.std.proofs.lemmas.List.Sums.{fold-append}
 use Rattle.std.proofs.lemmas.Slice.Eq.{bytes_eq-Decides}
+use Rattle.diag.specs.Refusal.{IsRefusal}
+use Rattle.diag.specs.declared.kind.Kind.TheVariants.{BadValue}
 use Rattle.diag.specs.declared.error.DeriveError.{DeriveError}
 use Rattle.diag.specs.declared.error.DeriveError.TheVariants.{Memory}
 use Rattle.attributes.specs.declared.serde_item.SerdeItem.{SerdeItem}
+use Rattle.attributes.specs.declared.serde_item.SerdeText.{SerdeText}
 use Rattle.std.specs.Result.{result_ok}
 use Rattle.renaming.specs.Rules.{name_of, IsRuleNamed}
 use Rattle.renaming.specs.declared.rule.UnknownRule.{UnknownRule}
@@ -17,8 +20,8 @@ use Rattle.renaming.specs.declared.rule.RenameRule.TheVariants.{Lower, Upper, Pa
 use Rattle.serde_rules.specs.declared.container.SerdeContainer.{SerdeContainer}
 use Rattle.serde_rules.specs.declared.enum_repr.SerdeEnumRepr.{SerdeEnumRepr}
 use Rattle.serde_rules.specs.declared.enum_repr.SerdeEnumRepr.TheVariants.{ExternallyTagged}
-use Rattle.serde_rules.specs.Items.{is_named, text_for, last_text}
-use Rattle.serde_rules.specs.Container.{TagFault, with_item, further, representation, all_rules, rule_named, names_known_rule, AreContainerRules, IsTagRefusal, IsRuleRefusal, IsContainerRefusal}
+use Rattle.serde_rules.specs.Items.{is_named, literal_for, text_for, last_text}
+use Rattle.serde_rules.specs.Container.{TagFault, with_item, further, representation, all_rules, rule_named, unknown_rule, names_known_rule, AreContainerRules, IsTagRefusal, IsRuleRefusal, IsContainerRefusal}
 use Rattle.serde_rules.proofs.ItemLaws.{any_more, all_more, last_more}
 
 -- ---- rename rules
@@ -70,6 +73,10 @@ next_known (Some text) so_far rule h = ap is_some h.0 ∙ h.1
 representation_more : (before : List SerdeItem) (item : SerdeItem) → representation (before ++ item ∷ []) ≡ further (representation before) item
 representation_more before item = fold-append further (Ok ExternallyTagged) before (item ∷ [])
 
+and_parts : (a b : Bool) → (a && b) ≡ true → (a ≡ true) × (b ≡ true)
+and_parts true b e = (refl, e)
+and_parts false b e = cc
+
 and_both : (a b : Bool) → a ≡ true → b ≡ true → (a && b) ≡ true
 and_both a b p q = ap (λ x. x && b) p ∙ q
 
@@ -88,7 +95,7 @@ rules_more so_far rules before item next is = record {
       ∙ and_both (list_all names_known_rule before) (names_known_rule item) is.known (next_known (text_for (codes "rename_all") item) so_far.rename_all rules.rename_all next.rename_all);
   enum_repr = representation_more before item ∙ ap (λ r. further r item) is.enum_repr ∙ next.enum_repr;
   default = next.default ∙ ap (λ b. b || is_named (codes "default") item) is.default ∙ sym (any_more (is_named (codes "default")) before item);
-  deny_unknown_fields = next.deny_unknown_fields ∙ ap (λ b. b || is_named (codes "deny_unknown_fields") item) is.deny_unknown_fields ∙ sym (any_more (is_named (codes "deny_unknown_fields")) before item)
+  deny_unknown_fields = next.deny_unknown_fields ∙ ap (λ b. b || is_named (codes "deny_unknown_fields") item) is.deny_unknown_fields ∙ sym (any_more (is_named (codes "deny_unknown_fields")) before item);
 }
 
 -- ---- refusals
@@ -121,3 +128,36 @@ pub refuses : (items : List SerdeItem) (i : ℕ) (item : SerdeItem) (so_far : Se
 refuses items i item so_far e l at is (inl memory) = inl memory
 refuses items i item so_far e l at is (inr (inl tag)) = inr (inl (refused_at items i item so_far.enum_repr e l at is.enum_repr tag))
 refuses items i item so_far e l at is (inr (inr rule)) = inr (inr (i, item, l, sym at, rule))
+
+-- ---- the rules are one, and are no refusal
+
+ok_is : (one other : SerdeEnumRepr) → ◌≡◌ {A = Result SerdeEnumRepr TagFault} (Ok one) (Ok other) → one ≡ other
+ok_is one other e = cc
+
+same_rules : (a s : Option RenameRule) (b t : SerdeEnumRepr) (c u d v : Bool) → a ≡ s → b ≡ t → c ≡ u → d ≡ v
+    → ◌≡◌ {A = SerdeContainer} (record { rename_all = a; enum_repr = b; default = c; deny_unknown_fields = d }) (record { rename_all = s; enum_repr = t; default = u; deny_unknown_fields = v })
+same_rules a s b t c u d v e f g h = cc
+
+pub rules_are_one : (items : List SerdeItem) (rules others : SerdeContainer) → AreContainerRules items rules → AreContainerRules items others → rules ≡ others
+rules_are_one items rules others one other =
+    same_rules _ _ _ _ _ _ _ _ (one.rename_all ∙ sym other.rename_all) (ok_is rules.enum_repr others.enum_repr (sym one.enum_repr ∙ other.enum_repr))
+    (one.default ∙ sym other.default) (one.deny_unknown_fields ∙ sym other.deny_unknown_fields)
+
+no_tag_refusal : (r : Result SerdeEnumRepr TagFault) (repr : SerdeEnumRepr) (e : DeriveError) → r ≡ Ok repr → ¬ IsTagRefusal r e
+no_tag_refusal (Ok other) repr e is h = h
+no_tag_refusal (Err why) repr e is h = cc
+
+known_at : (p : SerdeItem → Bool) (items : List SerdeItem) (i : ℕ) (d : SerdeItem) → list_all p items ≡ true → i < length items → p (get_or items i d) ≡ true
+known_at p [] i d all l = absurd (omega arith)
+known_at p (x ∷ items) zero d all l = (and_parts (p x) (list_all p items) all).0
+known_at p (x ∷ items) (suc i) d all l = known_at p items i d (and_parts (p x) (list_all p items) all).1 (omega arith)
+
+no_rule_refusal : (literal : Option SerdeText) (e : DeriveError) → option_map_or (λ text. is_some (rule_named text)) (option_map (λ l. l.text) literal) true ≡ true
+    → ¬ IsSomeAnd literal (λ l. (rule_named l.text ≡ None) × IsRefusal BadValue l.span unknown_rule e)
+no_rule_refusal None e known h = h
+no_rule_refusal (Some literal) e known h = let none : false ≡ true = sym (ap is_some h.0) ∙ known in cc
+
+pub rules_are_not_refused : (items : List SerdeItem) (rules : SerdeContainer) (e : DeriveError) → AreContainerRules items rules → ¬ IsContainerRefusal items e
+rules_are_not_refused items rules e are (inl tag) = no_tag_refusal (representation items) rules.enum_repr e are.enum_repr tag
+rules_are_not_refused items rules e are (inr (i, item, l, at, rule)) =
+    no_rule_refusal (literal_for (codes "rename_all") item) e (subst (λ x. names_known_rule x ≡ true) at (known_at names_known_rule items i item are.known l)) rule

@@ -14,7 +14,7 @@ value_after rules item = record {
   default = rules.default || is_named (codes "default") item;
   flatten = rules.flatten || is_named (codes "flatten") item;
   skip_serializing_if = rules.skip_serializing_if || is_named (codes "skip_serializing_if") item;
-  double_option = option_map_or is_double_option (text_for (codes "with") item) rules.double_option
+  double_option = option_map_or is_double_option (text_for (codes "with") item) rules.double_option;
 }
 
 map_or-or : (f : List ℕ → Bool) (q o : Option (List ℕ)) → option_map_or f (option_or q o) false ≡ option_map_or f q (option_map_or f o false)

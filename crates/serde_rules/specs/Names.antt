@@ -7,7 +7,7 @@ use Rattle.renaming.specs.Rows.{row_to}
 use Rattle.serde_rules.specs.declared.rows.NoRow.{NoRow}
 
 abbrev pub no_row : NoRow
-no_row = record { }
+no_row = record {}
 
 -- a row is wanted
 abbrev pub by_row : Option (List ℕ) → Result (Option (List ℕ)) NoRow

@@ -21,7 +21,7 @@ value_rules items = record {
   default = has_item (codes "default") items;
   flatten = has_item (codes "flatten") items;
   skip_serializing_if = has_item (codes "skip_serializing_if") items;
-  double_option = option_map_or is_double_option (last_text (codes "with") items) false
+  double_option = option_map_or is_double_option (last_text (codes "with") items) false;
 }
 
 -- the member of a field of these rules is always there

@@ -1,9 +1,10 @@
 //! What serde's items say of a struct or an enum.
 
-ghost use Rattle.std.specs.Prelude.{◌≡◌, ◌⊎◌, List, [], ◌∷◌, ◌++◌, map, IfOk, IfErr, MatchOption, IsSome, codes};
+ghost use Rattle.std.specs.Prelude.{◌≡◌, ◌⊎◌, List, [], ◌∷◌, ◌++◌, map, IfOk, OnOk, IfErr, MatchOption, IsSome, codes};
 ghost use Rattle.attributes.specs.Attributes.{attribute_view};
 ghost use Rattle.attributes.specs.AttributeReading.{serde_items};
 ghost use Rattle.attributes.specs.declared.serde_item.SerdeItem.{SerdeItem as AnyItem};
+ghost use Rattle.diag.specs.declared.error.DeriveError.{DeriveError as AnyError};
 ghost use Rattle.serde_rules.specs.Container.{rule_named, with_item, IsTagRefusal, IsRuleRefusal, IsContainerRefusal, AreContainerRules};
 ghost use Rattle.serde_rules.specs.Items.{text_for};
 
@@ -78,11 +79,13 @@ fn read_item(
 
 /// What serde's attributes say of the struct or the enum that has them. A tag or a content that the items before it rule out
 /// is refused with the kind `SerdeTag`, and the name of a rename rule that there is not with `BadValue`.
+#[tactic(auto, using(crate::proofs::ContainerLaws::rules_are_not_refused))]
 pub fn parse_container(
     alloc: Global,
     attributes: &[Attribute],
 ) -> Result<SerdeContainer, DeriveError>
     ensures read { IfOk result (AreContainerRules (serde_items (map attribute_view attributes.now))) }
+    ensures allowed { OnOk result ((e : AnyError) → ¬ IsContainerRefusal (serde_items (map attribute_view attributes.now)) e) }
     ensures refused { IfErr result (λ e. (e ≡ DeriveError.Memory)
         ⊎ IsContainerRefusal (serde_items (map attribute_view attributes.now)) e) }
 {

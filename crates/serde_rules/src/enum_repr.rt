@@ -9,22 +9,20 @@ use attributes::{SerdeItem, SerdeText};
 use diag::{DeriveError, Diagnostics, Kind, Text};
 use std::alloc::{AllocError, Global};
 
-/// How the values of an enum are represented. `UnfinishedAdjacentlyTagged` has a content without a tag.
+/// How the values of an enum are represented. The default is what holds without attributes.
 #[derive(Debug, Default, Drop, PartialEq, Eq)]
 pub enum SerdeEnumRepr {
+    /// An object with the variant's name as its only member's name.
     #[default]
     ExternallyTagged,
-    InternallyTagged {
-        tag: Text,
-    },
-    AdjacentlyTagged {
-        tag: Text,
-        content: Text,
-    },
+    /// The variant's name is the value of a member among the others.
+    InternallyTagged { tag: Text },
+    /// The variant's name is the value of one member, and what the variant holds that of another.
+    AdjacentlyTagged { tag: Text, content: Text },
+    /// What the variant holds, without its name.
     Untagged,
-    UnfinishedAdjacentlyTagged {
-        content: Text,
-    },
+    /// A content is named and no tag, as it is up to the tag of an adjacently tagged enum.
+    UnfinishedAdjacentlyTagged { content: Text },
 }
 
 impl SerdeEnumRepr {
@@ -106,8 +104,8 @@ fn with_content(
             let content = literal.text.copy(alloc)?;
             return Ok(SerdeEnumRepr::AdjacentlyTagged { tag, content });
         }
-        SerdeEnumRepr::UnfinishedAdjacentlyTagged { .. }
-        | SerdeEnumRepr::AdjacentlyTagged { .. } => "Duplicate serde content argument",
+        SerdeEnumRepr::UnfinishedAdjacentlyTagged { .. } | SerdeEnumRepr::AdjacentlyTagged { .. } =>
+            "Duplicate serde content argument",
         SerdeEnumRepr::Untagged => "Untagged enum cannot have content",
     };
     Err(refusal(alloc, Kind::SerdeTag, literal, message))

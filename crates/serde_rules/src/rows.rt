@@ -23,9 +23,11 @@ pub trait Rename {
 }
 
 /// The variants of an enum.
+#[derive(Clone, Copy, Debug)]
 pub struct VariantRename;
 
 /// The fields of a struct or of a variant.
+#[derive(Clone, Copy, Debug)]
 pub struct FieldRename;
 
 impl Rename for VariantRename {

@@ -69,11 +69,7 @@ fn is_double_option(so_far: bool, item: &SerdeItem) -> bool
 }
 
 /// What the items so far and one item more say.
-fn with_item(
-    alloc: Global,
-    so_far: SerdeValue,
-    item: &SerdeItem,
-) -> Result<SerdeValue, AllocError>
+fn read_item(alloc: Global, so_far: SerdeValue, item: &SerdeItem) -> Result<SerdeValue, AllocError>
     ensures { IfOk result (λ rules. (before : List AnyItem) → so_far ≡ value_rules before → rules ≡ value_rules (before ++ item.now ∷ [])) }
 {
     Ok(SerdeValue {
@@ -93,7 +89,7 @@ pub fn parse_value(alloc: Global, attributes: &[Attribute]) -> Result<SerdeValue
     let items = serde_items(alloc, attributes)?;
     let mut rules = SerdeValue::default();
     for item in items.as_slice() {
-        rules = with_item(alloc, rules, item)?;
+        rules = read_item(alloc, rules, item)?;
     }
     Ok(rules)
 }

@@ -1,8 +1,6 @@
-use Rattle.std.proofs.Common.{◌≡◌, ◌⊎◌, map, subst, ◌∙◌}
+use Rattle.std.proofs.Common.{◌≡◌, ◌⊎◌, subst, ◌∙◌}
 use Rattle.std.proofs.lemmas.Result.{err_from_is_err_and}
 use Rattle.diag.specs.declared.error.DeriveError.TheVariants.{Memory}
-use Rattle.attributes.specs.Attributes.{attribute_view}
-use Rattle.attributes.specs.AttributeReading.{serde_items}
 use Rattle.serde_rules.specs.Container.{IsContainerRefusal}
 use Rattle.serde_rules.proofs.ContainerLaws.{refuses}
 use Rattle.serde_rules.proofs.container.parse_container.Goals as goal

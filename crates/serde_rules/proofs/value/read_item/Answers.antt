@@ -1,5 +1,5 @@
 use Rattle.serde_rules.proofs.ValueLaws.{value_next}
-use Rattle.serde_rules.proofs.value.with_item.Goals as goal
+use Rattle.serde_rules.proofs.value.read_item.Goals as goal
 
 pub returns : goal.returns
 returns c = λ before is.
