@@ -26,18 +26,29 @@ use Rattle.serde_rules.proofs.ItemLaws.{any_more, all_more, last_more}
 
 -- ---- rename rules
 
+pub found_by_name : (rule : RenameRule) → rule_named (name_of rule) ≡ Some rule
+found_by_name Lower = refl
+found_by_name Upper = refl
+found_by_name Pascal = refl
+found_by_name Camel = refl
+found_by_name Snake = refl
+found_by_name ScreamingSnake = refl
+found_by_name Kebab = refl
+found_by_name ScreamingKebab = refl
+
 named_is : (rule : RenameRule) (text : List ℕ) → name_of rule ≡ text → rule_named text ≡ Some rule
-named_is rule text e = subst (λ t. rule_named t ≡ Some rule) e (own rule)
+named_is rule text e = subst (λ t. rule_named t ≡ Some rule) e (found_by_name rule)
+
+found_passes : {A : Type 0} (p : A → Bool) (xs : List A) (x : A) → find p xs ≡ Some x → p x ≡ true
+found_passes p [] x e = cc
+found_passes p (y ∷ xs) x e = by (p y) refl e (found_passes p xs x)
   where
-    own : (rule : RenameRule) → rule_named (name_of rule) ≡ Some rule
-    own Lower = refl
-    own Upper = refl
-    own Pascal = refl
-    own Camel = refl
-    own Snake = refl
-    own ScreamingSnake = refl
-    own Kebab = refl
-    own ScreamingKebab = refl
+    by : (b : Bool) → p y ≡ b → cond b (Some y) (find p xs) ≡ Some x → (find p xs ≡ Some x → p x ≡ true) → p x ≡ true
+    by true is f later = let same : y ≡ x = cc in subst (λ z. p z ≡ true) same is
+    by false is f later = later f
+
+pub found_has_name : (text : List ℕ) (rule : RenameRule) → rule_named text ≡ Some rule → name_of rule ≡ text
+found_has_name text rule e = (bytes_eq-Decides (name_of rule) text).0 (found_passes (λ rule. bytes_eq (name_of rule) text) all_rules rule e)
 
 not_true : (b : Bool) → (b ≡ true → ⊥) → b ≡ false
 not_true true h = absurd (h refl)

@@ -2,7 +2,7 @@ use crate::names::rename;
 use crate::{
     FieldRename, NoRow, SerdeContainer, SerdeEnumRepr, SerdeValue, VariantRename,
     container_rules_are_one, has_serde_item, is_required, last_text_counts, lists_are_one,
-    parse_container, parse_value,
+    parse_container, parse_value, rules_are_found_by_name,
 };
 use attributes::{Attribute, attributes_at};
 use diag::{DeriveError, List, Text};
@@ -184,6 +184,7 @@ fn reads_containers(rt: HostRuntime) -> Result<(), Fail> {
     container_rules_are_one();
     lists_are_one();
     last_text_counts();
+    rules_are_found_by_name();
     Ok(())
 }
 
