@@ -1,0 +1,174 @@
+-- What items say of a struct or an enum, with one item more.
+use Rattle.std.proofs.Common.{◌≡◌, ◌≢◌, ◌<◌, ℕ, zero, suc, arith, IsSomeAnd, option_map, List, [], ◌∷◌, ◌++◌, length, take, drop, get_or, Bool, true, false, ◌||◌, ◌&&◌, cond, Option, Some, None, IsSome, is_some, MatchOption, Result, Ok, Err, refl, ap, sym, subst, ◌∙◌, ◌⊎◌, inl, inr, codes, fold, find, bytes_eq}
+use Rattle.std.specs.List.{list_all}
+use Rattle.std.specs.Option.{option_or, option_and_then, option_map_or}
+use Rattle.std.proofs.Common.{drop-cons}
+use Rattle.std.proofs.lemmas.List.{take-append-drop}
+use Rattle.std.proofs.lemmas.List.Sums.{fold-append}
+use Rattle.std.proofs.lemmas.Slice.Eq.{bytes_eq-Decides}
+use Rattle.diag.specs.Refusal.{IsRefusal}
+use Rattle.diag.specs.declared.kind.Kind.TheVariants.{BadValue}
+use Rattle.diag.specs.declared.error.DeriveError.{DeriveError}
+use Rattle.diag.specs.declared.error.DeriveError.TheVariants.{Memory}
+use Rattle.attributes.specs.declared.serde_item.SerdeItem.{SerdeItem}
+use Rattle.attributes.specs.declared.serde_item.SerdeText.{SerdeText}
+use Rattle.std.specs.Result.{result_ok}
+use Rattle.renaming.specs.Rules.{name_of, IsRuleNamed}
+use Rattle.renaming.specs.declared.rule.UnknownRule.{UnknownRule}
+use Rattle.renaming.specs.declared.rule.RenameRule.{RenameRule}
+use Rattle.renaming.specs.declared.rule.RenameRule.TheVariants.{Lower, Upper, Pascal, Camel, Snake, ScreamingSnake, Kebab, ScreamingKebab}
+use Rattle.serde_rules.specs.declared.container.SerdeContainer.{SerdeContainer}
+use Rattle.serde_rules.specs.declared.enum_repr.SerdeEnumRepr.{SerdeEnumRepr}
+use Rattle.serde_rules.specs.declared.enum_repr.SerdeEnumRepr.TheVariants.{ExternallyTagged}
+use Rattle.serde_rules.specs.Items.{is_named, literal_for, text_for, last_text}
+use Rattle.serde_rules.specs.Container.{TagFault, with_item, further, representation, all_rules, rule_named, unknown_rule, names_known_rule, AreContainerRules, IsTagRefusal, IsRuleRefusal, IsContainerRefusal}
+use Rattle.serde_rules.proofs.ItemLaws.{any_more, all_more, last_more}
+
+-- ---- rename rules
+
+pub found_by_name : (rule : RenameRule) → rule_named (name_of rule) ≡ Some rule
+found_by_name Lower = refl
+found_by_name Upper = refl
+found_by_name Pascal = refl
+found_by_name Camel = refl
+found_by_name Snake = refl
+found_by_name ScreamingSnake = refl
+found_by_name Kebab = refl
+found_by_name ScreamingKebab = refl
+
+named_is : (rule : RenameRule) (text : List ℕ) → name_of rule ≡ text → rule_named text ≡ Some rule
+named_is rule text e = subst (λ t. rule_named t ≡ Some rule) e (found_by_name rule)
+
+found_passes : {A : Type 0} (p : A → Bool) (xs : List A) (x : A) → find p xs ≡ Some x → p x ≡ true
+found_passes p [] x e = cc
+found_passes p (y ∷ xs) x e = by (p y) refl e (found_passes p xs x)
+  where
+    by : (b : Bool) → p y ≡ b → cond b (Some y) (find p xs) ≡ Some x → (find p xs ≡ Some x → p x ≡ true) → p x ≡ true
+    by true is f later = let same : y ≡ x = cc in subst (λ z. p z ≡ true) same is
+    by false is f later = later f
+
+pub found_has_name : (text : List ℕ) (rule : RenameRule) → rule_named text ≡ Some rule → name_of rule ≡ text
+found_has_name text rule e = (bytes_eq-Decides (name_of rule) text).0 (found_passes (λ rule. bytes_eq (name_of rule) text) all_rules rule e)
+
+not_true : (b : Bool) → (b ≡ true → ⊥) → b ≡ false
+not_true true h = absurd (h refl)
+not_true false h = refl
+
+find_none : {A : Type 0} (p : A → Bool) (xs : List A) → ((x : A) → p x ≡ false) → find p xs ≡ None
+find_none p [] h = refl
+find_none p (x ∷ xs) h = ap (λ b. cond b (Some x) (find p xs)) (h x) ∙ find_none p xs h
+
+named_none : (text : List ℕ) → ((rule : RenameRule) → name_of rule ≢ text) → rule_named text ≡ None
+named_none text h = find_none (λ rule. bytes_eq (name_of rule) text) all_rules (λ rule. not_true (bytes_eq (name_of rule) text) (λ e. h rule ((bytes_eq-Decides (name_of rule) text).0 e)))
+
+-- reading a name finds its rule
+pub named : (text : List ℕ) (read : Result RenameRule UnknownRule) → IsRuleNamed text read → result_ok read ≡ rule_named text
+named text (Ok rule) h = sym (named_is rule text h)
+named text (Err e) h = sym (named_none text h)
+
+-- ---- one item more
+
+abbrev pub NextRule : Option RenameRule → SerdeItem → Option RenameRule → Type 0
+NextRule so_far item rule = MatchOption (text_for (codes "rename_all") item) (rule ≡ so_far) (λ text. (rule_named text ≡ rule) × IsSome rule)
+
+next_rule : (name last : Option (List ℕ)) (so_far rule : Option RenameRule) → so_far ≡ option_and_then rule_named last → MatchOption name (rule ≡ so_far) (λ text. (rule_named text ≡ rule) × IsSome rule)
+    → rule ≡ option_and_then rule_named (option_or name last)
+next_rule None last so_far rule e h = h ∙ e
+next_rule (Some text) last so_far rule e h = sym h.0
+
+next_known : (name : Option (List ℕ)) (so_far rule : Option RenameRule) → MatchOption name (rule ≡ so_far) (λ text. (rule_named text ≡ rule) × IsSome rule)
+    → option_map_or (λ text. is_some (rule_named text)) name true ≡ true
+next_known None so_far rule h = refl
+next_known (Some text) so_far rule h = ap is_some h.0 ∙ h.1
+
+representation_more : (before : List SerdeItem) (item : SerdeItem) → representation (before ++ item ∷ []) ≡ further (representation before) item
+representation_more before item = fold-append further (Ok ExternallyTagged) before (item ∷ [])
+
+and_parts : (a b : Bool) → (a && b) ≡ true → (a ≡ true) × (b ≡ true)
+and_parts true b e = (refl, e)
+and_parts false b e = cc
+
+and_both : (a b : Bool) → a ≡ true → b ≡ true → (a && b) ≡ true
+and_both a b p q = ap (λ x. x && b) p ∙ q
+
+pub record IsNext (so_far : SerdeContainer) (item : SerdeItem) (rules : SerdeContainer) : Type 0 where
+  pub rename_all : NextRule so_far.rename_all item rules.rename_all
+  pub enum_repr : with_item item so_far.enum_repr ≡ Ok rules.enum_repr
+  pub default : rules.default ≡ (so_far.default || is_named (codes "default") item)
+  pub deny_unknown_fields : rules.deny_unknown_fields ≡ (so_far.deny_unknown_fields || is_named (codes "deny_unknown_fields") item)
+
+-- the rules of the items before, and of one item more
+pub rules_more : (so_far rules : SerdeContainer) (before : List SerdeItem) (item : SerdeItem) → IsNext so_far item rules → AreContainerRules before so_far → AreContainerRules (before ++ item ∷ []) rules
+rules_more so_far rules before item next is = record {
+  rename_all = next_rule (text_for (codes "rename_all") item) (last_text (codes "rename_all") before) so_far.rename_all rules.rename_all is.rename_all next.rename_all
+      ∙ ap (option_and_then rule_named) (sym (last_more (codes "rename_all") before item));
+  known = all_more names_known_rule before item
+      ∙ and_both (list_all names_known_rule before) (names_known_rule item) is.known (next_known (text_for (codes "rename_all") item) so_far.rename_all rules.rename_all next.rename_all);
+  enum_repr = representation_more before item ∙ ap (λ r. further r item) is.enum_repr ∙ next.enum_repr;
+  default = next.default ∙ ap (λ b. b || is_named (codes "default") item) is.default ∙ sym (any_more (is_named (codes "default")) before item);
+  deny_unknown_fields = next.deny_unknown_fields ∙ ap (λ b. b || is_named (codes "deny_unknown_fields") item) is.deny_unknown_fields ∙ sym (any_more (is_named (codes "deny_unknown_fields")) before item);
+}
+
+-- ---- refusals
+
+stays : (why : TagFault) (after : List SerdeItem) → fold further (Err why) after ≡ Err why
+stays why [] = refl
+stays why (item ∷ after) = stays why after
+
+refused_on : (r : Result SerdeEnumRepr TagFault) (after : List SerdeItem) (e : DeriveError) → IsTagRefusal r e → IsTagRefusal (fold further r after) e
+refused_on (Ok repr) after e h = absurd h
+refused_on (Err why) after e h = subst (λ r. IsTagRefusal r e) (sym (stays why after)) h
+
+-- what an item among these contradicts, they contradict
+refused_within : (before after : List SerdeItem) (item : SerdeItem) (repr : SerdeEnumRepr) (e : DeriveError) → representation before ≡ Ok repr → IsTagRefusal (with_item item repr) e
+    → IsTagRefusal (representation (before ++ item ∷ after)) e
+refused_within before after item repr e is h =
+    subst (λ r. IsTagRefusal r e) (sym (fold-append further (Ok ExternallyTagged) before (item ∷ after)))
+    (subst (λ r. IsTagRefusal (fold further (further r item) after) e) (sym is) (refused_on (with_item item repr) after e h))
+
+-- the same at a place of a list
+refused_at : (items : List SerdeItem) (i : ℕ) (item : SerdeItem) (repr : SerdeEnumRepr) (e : DeriveError) → i < length items → item ≡ get_or items i item → representation (take i items) ≡ Ok repr
+    → IsTagRefusal (with_item item repr) e → IsTagRefusal (representation items) e
+refused_at items i item repr e l at is h =
+    subst (λ xs. IsTagRefusal (representation xs) e) (ap (λ xs. take i items ++ xs) (ap (λ x. x ∷ drop (suc i) items) at ∙ sym (drop-cons items i item l)) ∙ take-append-drop i items)
+    (refused_within (take i items) (drop (suc i) items) item repr e is h)
+
+-- what refuses an item refuses the list
+pub refuses : (items : List SerdeItem) (i : ℕ) (item : SerdeItem) (so_far : SerdeContainer) (e : DeriveError) → i < length items → item ≡ get_or items i item → AreContainerRules (take i items) so_far
+    → (e ≡ Memory) ⊎ IsTagRefusal (with_item item so_far.enum_repr) e ⊎ IsRuleRefusal item e → (e ≡ Memory) ⊎ IsContainerRefusal items e
+refuses items i item so_far e l at is (inl memory) = inl memory
+refuses items i item so_far e l at is (inr (inl tag)) = inr (inl (refused_at items i item so_far.enum_repr e l at is.enum_repr tag))
+refuses items i item so_far e l at is (inr (inr rule)) = inr (inr (i, item, l, sym at, rule))
+
+-- ---- the rules are one, and are no refusal
+
+ok_is : (one other : SerdeEnumRepr) → ◌≡◌ {A = Result SerdeEnumRepr TagFault} (Ok one) (Ok other) → one ≡ other
+ok_is one other e = cc
+
+same_rules : (a s : Option RenameRule) (b t : SerdeEnumRepr) (c u d v : Bool) → a ≡ s → b ≡ t → c ≡ u → d ≡ v
+    → ◌≡◌ {A = SerdeContainer} (record { rename_all = a; enum_repr = b; default = c; deny_unknown_fields = d }) (record { rename_all = s; enum_repr = t; default = u; deny_unknown_fields = v })
+same_rules a s b t c u d v e f g h = cc
+
+pub rules_are_one : (items : List SerdeItem) (rules others : SerdeContainer) → AreContainerRules items rules → AreContainerRules items others → rules ≡ others
+rules_are_one items rules others one other =
+    same_rules _ _ _ _ _ _ _ _ (one.rename_all ∙ sym other.rename_all) (ok_is rules.enum_repr others.enum_repr (sym one.enum_repr ∙ other.enum_repr))
+    (one.default ∙ sym other.default) (one.deny_unknown_fields ∙ sym other.deny_unknown_fields)
+
+no_tag_refusal : (r : Result SerdeEnumRepr TagFault) (repr : SerdeEnumRepr) (e : DeriveError) → r ≡ Ok repr → ¬ IsTagRefusal r e
+no_tag_refusal (Ok other) repr e is h = h
+no_tag_refusal (Err why) repr e is h = cc
+
+known_at : (p : SerdeItem → Bool) (items : List SerdeItem) (i : ℕ) (d : SerdeItem) → list_all p items ≡ true → i < length items → p (get_or items i d) ≡ true
+known_at p [] i d all l = absurd (omega arith)
+known_at p (x ∷ items) zero d all l = (and_parts (p x) (list_all p items) all).0
+known_at p (x ∷ items) (suc i) d all l = known_at p items i d (and_parts (p x) (list_all p items) all).1 (omega arith)
+
+no_rule_refusal : (literal : Option SerdeText) (e : DeriveError) → option_map_or (λ text. is_some (rule_named text)) (option_map (λ l. l.text) literal) true ≡ true
+    → ¬ IsSomeAnd literal (λ l. (rule_named l.text ≡ None) × IsRefusal BadValue l.span unknown_rule e)
+no_rule_refusal None e known h = h
+no_rule_refusal (Some literal) e known h = let none : false ≡ true = sym (ap is_some h.0) ∙ known in cc
+
+pub rules_are_not_refused : (items : List SerdeItem) (rules : SerdeContainer) (e : DeriveError) → AreContainerRules items rules → ¬ IsContainerRefusal items e
+rules_are_not_refused items rules e are (inl tag) = no_tag_refusal (representation items) rules.enum_repr e are.enum_repr tag
+rules_are_not_refused items rules e are (inr (i, item, l, at, rule)) =
+    no_rule_refusal (literal_for (codes "rename_all") item) e (subst (λ x. names_known_rule x ≡ true) at (known_at names_known_rule items i item are.known l)) rule

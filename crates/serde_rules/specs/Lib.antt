@@ -1,0 +1,4 @@
+pub mod Items
+pub mod Value
+pub mod Container
+pub mod Names
