@@ -5,10 +5,9 @@ use Rattle.diag.specs.declared.span.Span.{Span}
 use Rattle.written_types.specs.declared.written.Ident.{Ident}
 use Rattle.words.specs.declared.stopping.Stop.{Stop}
 use Rattle.words.specs.declared.stopping.Stop.TheVariants as stop
-use Rattle.words.specs.declared.vocabulary.Sign.{Sign}
 use Rattle.words.specs.declared.vocabulary.Sign.TheVariants.{Colons}
 use Rattle.words.specs.Words.{Word, sign}
-use Rattle.words.specs.Reading.{Fault, deep, wrong, Read, ◌>>=◌, taken, first_as, as_sign, sign_at, Fails}
+use Rattle.words.specs.Reading.{Fault, deep, wrong, Read, ◌>>=◌, taken, as_sign, sign_at, Fails}
 use Rattle.lists.proofs.Read.{bind_ok, bind_err, along, first_shallow}
 use Rattle.lists.proofs.Stands.{sign-is, as_sign-is}
 use Rattle.written_types.specs.Written.{WrittenPath}

@@ -1,15 +1,14 @@
 -- Serde's items: what is read is the grammar's, and no less.
-use Rattle.std.proofs.Common.{◌≡◌, ◌∙◌, ◌<◌, ◌≤◌, ◌⊎◌, inl, inr, ℕ, zero, suc, List, [], ◌∷◌, ◌++◌, length, refl, ap, sym, subst, arith, Bool, true, false, cond, is_some, Option, Some, None, Result, Ok, Err}
+use Rattle.std.proofs.Common.{◌≡◌, ◌∙◌, ◌<◌, inl, inr, ℕ, zero, suc, List, [], ◌∷◌, length, refl, ap, sym, subst, arith, Bool, true, false, cond, is_some, Option, Some, None, Result, Ok, Err}
 use Rattle.diag.specs.declared.span.Span.{Span}
 use Rattle.tokens.specs.declared.token.Token.{Token}
 use Rattle.written_types.specs.declared.written.Ident.{Ident}
 use Rattle.written_types.specs.Written.{Written}
-use Rattle.words.specs.declared.vocabulary.Sign.{Sign}
 use Rattle.words.specs.declared.vocabulary.Sign.TheVariants.{Comma, Equals}
-use Rattle.words.specs.Words.{Word, name, underscore, keyword, sign, lifetime, literal, doc, group, words_of}
+use Rattle.words.specs.Words.{Word, name, underscore, keyword, sign, lifetime, literal, doc, group}
 use Rattle.words.specs.Reading.{Fault, deep, wrong, Read, ◌>>=◌, taken, first_as, as_literal, as_sign, literal_at}
 use Rattle.lists.specs.Lists.{IsList, after_comma, turn_at, many_at, many_of, itself, list_of}
-use Rattle.lists.proofs.Read.{bind_ok, bind_err, ok_is, along, first_is, first_shallow}
+use Rattle.lists.proofs.Read.{bind_ok, along, first_is, first_shallow}
 use Rattle.lists.proofs.Stands.{as_sign-is}
 use Rattle.lists.proofs.Many.{Shortens}
 use Rattle.lists.proofs.Sound.{turn_shortens, list_sound}
@@ -18,7 +17,7 @@ use Rattle.lists.proofs.Complete.{Ends, at_end, at_comma}
 use Rattle.literal_values.specs.Values.{text_value}
 use Rattle.attributes.specs.declared.serde_item.SerdeItem.{SerdeItem}
 use Rattle.attributes.specs.declared.serde_item.SerdeText.{SerdeText}
-use Rattle.attributes.specs.AttributeWords.{as_ident, bare_item, text_item}
+use Rattle.attributes.specs.AttributeWords.{as_ident, text_item}
 use Rattle.attributes.specs.AttributeGrammar.{IsSerdeItem, bare, texted, grouped}
 use Rattle.attributes.specs.AttributeReading.{ident_at, text_from, text_at, value_at, serde_item_at}
 

@@ -1,27 +1,22 @@
 -- Attributes: what is read is the grammar's, and no less.
-use Rattle.std.proofs.Common.{◌≡◌, ◌∙◌, ◌<◌, ◌≤◌, ◌⊎◌, inl, inr, ℕ, zero, suc, List, [], ◌∷◌, ◌++◌, length, refl, ap, sym, subst, arith, codes, Bool, true, false, cond, ◌||◌, is_some, Option, Some, None, Result, Ok, Err}
+use Rattle.std.proofs.Common.{◌≡◌, ◌∙◌, ◌<◌, ◌≤◌, ℕ, zero, suc, List, [], ◌∷◌, ◌++◌, length, refl, ap, sym, subst, arith, codes, Bool, true, false, cond, ◌||◌, is_some, Option, Some, None, Result, Ok, Err}
 use Rattle.diag.specs.declared.span.Span.{Span}
-use Rattle.tokens.specs.declared.token.Token.{Token}
 use Rattle.tokens.specs.declared.token.Bracket.{Bracket}
 use Rattle.tokens.specs.declared.token.Bracket.TheVariants.{Square}
 use Rattle.tokens.specs.Trees.{Trees}
-use Rattle.written_types.specs.declared.written.Ident.{Ident}
 use Rattle.written_types.specs.Written.{WrittenPath}
 use Rattle.words.specs.declared.stopping.Stop.{Stop}
-use Rattle.words.specs.declared.stopping.Stop.TheVariants as stop
-use Rattle.words.specs.declared.vocabulary.Sign.{Sign}
 use Rattle.words.specs.declared.vocabulary.Sign.TheVariants.{Equals, Hash}
 use Rattle.words.specs.Words.{Word, name, underscore, keyword, sign, lifetime, literal, doc, group, words_of, cover}
-use Rattle.words.specs.Reading.{Fault, deep, wrong, Read, ◌>>=◌, taken, first_as, as_group, as_sign, sign_at, group_at, Fails}
-use Rattle.lists.specs.Lists.{IsList, list_of}
-use Rattle.lists.proofs.Read.{bind_ok, bind_err, ok_is, along}
+use Rattle.words.specs.Reading.{Fault, Read, ◌>>=◌, as_group, as_sign, sign_at, group_at, Fails}
+use Rattle.lists.proofs.Read.{bind_ok, ok_is, along}
 use Rattle.lists.proofs.Stands.{sign-is, as_sign-is, group-is}
 use Rattle.attributes.specs.declared.serde_item.SerdeItem.{SerdeItem}
 use Rattle.attributes.specs.Attributes.{MetaItem, value, items, AttributeItem, is_word}
 use Rattle.attributes.specs.Attributes as item
 use Rattle.attributes.specs.AttributeWords.{as_outer_doc, path_item, attribute_item, kept}
-use Rattle.attributes.specs.AttributeGrammar.{IsPath, IsMeta, no_meta, valued, listed, IsSerdeItem, IsFormed, of_serde, of_another, IsAttribute, outer_doc, in_brackets, IsAttributes, no_attributes, more_attributes}
-use Rattle.attributes.specs.AttributeReading.{with_before, more_idents_at, path_at, group_meta, value_meta, meta_of, serde_item_at, serde_list, formed, attribute_in, begins_attribute, begin_attributes, attribute_behind, attribute_at, attributes_within, attributes_at}
+use Rattle.attributes.specs.AttributeGrammar.{IsMeta, no_meta, valued, listed, IsFormed, of_serde, of_another, IsAttribute, outer_doc, in_brackets, IsAttributes, no_attributes, more_attributes}
+use Rattle.attributes.specs.AttributeReading.{with_before, more_idents_at, path_at, group_meta, value_meta, meta_of, serde_list, formed, attribute_in, begins_attribute, begin_attributes, attribute_behind, attribute_at, attributes_within, attributes_at}
 use Rattle.attributes.proofs.Idents.{before_nothing, before_before, before_fails, first_fails, like_fails, before_deep, idents_complete, path_given, path_sound, path_shallow}
 use Rattle.attributes.proofs.Serde.{items_sound, items_complete, items_shallow, Shallow, then_shallow, ok_shallow, wrong_shallow, cond_shallow, word_shallow}
 
@@ -172,9 +167,9 @@ attribute_complete (outer_doc {w = w} {a = a} {rest = rest} e) = ap (λ o. attri
 attribute_complete (in_brackets {h = h} {s = s} {inside = inside} {xs = xs} {meta = m} {ws = ws} {rest = rest} p r f) =
     let path = path_given (words_of inside) xs ws (path_item xs) (idents_complete p (meta_ends r)) refl in
     let whole : (path_at (words_of inside) >>= behind_path (cover h s)) ≡ keeps (path_item xs) (cover h s) m =
-        ap (λ (q : Read WrittenPath). q >>= behind_path (cover h s)) path
-        ∙ ap (λ (q : Result MetaItem Fault). q >>= forms (path_item xs) (cover h s)) (meta_complete r)
-        ∙ ap (λ (q : Result MetaItem Fault). q >>= keeps (path_item xs) (cover h s)) (formed_complete f) in
+    ap (λ (q : Read WrittenPath). q >>= behind_path (cover h s)) path
+    ∙ ap (λ (q : Result MetaItem Fault). q >>= forms (path_item xs) (cover h s)) (meta_complete r)
+    ∙ ap (λ (q : Result MetaItem Fault). q >>= keeps (path_item xs) (cover h s)) (formed_complete f) in
     ap (λ (q : Result (List AttributeItem) Fault). q >>= λ ys. Ok (ys, rest)) whole
 
 in_shallow : (span : Span) (ws : List Word) → Shallow (attribute_in span ws)
@@ -279,7 +274,7 @@ within_shallow (suc n) [] = ok_shallow ([], [])
 within_shallow (suc n) (w ∷ ws) =
     cond_shallow (begins_attribute w) (attribute_at (w ∷ ws) >>= goes_on (attributes_within n)) (Ok ([], w ∷ ws))
     (then_shallow (attribute_at (w ∷ ws)) (goes_on (attributes_within n)) (attribute_shallow (w ∷ ws))
-      (λ p. λ at e. within_shallow n p.1 at (before_deep p.0 (attributes_within n p.1) at e)))
+    (λ p. λ at e. within_shallow n p.1 at (before_deep p.0 (attributes_within n p.1) at e)))
     (ok_shallow ([], w ∷ ws))
 
 -- attributes never nest too deep

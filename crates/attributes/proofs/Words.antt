@@ -1,5 +1,5 @@
 -- Paths of several words, and values of several.
-use Rattle.std.proofs.Common.{◌≡◌, ◌≤◌, ◌<◌, ℕ, List, [], ◌∷◌, length, refl, ap, sym, ◌∙◌, arith, Bool, false, Ok}
+use Rattle.std.proofs.Common.{◌≡◌, ◌≤◌, ◌<◌, ℕ, List, [], ◌∷◌, length, refl, ap, sym, ◌∙◌, arith, false, Ok}
 use Rattle.diag.specs.declared.span.Span.{Span}
 use Rattle.written_types.specs.declared.written.PathSegment.{PathSegment}
 use Rattle.written_types.specs.Written.{WrittenPath, Segment, plain, applied, Segments, more_segments, segment_view, segments_view}

@@ -1,5 +1,5 @@
 -- Reading attributes from left to right, as functions.
-use Rattle.std.specs.Prelude.{ℕ, zero, suc, List, [], ◌∷◌, ◌++◌, length, codes, Bool, true, false, cond, ◌||◌, is_some, Option, Some, None, Result, Ok, Err}
+use Rattle.std.specs.Prelude.{ℕ, zero, suc, List, [], ◌∷◌, ◌++◌, length, codes, Bool, false, cond, ◌||◌, is_some, Option, Some, None, Result, Ok, Err}
 use Rattle.std.specs.List.{flat_map}
 use Rattle.diag.specs.declared.span.Span.{Span}
 use Rattle.tokens.specs.declared.token.Token.{Token}
@@ -8,9 +8,8 @@ use Rattle.tokens.specs.declared.token.Bracket.TheVariants.{Square}
 use Rattle.tokens.specs.Trees.{Trees}
 use Rattle.written_types.specs.declared.written.Ident.{Ident}
 use Rattle.written_types.specs.Written.{WrittenPath}
-use Rattle.words.specs.declared.vocabulary.Sign.{Sign}
 use Rattle.words.specs.declared.vocabulary.Sign.TheVariants.{Colons, Equals, Hash}
-use Rattle.words.specs.Words.{Word, name, underscore, keyword, sign, lifetime, literal, doc, group, words_of, cover}
+use Rattle.words.specs.Words.{Word, group, words_of, cover}
 use Rattle.words.specs.Reading.{Fault, wrong, Read, ◌>>=◌, first_as, as_sign, literal_at, sign_at, group_at}
 use Rattle.lists.specs.Lists.{list_of}
 use Rattle.literal_values.specs.Values.{text_value}
@@ -87,10 +86,11 @@ abbrev pub ok_or_none : Result (List SerdeItem) Fault → List SerdeItem
 ok_or_none (Ok xs) = xs
 ok_or_none (Err f) = []
 
--- the items of all serde lists at one place, as one list
+-- the items of an attribute, where it is a serde list
 abbrev pub serde_items_in : AttributeItem → List SerdeItem
 serde_items_in a = cond (is_word (codes "serde") a.path) (ok_or_none (serde_list a.meta)) []
 
+-- the items of all serde lists at one place, as one list
 abbrev pub serde_items : List AttributeItem → List SerdeItem
 serde_items attributes = flat_map serde_items_in attributes
 

@@ -1,5 +1,5 @@
 -- Words of attributes: identifiers, doc comments, and what is made of them (The Rust Reference, "Comments", "Attributes").
-use Rattle.std.specs.Prelude.{ℕ, ◌-◌, List, [], ◌∷◌, length, take, drop, get_or, map, codes, Bool, true, false, cond, ◌||◌, Option, Some, None}
+use Rattle.std.specs.Prelude.{ℕ, ◌-◌, List, [], ◌∷◌, length, take, drop, get_or, map, codes, Bool, false, cond, ◌||◌, Option, Some, None}
 use Rattle.std.specs.Option.{option_map}
 use Rattle.std.specs.Str.{bytes_eq}
 use Rattle.diag.specs.Span.{no_span}
@@ -43,7 +43,7 @@ text_item x text span = record { name = x; value = Some (record { text = text; s
 
 -- ---- doc comments
 
--- the text begins with these three characters
+-- the text begins with this mark of three characters
 abbrev pub begins : List ℕ → List ℕ → Bool
 begins mark text = bytes_eq (take 3 text) mark
 
@@ -51,7 +51,7 @@ begins mark text = bytes_eq (take 3 text) mark
 abbrev pub unclosed : List ℕ → List ℕ
 unclosed text = cond (bytes_eq (drop (length text - 2) text) (codes "*/")) (take (length text - 2) text) text
 
--- an outer doc comment begins with `///` or `/**`; it says what follows, without a closing `*/`
+-- an outer doc comment begins with `///` or `/**`; it says what follows, in a block without the closing `*/`
 abbrev pub outer_text : List ℕ → Option (List ℕ)
 outer_text text = cond (begins (codes "///") text) (Some (drop 3 text)) (cond (begins (codes "/**") text) (Some (unclosed (drop 3 text))) None)
 

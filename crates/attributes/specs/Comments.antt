@@ -37,7 +37,7 @@ margin lines = reduce min (map indent (filter has_text lines))
 abbrev pub unindented : ℕ → List ℕ → List ℕ
 unindented count line = drop (min count (indent line)) line
 
--- the texts of doc comments, without white space at their ends and without their margin
+-- the texts of doc comments, without the white space at the end of each and without their margin
 abbrev pub lines_of : List (List ℕ) → List (List ℕ)
 lines_of docs = let lines = map trim_end docs in map (unindented (unwrap_or (margin lines) 0)) lines
 

@@ -11,5 +11,4 @@ ghost use Rattle.attributes.specs.AttributeReading.{begin_attributes, attributes
 pub fn attributes_are_read()
     ensures sound { (ws : List Word) (xs : List AttributeItem) (rest : List Word) → attributes_at ws ≡ Ok (xs, rest) → IsAttributes ws xs rest }
     ensures complete { (ws : List Word) (xs : List AttributeItem) (rest : List Word) → IsAttributes ws xs rest → begin_attributes rest ≡ false → attributes_at ws ≡ Ok (xs, rest) }
-{
-}
+{}

@@ -22,13 +22,10 @@ mod serde_item;
 #[cfg(test)]
 mod tests;
 
-
-
-
 pub use attribute::{Attribute, Meta};
 pub use comments::CommentAttributes;
 pub use docs::is_inner_doc;
+pub use items::serde_items;
+pub use laws::attributes_are_read;
 pub use read::attributes_at;
 pub use serde_item::{SerdeItem, SerdeText};
-pub use laws::attributes_are_read;
-pub use items::serde_items;

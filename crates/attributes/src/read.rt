@@ -11,9 +11,9 @@ ghost use Rattle.attributes.specs.AttributeReading.{formed, attribute_in, begin_
 
 use crate::attribute::{Attribute, is_word};
 use crate::docs::{doc_attribute, outer_text};
+use crate::items::serde_list;
 use crate::meta::{Form, form_of};
 use crate::path::path_at;
-use crate::items::serde_list;
 use diag::{List, Span};
 use std::alloc::Global;
 use tokens::{Bracket, Group, TokenTree};

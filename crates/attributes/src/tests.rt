@@ -13,15 +13,30 @@ const READ: [(&str, &str); 24] = [
     ("struct S;", "|3"),
     ("/// a\n/** b */ x", "[ a]0..5 [ b ]6..14 |1"),
     ("/// a\n#[serde(default)] x", "[ a]0..5 serde(1)6..23 |1"),
-    ("#[derive(Debug)] #[a::b = 1] #[deprecated] x", "deprecated 29..42 |1"),
+    (
+        "#[derive(Debug)] #[a::b = 1] #[deprecated] x",
+        "deprecated 29..42 |1",
+    ),
     ("#[serde()]", "serde(0)0..10 |0"),
     ("#[r#serde(r#default,)]", "serde(2)0..22 |0"),
-    ("#[serde[skip]] #[serde{skip}]", "serde(1)0..14 serde(1)15..29 |0"),
-    ("#[serde(rename = \"x\", a(b c), crate, _ = r\"\")]", "serde(12)0..46 |0"),
-    ("#[schema] #[schema = \"x\"]", "schema 0..9 schema=1 10..25 |0"),
+    (
+        "#[serde[skip]] #[serde{skip}]",
+        "serde(1)0..14 serde(1)15..29 |0",
+    ),
+    (
+        "#[serde(rename = \"x\", a(b c), crate, _ = r\"\")]",
+        "serde(12)0..46 |0",
+    ),
+    (
+        "#[schema] #[schema = \"x\"]",
+        "schema 0..9 schema=1 10..25 |0",
+    ),
     ("#[schema(a = 1.5, b = -c)]", "schema(8)0..26 |0"),
     ("#[repr(u8)]", "repr(1)0..11 |0"),
-    ("#[doc = \" d\"] #[doc(hidden)]", "doc=1 0..13 doc(1)14..28 |0"),
+    (
+        "#[doc = \" d\"] #[doc(hidden)]",
+        "doc=1 0..13 doc(1)14..28 |0",
+    ),
     ("#[deprecated = \"a\"]", "deprecated=1 0..19 |0"),
     ("#[serde::a(3)] #[a::serde(3)] #[a::b::c]", "|0"),
     ("#[_ = x y (z)] #[fn]", "|0"),
@@ -29,7 +44,10 @@ const READ: [(&str, &str); 24] = [
     ("//! x", "|1"),
     ("x #[serde(3)]", "|3"),
     ("#[cfg_attr(a, serde(default))]", "|0"),
-    ("#[serde(bound(deserialize = \"T: A\"))]", "serde(2)0..37 |0"),
+    (
+        "#[serde(bound(deserialize = \"T: A\"))]",
+        "serde(2)0..37 |0",
+    ),
     ("#[doc(a)] /// b", "doc(1)0..9 [ b]10..15 |0"),
     ("#[doc] x", "doc 0..6 |1"),
     ("#[doc = a \"b\"]", "doc=2 0..14 |0"),
@@ -62,11 +80,23 @@ const REFUSED: [(&str, usize, usize); 20] = [
 const ITEMS: [(&str, &str); 7] = [
     ("", ""),
     ("#[serde()] #[schema(a)] /// b", ""),
-    ("#[serde(default)] #[serde(default)] #[serde(skip)]", "default;default;skip;"),
-    ("#[serde(rename = \"a\\\"b\", r#type = r#\"c\"#)]", "rename=a\"b;type=c;"),
-    ("#[serde(rename(serialize = \"x\"), crate = \"y\")]", "rename;crate=y;"),
+    (
+        "#[serde(default)] #[serde(default)] #[serde(skip)]",
+        "default;default;skip;",
+    ),
+    (
+        "#[serde(rename = \"a\\\"b\", r#type = r#\"c\"#)]",
+        "rename=a\"b;type=c;",
+    ),
+    (
+        "#[serde(rename(serialize = \"x\"), crate = \"y\")]",
+        "rename;crate=y;",
+    ),
     ("#[repr(u8)] #[serde(_, a)] #[serde{b}]", "_;a;b;"),
-    ("#[serde(tag = \"t\")] #[doc = \"x\"] #[serde(content = \"\",)]", "tag=t;content=;"),
+    (
+        "#[serde(tag = \"t\")] #[doc = \"x\"] #[serde(content = \"\",)]",
+        "tag=t;content=;",
+    ),
 ];
 
 const DOCS: [(&str, &str); 10] = [
@@ -126,7 +156,11 @@ fn read(alloc: Global, source: &str) -> Result<List<Attribute>, Fail> {
 fn reads_attributes(rt: HostRuntime) -> Result<(), Fail> {
     let alloc = rt.alloc();
     for (source, expected) in READ {
-        assert_eq!(rt; attributes_text(alloc, source)?.as_str(), expected, "{source}");
+        assert_eq!(rt;
+            attributes_text(alloc, source)?.as_str(),
+            expected,
+            "{source}"
+        );
     }
     attributes_are_read();
     Ok(())
@@ -172,12 +206,19 @@ fn joins_doc_comments(rt: HostRuntime) -> Result<(), Fail> {
     for (source, expected) in DOCS {
         let attributes = read(alloc, source)?;
         let comments = CommentAttributes::from_attributes(alloc, attributes.as_slice())?;
-        assert_eq!(rt; comments.as_formatted_string(alloc)?.as_str(), expected, "{source}");
+        assert_eq!(rt;
+            comments.as_formatted_string(alloc)?.as_str(),
+            expected,
+            "{source}"
+        );
     }
     let none = read(alloc, "#[repr(u8)]")?;
     assert!(rt; CommentAttributes::from_attributes(alloc, none.as_slice())?.is_empty());
     let trees = lex(alloc, "//! a\n/// b")?;
-    let inner: [bool; 2] = [is_inner_doc(&trees.as_slice()[0]), is_inner_doc(&trees.as_slice()[1])];
+    let inner: [bool; 2] = [
+        is_inner_doc(&trees.as_slice()[0]),
+        is_inner_doc(&trees.as_slice()[1]),
+    ];
     assert_eq!(rt; inner, [true, false]);
     Ok(())
 }

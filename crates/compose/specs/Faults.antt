@@ -56,7 +56,7 @@ attributes_of ds = flat_map attributes_in ds
 -- where the first attribute stands that is of serde, schema, repr or deprecated: nothing is derived from these
 abbrev pub first_other : List AttributeItem → Option Span
 first_other [] = None
-first_other (a ∷ as) = cond (is_word (codes "doc") a.path) (first_other as) (Some a.span)
+first_other (a ∷ others) = cond (is_word (codes "doc") a.path) (first_other others) (Some a.span)
 
 abbrev pub IsAttributed : List DeclaredItem → Span → Type 0
 IsAttributed ds span = first_other (attributes_of ds) ≡ Some span

@@ -1,9 +1,9 @@
 -- What readers of lists that went well have read.
-use Rattle.std.proofs.Common.{◌≡◌, ◌∙◌, ℕ, zero, suc, ◌<◌, ◌⊎◌, inl, inr, List, [], ◌∷◌, length, refl, ap, sym, subst, arith, Result, Ok, Err}
+use Rattle.std.proofs.Common.{◌≡◌, ◌∙◌, ℕ, zero, suc, ◌⊎◌, inl, inr, List, [], ◌∷◌, length, refl, ap, sym, subst, arith, Ok}
 use Rattle.diag.specs.declared.span.Span.{Span}
 use Rattle.words.specs.declared.vocabulary.Sign.TheVariants.{Comma}
 use Rattle.words.specs.Words.{Word, sign}
-use Rattle.words.specs.Reading.{Read, ◌>>=◌, sign_at}
+use Rattle.words.specs.Reading.{Read, sign_at}
 use Rattle.lists.specs.Lists.{IsList, no_items, last_item, more_items, after_comma, turn_at, many_at, many_of, itself, list_of}
 use Rattle.lists.proofs.Read.{bind_ok, ok_is, along}
 use Rattle.lists.proofs.Stands.{sign-is}

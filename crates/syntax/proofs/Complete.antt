@@ -1,5 +1,5 @@
 -- What is in the grammar is read, unless a type nests too deep, where ty reads types.
-use Rattle.std.proofs.Common.{◌≡◌, ◌∙◌, suc, ◌<◌, ◌⊎◌, inl, inr, List, [], ◌∷◌, ◌++◌, length, refl, ap, sym, subst, arith, true, false, not, ◌&&◌, cond, is_some, Option, Some, None, Result, Ok, Err}
+use Rattle.std.proofs.Common.{◌≡◌, ◌∙◌, suc, ◌<◌, inl, inr, List, [], ◌∷◌, length, refl, ap, sym, subst, arith, true, false, not, ◌&&◌, cond, is_some, Option, Some, None, Ok, Err}
 use Rattle.diag.specs.declared.span.Span.{Span}
 use Rattle.tokens.specs.declared.token.Bracket.TheVariants.{Round, Square}
 use Rattle.tokens.specs.declared.token.Token.{Token}
@@ -13,15 +13,15 @@ use Rattle.words.specs.declared.vocabulary.Sign.{Sign}
 use Rattle.words.specs.declared.vocabulary.Sign.TheVariants as signs
 use Rattle.words.specs.declared.vocabulary.Sign.TheVariants.{Colon, Comma, Semicolon, Hash, Exclamation}
 use Rattle.words.specs.Words.{Word, name, underscore, keyword, sign, lifetime, literal, doc, group, words_of}
-use Rattle.words.specs.Reading.{Fault, deep, wrong, Read, ◌>>=◌, as_sign, as_keyword, name_at, keyword_at, sign_at}
+use Rattle.words.specs.Reading.{wrong, Read, ◌>>=◌, as_sign, as_keyword, name_at, keyword_at, sign_at}
 use Rattle.type_grammar.specs.Starts.{Stops, begins_type}
 use Rattle.type_grammar.specs.Grammar.{IsType}
 use Rattle.type_grammar.specs.Opening.{OpensType}
-use Rattle.lists.specs.Lists.{IsList, turn_at, many_of, itself, list_of}
+use Rattle.lists.specs.Lists.{IsList, turn_at, itself, list_of}
 use Rattle.attributes.specs.Attributes.{AttributeItem}
 use Rattle.attributes.specs.AttributeWords.{is_inner_text}
 use Rattle.attributes.specs.AttributeGrammar.{IsAttributes}
-use Rattle.attributes.specs.AttributeReading.{begins_attribute, attributes_at}
+use Rattle.attributes.specs.AttributeReading.{begins_attribute}
 use Rattle.attributes.proofs.Whole.{attributes_complete, attributes_no_longer}
 use Rattle.syntax.specs.Items.{FieldItem, FieldItems, named, unnamed, DeclaredItem}
 use Rattle.syntax.specs.ItemWords.{is_restriction}

@@ -28,7 +28,7 @@ pub use attributes::{Attribute, CommentAttributes, Meta};
 pub use item::{Body, Declaration, Declarations, Field, Fields};
 pub use laws::{one_reading, one_type_reading};
 pub use lexing::{lex, one_cut};
-pub use parse::{parse_declarations, parse_type};
 pub use literal_values::{LiteralValue, literal_value};
+pub use parse::{parse_declarations, parse_type};
 pub use tokens::{Bracket, Cursor, Group, Token, TokenKind, TokenTree};
 pub use written_types::{GenericArgument, Ident, Path, PathSegment, WrittenType};

@@ -1,6 +1,6 @@
 use crate::{
-    Attribute, Body, Declaration, Field, Fields, Meta, one_reading,
-    one_type_reading, parse_declarations, parse_type,
+    Attribute, Body, Declaration, Field, Fields, Meta, one_reading, one_type_reading,
+    parse_declarations, parse_type,
 };
 use diag::{DeriveError, Kind, List, Span};
 use std::alloc::Global;

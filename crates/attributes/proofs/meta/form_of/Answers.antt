@@ -1,4 +1,4 @@
-use Rattle.std.proofs.Common.{length, arith}
+use Rattle.std.proofs.Common.{arith}
 use Rattle.words.specs.Words.{words_view}
 use Rattle.lists.proofs.Turns.{length_view}
 use Rattle.attributes.proofs.Words.{value_after}

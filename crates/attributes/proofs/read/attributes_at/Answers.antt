@@ -16,17 +16,19 @@ returns-in_err-attribute-clause-value c =
 pub attributes-preserved-in_ok-push : goal.attributes-preserved-in_ok-push
 attributes-preserved-in_ok-push c =
     let pushed : map attribute_view c.push.new.self ≡ map attribute_view c.attributes.attributes ++ attribute_view c.in-Some.attribute ∷ [] = rw c.in_ok-push.ensures.ok (map_push _ c.attributes.attributes c.in-Some.attribute) in
-    rw pushed
-    (attributes_turn (words_view c.args.trees.now) (map attribute_view c.attributes.attributes) (words_view c.attributes.rest.now) c.attributes.invariant.0 (attribute_view c.in-Some.attribute ∷ []) (words_view c.in_ok-attribute.after.now)
-      (sym c.begins_attribute.ensures ∙ c.attributes-test.true) (c.in_ok-attribute.ensures.value ∙ ap (λ o. Ok (kept_view o, words_view c.in_ok-attribute.after.now)) c.in-Some.is),
-    omega (arith, c.attributes.invariant.1, c.in_ok-attribute.ensures.shorter))
+    rw pushed (
+      attributes_turn (words_view c.args.trees.now) (map attribute_view c.attributes.attributes) (words_view c.attributes.rest.now) c.attributes.invariant.0 (attribute_view c.in-Some.attribute ∷ []) (words_view c.in_ok-attribute.after.now)
+          (sym c.begins_attribute.ensures ∙ c.attributes-test.true) (c.in_ok-attribute.ensures.value ∙ ap (λ o. Ok (kept_view o, words_view c.in_ok-attribute.after.now)) c.in-Some.is),
+      omega (arith, c.attributes.invariant.1, c.in_ok-attribute.ensures.shorter),
+    )
 
 pub attributes-preserved : goal.attributes-preserved
-attributes-preserved c =
-    (ap (λ front. with_before front (attributes_at (words_view c.in_ok-attribute.after.now))) (sym (append-nil (map attribute_view c.attributes.attributes)))
+attributes-preserved c = (
+  ap (λ front. with_before front (attributes_at (words_view c.in_ok-attribute.after.now))) (sym (append-nil (map attribute_view c.attributes.attributes)))
       ∙ attributes_turn (words_view c.args.trees.now) (map attribute_view c.attributes.attributes) (words_view c.attributes.rest.now) c.attributes.invariant.0 [] (words_view c.in_ok-attribute.after.now)
       (sym c.begins_attribute.ensures ∙ c.attributes-test.true) (c.in_ok-attribute.ensures.value ∙ ap (λ o. Ok (kept_view o, words_view c.in_ok-attribute.after.now)) c.in_default.is),
-    omega (arith, c.attributes.invariant.1, c.in_ok-attribute.ensures.shorter))
+  omega (arith, c.attributes.invariant.1, c.in_ok-attribute.ensures.shorter),
+)
 
 pub returns-clause-value : goal.returns-clause-value
 returns-clause-value c =
