@@ -27,7 +27,8 @@ clear_text one bounded source e sound (inr (inr (ds, read, shallow, fault))) = b
     by fine (inl (inl (x, duplicate, is))) = fine.0.distinct x duplicate
     by fine (inl (inr (inl (fault, found, is)))) = fine.0.resolved fault found
     by fine (inl (inr (inr (inl (x, fieldless, is))))) = fine.0.fielded x fieldless
-    by fine (inl (inr (inr (inr (span, nameless, is))))) = fine.0.named span nameless
+    by fine (inl (inr (inr (inr (inl (span, nameless, is)))))) = fine.0.named span nameless
+    by fine (inl (inr (inr (inr (inr (span, attributed, is)))))) = fine.0.documented span attributed
     by fine (inr (clear, (structs, resolved, unbounded))) = bounded empty_configuration ds structs e (fine.1 structs resolved) unbounded
 
 long_and_short : (n : ℕ) → most_bytes < n → n ≤ most_bytes → ⊥
