@@ -1,6 +1,6 @@
 //! Attributes that nothing is derived from.
 
-ghost use Rattle.std.specs.Prelude.{◌≡◌, ◌⊎◌, map, IfOk, IfErr};
+ghost use Rattle.std.specs.Prelude.{◌≡◌, ◌⊎◌, [], ◌∷◌, map, IfOk, IfErr};
 ghost use Rattle.std.specs.List.{flat_map};
 ghost use Rattle.diag.specs.Refusal.{IsRefusal};
 ghost use Rattle.diag.specs.declared.span.Span.{Span as AnySpan};
@@ -13,31 +13,35 @@ use diag::{DeriveError, Diagnostics, Kind, Span};
 use std::alloc::{AllocError, Global};
 use syntax::{Attribute, Body, Declaration, Declarations, Field, Fields};
 
+/// Where the attribute stands, if it is no doc comment.
+fn other(attribute: &Attribute) -> Option<Span>
+    ensures { result ≡ first_other (attribute_view attribute.now ∷ []) }
+{
+    if attribute.is("doc") {
+        return None;
+    }
+    Some(attribute.span)
+}
+
 /// Where the first attribute stands that is no doc comment.
 fn first_other(attributes: &[Attribute]) -> Option<Span>
     ensures { result ≡ first_other (map attribute_view attributes.now) }
 {
-    let mut rest = attributes;
-    'attributes: while let [first, after @ ..] = rest {
-        if !first.is("doc") {
-            return Some(first.span);
-        }
-        rest = after;
+    let mut found = None;
+    for attribute in attributes {
+        found = found.or(other(attribute));
     }
-    None
+    found
 }
 
 fn first_on_fields(fields: &[Field]) -> Option<Span>
     ensures { result ≡ first_other (flat_map (λ f. f.attrs) (map field_view fields.now)) }
 {
-    let mut rest = fields;
-    'fields: while let [first, after @ ..] = rest {
-        if let Some(span) = first_other(first.attrs.as_slice()) {
-            return Some(span);
-        }
-        rest = after;
+    let mut found = None;
+    for field in fields {
+        found = found.or(first_other(field.attrs.as_slice()));
     }
-    None
+    found
 }
 
 fn fields_of(body: &Body) -> &[Field]
@@ -50,26 +54,21 @@ fn fields_of(body: &Body) -> &[Field]
     }
 }
 
+#[tactic(auto, using(crate::proofs::First::first_joined))]
 fn first_in(declaration: &Declaration) -> Option<Span>
     ensures { result ≡ first_other (attributes_in (declaration_view declaration.now)) }
 {
-    match first_other(declaration.attrs.as_slice()) {
-        Some(span) => Some(span),
-        None => first_on_fields(fields_of(&declaration.body)),
-    }
+    first_other(declaration.attrs.as_slice()).or(first_on_fields(fields_of(&declaration.body)))
 }
 
 fn first_among(declarations: &[Declaration]) -> Option<Span>
     ensures { result ≡ first_other (attributes_of (map declaration_view declarations.now)) }
 {
-    let mut rest = declarations;
-    'declarations: while let [first, after @ ..] = rest {
-        if let Some(span) = first_in(first) {
-            return Some(span);
-        }
-        rest = after;
+    let mut found = None;
+    for declaration in declarations {
+        found = found.or(first_in(declaration));
     }
-    None
+    found
 }
 
 fn attributed(alloc: Global, span: Span) -> Result<DeriveError, AllocError>

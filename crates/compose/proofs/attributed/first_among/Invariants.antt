@@ -1,10 +1,7 @@
-use Rattle.std.proofs.Common.{◌≡◌, length, map}
+use Rattle.std.proofs.Common.{◌≡◌, take, map}
 use Rattle.syntax.specs.Items.{declaration_view}
 use Rattle.compose.specs.Faults.{attributes_of, first_other}
 use Rattle.compose.proofs.attributed.first_among.Given as goal
 
-abbrev pub invariant-declarations : goal.invariant-declarations
-invariant-declarations l = first_other (attributes_of (map declaration_view l.rest)) ≡ first_other (attributes_of (map declaration_view l.declarations))
-
-abbrev pub decreases-declarations : goal.decreases-declarations
-decreases-declarations l = length l.rest
+abbrev pub invariant-loop-declaration : goal.invariant-loop-declaration
+invariant-loop-declaration l = l.found ≡ first_other (attributes_of (map declaration_view (take l.declaration-index l.declarations)))

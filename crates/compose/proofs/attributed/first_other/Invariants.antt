@@ -1,10 +1,7 @@
-use Rattle.std.proofs.Common.{◌≡◌, length, map}
+use Rattle.std.proofs.Common.{◌≡◌, take, map}
 use Rattle.attributes.specs.Attributes.{attribute_view}
 use Rattle.compose.specs.Faults.{first_other}
 use Rattle.compose.proofs.attributed.first_other.Given as goal
 
-abbrev pub invariant-attributes : goal.invariant-attributes
-invariant-attributes l = first_other (map attribute_view l.rest) ≡ first_other (map attribute_view l.attributes)
-
-abbrev pub decreases-attributes : goal.decreases-attributes
-decreases-attributes l = length l.rest
+abbrev pub invariant-loop-attribute : goal.invariant-loop-attribute
+invariant-loop-attribute l = l.found ≡ first_other (map attribute_view (take l.attribute-index l.attributes))

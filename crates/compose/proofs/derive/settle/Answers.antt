@@ -6,9 +6,18 @@ use Rattle.compose.proofs.Faulty.{faulty_all}
 use Rattle.compose.proofs.Whole.{settled}
 use Rattle.compose.proofs.derive.settle.Goals as goal
 
+pub returns-in_err-only_docs-clause-refused : goal.returns-in_err-only_docs-clause-refused
+returns-in_err-only_docs-clause-refused c =
+    let p = err_from_is_err_and c.from_residual.result c.from_residual.ensures.1 in
+    rw (p.1, p.2)
+    (elim c.in_err-only_docs.ensures.refused [
+      | inl memory ↦ inl memory
+      | inr fault ↦ inr (inr (inr (inr (inr fault))))
+    ])
+
 pub returns-in_err-places-clause-refused : goal.returns-in_err-places-clause-refused
 returns-in_err-places-clause-refused c =
-    let p = err_from_is_err_and c.from_residual.result c.from_residual.ensures.1 in
+    let p = err_from_is_err_and c.from_residual-in_err-places.result c.from_residual-in_err-places.ensures.1 in
     rw (p.1, p.2)
     (elim c.in_err-places.ensures.refused [
       | inl memory ↦ inl memory
