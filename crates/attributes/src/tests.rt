@@ -2,10 +2,11 @@ use crate::{
     Attribute, CommentAttributes, Meta, attributes_are_read, attributes_at, is_inner_doc,
     serde_items,
 };
-use diag::List;
+use diag::{List, Span};
 use lexing::lex;
 use std::alloc::Global;
 use std::test::Fail;
+use tokens::TokenTree;
 use words::Stop;
 
 const READ: [(&str, &str); 24] = [
@@ -144,6 +145,13 @@ fn attributes_text(alloc: Global, source: &str) -> Result<String, Fail> {
     Ok(text)
 }
 
+fn tree_span(tree: &TokenTree) -> Span {
+    match tree {
+        TokenTree::Token(token) => token.span,
+        TokenTree::Group(group) => group.span,
+    }
+}
+
 fn read(alloc: Global, source: &str) -> Result<List<Attribute>, Fail> {
     let trees = lex(alloc, source)?;
     match attributes_at(alloc, trees.as_slice()) {
@@ -215,10 +223,12 @@ fn joins_doc_comments(rt: HostRuntime) -> Result<(), Fail> {
     let none = read(alloc, "#[repr(u8)]")?;
     assert!(rt; CommentAttributes::from_attributes(alloc, none.as_slice())?.is_empty());
     let trees = lex(alloc, "//! a\n/// b")?;
-    let inner: [bool; 2] = [
-        is_inner_doc(&trees.as_slice()[0]),
-        is_inner_doc(&trees.as_slice()[1]),
-    ];
-    assert_eq!(rt; inner, [true, false]);
+    let mut inner = 0;
+    for tree in trees.as_slice() {
+        if is_inner_doc(tree) {
+            inner = tree_span(tree).end;
+        }
+    }
+    assert_eq!(rt; inner, 5);
     Ok(())
 }

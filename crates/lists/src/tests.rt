@@ -11,7 +11,7 @@ fn sign(alloc: Global, text: &str, at: usize) -> Result<TokenTree, AllocError> {
         text: Text::new(alloc, text)?,
         span: Span {
             start: at,
-            end: at + 1,
+            end: at.saturating_add(1),
         },
     }))
 }
