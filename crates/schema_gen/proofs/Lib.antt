@@ -1,2 +1,5 @@
 pub mod Consequences
 pub mod OneWord
+pub mod OtherKinds
+pub mod ThreeWords
+pub mod Told

@@ -3,7 +3,7 @@ use Rattle.std.specs.Prelude.{ℕ, List, [], codes}
 use Rattle.schema_gen.specs.declared.status.Status.{Status}
 use Rattle.schema_gen.specs.declared.status.Status.TheVariants as status
 use Rattle.schema_gen.specs.declared.ending.Ending.{Ending}
-use Rattle.schema_gen.specs.declared.ending.Ending.TheVariants.{Done, Refused, Usage, ReadFault, Memory}
+use Rattle.schema_gen.specs.declared.ending.Ending.TheVariants.{Done, Refused, Usage, ReadFault, Memory, FileFault}
 
 abbrev pub status_of : Ending → Status
 status_of (Done text) = status.Done
@@ -11,6 +11,7 @@ status_of (Refused kind line) = status.Refused kind
 status_of Usage = status.Usage
 status_of ReadFault = status.ReadFault
 status_of Memory = status.Memory
+status_of FileFault = status.FileFault
 
 abbrev pub document_of : Ending → List ℕ
 document_of (Done text) = text
@@ -18,10 +19,12 @@ document_of (Refused kind line) = []
 document_of Usage = []
 document_of ReadFault = []
 document_of Memory = []
+document_of FileFault = []
 
 abbrev pub report_of : Ending → List ℕ
 report_of (Done text) = []
 report_of (Refused kind line) = line
-report_of Usage = codes "usage: schema_gen derive\n"
+report_of Usage = codes "usage: schema_gen derive [--config PATH]\n"
 report_of ReadFault = codes "read fault\n"
 report_of Memory = []
+report_of FileFault = codes "file fault\n"

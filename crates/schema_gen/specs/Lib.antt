@@ -1,4 +1,5 @@
 pub mod Endings
+pub mod Given
 pub mod Numbers
 pub mod Owed
 pub mod Refusals
@@ -10,6 +11,7 @@ pub use Rattle.closing.specs.Closed
 pub use Rattle.closing.specs.Described
 pub use Rattle.compose.specs.Faults
 pub use Rattle.configuration.specs.Configuration
+pub use Rattle.configuration.specs.Form
 pub use Rattle.derive_decl.specs.Plain
 pub use Rattle.derive_decl.specs.Shape
 pub use Rattle.derive_decl.specs.Structs
@@ -17,6 +19,9 @@ pub use Rattle.diag.specs.Diagnostics
 pub use Rattle.diag.specs.Kind
 pub use Rattle.diag.specs.Refusal
 pub use Rattle.diag.specs.Span
+pub use Rattle.files.specs.Faults as FileFaults
+pub use Rattle.files.specs.Held
+pub use Rattle.files.specs.Memory as FileMemory
 pub use Rattle.inline_places.specs.Targets
 pub use Rattle.inlining.specs.Inlining
 pub use Rattle.instances.specs.Bounds

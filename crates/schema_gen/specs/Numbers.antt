@@ -1,7 +1,7 @@
 -- The exit numbers of the statuses.
 use Rattle.std.specs.Prelude.{ℕ}
 use Rattle.schema_gen.specs.declared.status.Status.{Status}
-use Rattle.schema_gen.specs.declared.status.Status.TheVariants.{Done, Refused, Usage, ReadFault, WriteFault, Memory}
+use Rattle.schema_gen.specs.declared.status.Status.TheVariants.{Done, Refused, Usage, ReadFault, WriteFault, Memory, FileFault}
 
 abbrev pub number_of : Status → ℕ
 number_of Done = 0
@@ -10,3 +10,4 @@ number_of Usage = 2
 number_of ReadFault = 3
 number_of WriteFault = 4
 number_of Memory = 5
+number_of FileFault = 6

@@ -1,29 +1,30 @@
 -- What a run answers and writes.
-use Rattle.std.specs.Prelude.{◌≡◌, ℕ, List, [], codes}
-use Rattle.std.specs.declared.option.Option.{Option}
+use Rattle.std.specs.Prelude.{◌≡◌, ℕ, List, [], Bool, Option, Some, codes}
 use Rattle.schema_core.specs.Document.{Entry, document, text_of}
-use Rattle.streams.specs.Told.{IsAll}
-use Rattle.configuration.specs.Configuration.{empty_configuration}
+use Rattle.configuration.specs.Configuration.{Configuration}
 use Rattle.closing.specs.Described.{Describes}
 use Rattle.compose.specs.Faults.{IsDerived}
-use Rattle.schema_gen.specs.Refusals.{IsText, IsReported}
-use Rattle.schema_gen.specs.Words.{IsDerive}
+use Rattle.schema_gen.specs.Given.{Given, IsConfigured, IsGiven}
+use Rattle.schema_gen.specs.Refusals.{IsText, IsRefusedRun, IsReported}
+use Rattle.schema_gen.specs.Words.{IsDerive, HaveForm}
 use Rattle.schema_gen.specs.declared.status.Status.{Status}
-use Rattle.schema_gen.specs.declared.status.Status.TheVariants.{Done, Refused, Usage, ReadFault, WriteFault, Memory}
+use Rattle.schema_gen.specs.declared.status.Status.TheVariants.{Done, Refused, Usage, ReadFault, WriteFault, Memory, FileFault}
 
 -- The text is that of the document of a source's components, which describes the structs that the source declares.
-pub record IsDocumentOf (source text : List ℕ) : Type 0 where
+pub record IsDocumentOf (c : Configuration) (source text : List ℕ) : Type 0 where
   pub is_text : IsText source
   pub components : List Entry
-  pub made : IsDerived empty_configuration source components
+  pub made : IsDerived c source components
   pub describes : Describes made.structs (document components)
   pub text_is : text ≡ text_of (document components)
 
--- With this status a run owes these bytes to `out` and to `err`. The source is what `input` had left at first.
-unfoldable pub Owed : List (List ℕ) → Option (List ℕ) → Status → List ℕ → List ℕ → Type 0
-Owed words left Done out err = IsDerive words × ((source : List ℕ) × IsAll left source × IsDocumentOf source out) × (err ≡ [])
-Owed words left (Refused kind) out err = IsDerive words × ((source : List ℕ) × IsAll left source × IsReported source kind err) × (out ≡ [])
-Owed words left Usage out err = ¬ (IsDerive words) × (out ≡ []) × (err ≡ codes "usage: schema_gen derive\n")
-Owed words left ReadFault out err = IsDerive words × (out ≡ []) × (err ≡ codes "read fault\n")
-Owed words left Memory out err = IsDerive words × (out ≡ []) × (err ≡ [])
-Owed words left WriteFault out err = ⊥
+-- With this status a run owes these bytes to `out` and to `err`. It begins with these words, with files that hold this where they tell it, and with what
+-- the input has left.
+unfoldable pub Owed : List (List ℕ) → Bool → (List ℕ → Option (List ℕ)) → Option (List ℕ) → Status → List ℕ → List ℕ → Type 0
+Owed words tells held left Done out err = ((given : Given) × IsGiven words tells held left given × IsDocumentOf given.config given.text out) × (err ≡ [])
+Owed words tells held left (Refused kind) out err = IsReported (IsRefusedRun words tells held left) kind err × (out ≡ [])
+Owed words tells held left Usage out err = ¬ (HaveForm words) × (out ≡ []) × (err ≡ codes "usage: schema_gen derive [--config PATH]\n")
+Owed words tells held left FileFault out err = ((path : List ℕ) × IsDerive words (Some path)) × (out ≡ []) × (err ≡ codes "file fault\n")
+Owed words tells held left ReadFault out err = ((c : Configuration) × IsConfigured words tells held c) × (out ≡ []) × (err ≡ codes "read fault\n")
+Owed words tells held left Memory out err = HaveForm words × (out ≡ []) × (err ≡ [])
+Owed words tells held left WriteFault out err = ⊥

@@ -1,5 +1,5 @@
--- Why a source of bytes is refused, and how a refusal is reported.
-use Rattle.std.specs.Prelude.{◌≡◌, ◌<◌, ◌≤◌, ◌+◌, ◌++◌, ◌⊎◌, ℕ, List, [], ◌∷◌, length, Some, codes}
+-- Why a run refuses, and how a refusal is reported.
+use Rattle.std.specs.Prelude.{◌≡◌, ◌<◌, ◌≤◌, ◌+◌, ◌++◌, ◌⊎◌, ℕ, List, [], ◌∷◌, Bool, length, Option, Some, codes}
 use Rattle.std.specs.Fmt.{decimal}
 use Rattle.std.specs.Str.{IsUtf8, IsValidUpTo}
 use Rattle.diag.specs.Diagnostics.{text_of, HasFirst}
@@ -14,11 +14,14 @@ use Rattle.diag.specs.declared.kind.Kind.TheVariants.{TooLong, Syntax}
 use Rattle.diag.specs.declared.span.Span.{Span}
 use Rattle.syntax.specs.Items.{DeclaredItem}
 use Rattle.syntax.specs.Source.{Reads, NestsTooDeep}
-use Rattle.configuration.specs.Configuration.{empty_configuration}
+use Rattle.configuration.specs.Configuration.{Configuration}
+use Rattle.configuration.specs.Form.{IsBadConfig}
 use Rattle.derive_decl.specs.Structs.{StructOf}
 use Rattle.derive_decl.specs.Whole.{structs_of}
 use Rattle.instances.specs.Bounds.{AreBounded}
 use Rattle.compose.specs.Faults.{IsRefused, AreClear}
+use Rattle.schema_gen.specs.Given.{Given, IsGiven, SaysNone}
+use Rattle.schema_gen.specs.Words.{IsDerive}
 
 -- the most bytes of a source
 abbrev pub most_bytes : ℕ
@@ -37,7 +40,7 @@ pub record IsBroken (bytes : List ℕ) (span : Span) : Type 0 where
   pub few : span.end < span.start + 4
   pub within : span.end ≤ length bytes
 
--- ---- the causes, of which an earlier one comes first
+-- ---- the causes of a source's refusal, of which an earlier one comes first
 
 abbrev pub IsTooLong : List ℕ → DeriveError → Type 0
 IsTooLong bytes e = (most_bytes < length bytes) × IsRefusal TooLong no_span (codes "the source is longer than 1048576 bytes") e
@@ -46,17 +49,28 @@ abbrev pub IsNoText : List ℕ → DeriveError → Type 0
 IsNoText bytes e = (length bytes ≤ most_bytes) × ((span : Span) × IsBroken bytes span × IsRefusal Syntax span (codes "unexpected text in a declaration") e)
 
 -- the error refuses the bytes: they are too many, or else no UTF-8, or else the source that they are is refused
-abbrev pub IsRefusedSource : List ℕ → DeriveError → Type 0
-IsRefusedSource bytes e = IsTooLong bytes e ⊎ (IsNoText bytes e ⊎ (IsText bytes × IsRefused empty_configuration bytes e))
+abbrev pub IsRefusedSource : Configuration → List ℕ → DeriveError → Type 0
+IsRefusedSource c bytes e = IsTooLong bytes e ⊎ (IsNoText bytes e ⊎ (IsText bytes × IsRefused c bytes e))
 
--- No condition of a refusal holds of the bytes: they are a text that has a reading, and nothing in it is at fault or beyond a bound.
-pub record IsSound (bytes : List ℕ) : Type 0 where
+-- No condition of a refusal holds of the bytes: they are a text that has a reading, and nothing in it is at fault or beyond a bound of the configuration.
+pub record IsSound (c : Configuration) (bytes : List ℕ) : Type 0 where
   pub text : IsText bytes
   pub declarations : List DeclaredItem
   pub read : Reads bytes declarations
   pub shallow : (span : Span) → ¬ NestsTooDeep bytes span
   pub clear : AreClear declarations
-  pub bounded : (structs : List StructOf) → structs_of declarations ≡ Some structs → AreBounded empty_configuration declarations structs
+  pub bounded : (structs : List StructOf) → structs_of declarations ≡ Some structs → AreBounded c declarations structs
+
+-- ---- the causes of a run's refusal
+
+-- the error refuses the file at the path that the words name: it says no configuration
+abbrev pub IsRefusedFile : List (List ℕ) → Bool → (List ℕ → Option (List ℕ)) → DeriveError → Type 0
+IsRefusedFile words tells held e = (path : List ℕ) × IsDerive words (Some path) × SaysNone tells held path × IsBadConfig e
+
+-- the error refuses that file, or else the source that is given, with the configuration that is given
+abbrev pub IsRefusedRun : List (List ℕ) → Bool → (List ℕ → Option (List ℕ)) → Option (List ℕ) → DeriveError → Type 0
+IsRefusedRun words tells held left e =
+    IsRefusedFile words tells held e ⊎ ((given : Given) × IsGiven words tells held left given × IsRefusedSource given.config given.text e)
 
 -- ---- the report
 
@@ -66,9 +80,9 @@ refusal_line [] = []
 refusal_line (d ∷ ds) =
     codes "refused: " ++ (name_of d.kind ++ (codes " " ++ (decimal d.span.start ++ (codes ".." ++ (decimal d.span.end ++ (codes ": " ++ (text_of (d ∷ ds) ++ codes "\n")))))))
 
--- A refusal of the bytes with this kind, whose report is the line.
-pub record IsReported (bytes : List ℕ) (kind : Kind) (line : List ℕ) : Type 0 where
+-- There is a refusal with this kind, whose report is the line.
+pub record IsReported (refuses : DeriveError → Type 0) (kind : Kind) (line : List ℕ) : Type 0 where
   pub diagnostics : List DiangosticsInner
-  pub cause : IsRefusedSource bytes (error.Refused diagnostics)
+  pub cause : refuses (error.Refused diagnostics)
   pub kind_is : HasFirst diagnostics (λ d. d.kind ≡ kind)
   pub line_is : line ≡ refusal_line diagnostics

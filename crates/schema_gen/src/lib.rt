@@ -1,5 +1,5 @@
 //! From the bytes of a source to the bytes of its document: Rust struct declarations in, one JSON document of OpenAPI
-//! 3.1 component schemas out.
+//! 3.1 component schemas out. A file may configure what deriving may take.
 #![tactic(auto)]
 
 mod command;
@@ -7,6 +7,7 @@ mod deliver;
 mod ending;
 mod law;
 mod program;
+mod reading;
 mod refusal;
 mod status;
 #[cfg(test)]
@@ -15,6 +16,7 @@ mod tests;
 pub use command::Words;
 pub use compose::{Derived, derive_components};
 pub use diag::{DeriveError, Diagnostics, DiangosticsInner, Kind, List, Span, Suggestion, Text};
+pub use files::{FileAnswer, FileBytes, Files, HonestFiles, MemoryFiles, StdFiles};
 pub use law::sound_is_not_refused;
 pub use program::run;
 pub use schema_core::Components;

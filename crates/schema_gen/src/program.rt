@@ -1,78 +1,106 @@
-ghost use Rattle.std.specs.Prelude.{◌≡◌, ◌≢◌, ◌⊎◌, ℕ, List, Some, codes};
+ghost use Rattle.std.specs.Prelude.{◌≡◌, ◌≢◌, ◌⊎◌, ℕ, List, IsTrue, IsSome, codes};
 ghost use Rattle.std.specs.Io.KnownBytes.{Appends, Keeps, IsAtEnd};
 ghost use Rattle.diag.specs.declared.kind.Kind.{Kind as AnyKind};
 ghost use Rattle.schema_core.specs.Document.{Entry, document, text_of};
 ghost use Rattle.streams.specs.Faults.{CountsFault};
-ghost use Rattle.streams.specs.Told.{AppendsPart, IsAll};
-ghost use Rattle.configuration.specs.Configuration.{empty_configuration};
+ghost use Rattle.streams.specs.Told.{AppendsPart};
+ghost use Rattle.configuration.specs.Configuration.{Configuration};
+ghost use Rattle.configuration.specs.Form.{IsConfigurationText};
+ghost use Rattle.files.specs.Held.{IsMissing};
 ghost use Rattle.closing.specs.Described.{Describes};
 ghost use Rattle.compose.specs.Faults.{IsDerived};
+ghost use Rattle.schema_gen.specs.Given.{Given as AnyGiven, IsGiven, IsConfigured, SaysNone};
 ghost use Rattle.schema_gen.specs.Owed.{Owed};
-ghost use Rattle.schema_gen.specs.Refusals.{IsText, IsSound, IsReported};
-ghost use Rattle.schema_gen.specs.Words.{IsDerive};
+ghost use Rattle.schema_gen.specs.Refusals.{IsText, IsSound, IsRefusedRun, IsReported};
+ghost use Rattle.schema_gen.specs.Words.{IsDerive, HaveForm};
 ghost use Rattle.schema_gen.specs.declared.status.Status.{Status as AnyStatus};
 
 use crate::command::Words;
 use crate::deliver::deliver;
-use crate::ending::end_of;
 use crate::law::sound_is_not_refused;
+use crate::reading::end_of;
 use crate::status::Status;
+use configuration::configurations_are_one;
+use diag::Kind;
+use files::Files;
 use std::alloc::Global;
 use streams::{Failed, Sink, Source};
 
 /// Runs the program: with the word `derive` it reads the source to its end, and writes the document of its components
-/// to `out`. What it has to say beside goes to `err`, a line each: of a refusal the kind, the span in bytes and the
-/// message; of other words how to use them; of a fault of reading that there was one.
+/// to `out`. With `derive --config PATH` it first reads the configuration from the file at the path. What it has to say
+/// beside goes to `err`, a line each: of a refusal the kind, the span in bytes and the message; of other words how to use
+/// them; of a fault of reading the input or the file that there was one.
 ///
 /// Nothing is written before all is made, and writing takes no memory. So `out` gets the whole document or nothing,
 /// except after a fault of writing, when it has a front of what it was to get.
 #[tactic(auto, using(crate::proofs::Consequences::done_owed, crate::proofs::Consequences::usage_owed, crate::proofs::Consequences::fault_owed, crate::proofs::Consequences::other_words))]
-pub fn run<S: Source, O: Sink, E: Sink>(
+pub fn run<S: Source, F: Files, O: Sink, E: Sink>(
     alloc: Global,
     words: &Words,
     input: &mut S,
+    files: &mut F,
     out: &mut O,
     err: &mut E,
 ) -> Status
     // The document that was written describes the structs that the source declares: each has its component, and so has
     // each reference, and the component accepts the JSON that has the struct's shape.
-    ensures done { result ≡ Status.Done → (source : List ℕ) × (components : List Entry) × (made : IsDerived empty_configuration source components)
-        × IsAll (S.left input.old) source × IsText source × Describes made.structs (document components)
-        × Appends (O.written out.old) (O.written out.new) (text_of (document components)) }
-    ensures refused { (kind : AnyKind) → result ≡ Status.Refused kind → IsDerive words.now
-        × ((source : List ℕ) × (line : List ℕ) × IsAll (S.left input.old) source × IsReported source kind line
-        × Appends (E.written err.old) (E.written err.new) line) }
-    ensures usage { result ≡ Status.Usage → ¬ (IsDerive words.now)
-        × Appends (E.written err.old) (E.written err.new) (codes "usage: schema_gen derive\n") }
-    ensures only_usage { ¬ (IsDerive words.now) → (result ≡ Status.Usage) ⊎ (result ≡ Status.WriteFault) }
-    ensures unread { ¬ (IsDerive words.now) → input.new ≡ input.old }
-    // A sound source has its document, unless something fails or memory is wanted.
-    ensures complete { (source : List ℕ) → S.left input.old ≡ Some source → IsDerive words.now → IsSound source
-        → ¬ (CountsFault (S.faults input.old) (S.faults input.new)) → ¬ (CountsFault (O.faults out.old) (O.faults out.new))
-        → ¬ (CountsFault (E.faults err.old) (E.faults err.new)) → (result ≡ Status.Done) ⊎ (result ≡ Status.Memory) }
+    ensures done { result ≡ Status.Done → (given : AnyGiven) × (components : List Entry) × (made : IsDerived given.config given.text components)
+        × IsGiven words.now (F.tells files.old) (F.held files.old) (S.left input.old) given × IsText given.text
+        × Describes made.structs (document components) × Appends (O.written out.old) (O.written out.new) (text_of (document components)) }
+    ensures refused { (kind : AnyKind) → result ≡ Status.Refused kind
+        → (line : List ℕ) × IsReported (IsRefusedRun words.now (F.tells files.old) (F.held files.old) (S.left input.old)) kind line
+        × Appends (E.written err.old) (E.written err.new) line }
+    ensures usage { result ≡ Status.Usage → ¬ (HaveForm words.now)
+        × Appends (E.written err.old) (E.written err.new) (codes "usage: schema_gen derive [--config PATH]\n") }
+    ensures only_usage { ¬ (HaveForm words.now) → (result ≡ Status.Usage) ⊎ (result ≡ Status.WriteFault) }
+    // The configuration comes first. Without one nothing of the input is read, and where the words name no path, no file is.
+    ensures bad_config { result ≡ Status.Refused Kind.BadConfig
+        → (path : List ℕ) × IsDerive words.now (Some path) × SaysNone (F.tells files.old) (F.held files.old) path }
+    ensures only_bad_config { (path : List ℕ) (bytes : List ℕ) → IsDerive words.now (Some path) → IsTrue (F.tells files.old)
+        → F.held files.old path ≡ Some bytes → ((c : Configuration) → ¬ (IsConfigurationText bytes c))
+        → (result ≡ Status.Refused Kind.BadConfig) ⊎ (result ≡ Status.FileFault) ⊎ (result ≡ Status.Memory) ⊎ (result ≡ Status.WriteFault) }
+    ensures missing { (path : List ℕ) → IsDerive words.now (Some path) → IsMissing (F.tells files.old) (F.held files.old path)
+        → (result ≡ Status.FileFault) ⊎ (result ≡ Status.Memory) ⊎ (result ≡ Status.WriteFault) }
+    ensures unread { ((c : Configuration) → ¬ (IsConfigured words.now (F.tells files.old) (F.held files.old) c)) → input.new ≡ input.old }
+    ensures unread_config { (result ≡ Status.Refused Kind.BadConfig) ⊎ (result ≡ Status.FileFault) → input.new ≡ input.old }
+    ensures no_file { ((path : List ℕ) → ¬ (IsDerive words.now (Some path))) → files.new ≡ files.old }
+    ensures tells_on { F.tells files.new ≡ F.tells files.old }
+    ensures same { (path : List ℕ) → F.held files.new path ≡ F.held files.old path }
+    // What is given has its document, where it is told and sound, unless something fails or memory is wanted.
+    ensures complete { (given : AnyGiven) → IsGiven words.now (F.tells files.old) (F.held files.old) (S.left input.old) given
+        → IsSome (S.left input.old) → ((path : List ℕ) → IsDerive words.now (Some path) → IsTrue (F.tells files.old)) → IsSound given.config given.text
+        → ¬ (CountsFault (S.faults input.old) (S.faults input.new)) → ¬ (CountsFault (F.faults files.old) (F.faults files.new))
+        → ¬ (CountsFault (O.faults out.old) (O.faults out.new)) → ¬ (CountsFault (E.faults err.old) (E.faults err.new))
+        → (result ≡ Status.Done) ⊎ (result ≡ Status.Memory) }
     // What was written is what the status owes, and after a fault of writing a front of what a status owes.
-    ensures written { result ≢ Status.WriteFault → (text : List ℕ) × (report : List ℕ) × Owed words.now (S.left input.old) result text report
+    ensures written { result ≢ Status.WriteFault → (text : List ℕ) × (report : List ℕ)
+        × Owed words.now (F.tells files.old) (F.held files.old) (S.left input.old) result text report
         × Appends (O.written out.old) (O.written out.new) text × Appends (E.written err.old) (E.written err.new) report }
     ensures cut { result ≡ Status.WriteFault → (status : AnyStatus) × (text : List ℕ) × (report : List ℕ)
-        × Owed words.now (S.left input.old) status text report
+        × Owed words.now (F.tells files.old) (F.held files.old) (S.left input.old) status text report
         × (status ≡ Status.ReadFault → CountsFault (S.faults input.old) (S.faults input.new))
+        × (status ≡ Status.FileFault → CountsFault (F.faults files.old) (F.faults files.new))
         × AppendsPart (O.written out.old) (O.written out.new) text × AppendsPart (E.written err.old) (E.written err.new) report }
     ensures out_kept { result ≢ Status.Done → result ≢ Status.WriteFault → Keeps (O.written out.old) (O.written out.new) }
     ensures err_kept { (result ≡ Status.Done) ⊎ (result ≡ Status.Memory) → Keeps (E.written err.old) (E.written err.new) }
     // Faults have causes, and after `Done` the input has nothing left.
-    ensures read_fault { result ≡ Status.ReadFault → IsDerive words.now × CountsFault (S.faults input.old) (S.faults input.new)
-        × Appends (E.written err.old) (E.written err.new) (codes "read fault\n") }
+    ensures read_fault { result ≡ Status.ReadFault → ((c : Configuration) × IsConfigured words.now (F.tells files.old) (F.held files.old) c)
+        × CountsFault (S.faults input.old) (S.faults input.new) × Appends (E.written err.old) (E.written err.new) (codes "read fault\n") }
+    ensures file_fault { result ≡ Status.FileFault → (path : List ℕ) × IsDerive words.now (Some path) × (F.failed files.new ≡ Some path)
+        × CountsFault (F.faults files.old) (F.faults files.new) × Appends (E.written err.old) (E.written err.new) (codes "file fault\n") }
     ensures write_fault { result ≡ Status.WriteFault →
         CountsFault (O.faults out.old) (O.faults out.new) ⊎ CountsFault (E.faults err.old) (E.faults err.new) }
     ensures end { result ≡ Status.Done → IsAtEnd (S.left input.new) }
-    ensures input_calm { result ≡ Status.Done → S.faults input.new ≡ S.faults input.old }
+    ensures input_calm { result ≢ Status.ReadFault → result ≢ Status.WriteFault → S.faults input.new ≡ S.faults input.old }
+    ensures files_calm { result ≢ Status.FileFault → result ≢ Status.WriteFault → F.faults files.new ≡ F.faults files.old }
     ensures out_calm { result ≢ Status.WriteFault → O.faults out.new ≡ O.faults out.old }
     ensures err_calm { result ≢ Status.WriteFault → E.faults err.new ≡ E.faults err.old }
 {
-    let ending = end_of(alloc, words, input);
+    let ending = end_of(alloc, words, input, files);
     let document = ending.document().as_bytes();
     let report = ending.report().as_bytes();
     sound_is_not_refused();
+    configurations_are_one();
     match deliver(document, report, out, err) {
         Ok(()) => ending.status(),
         Err(Failed) => Status::WriteFault,

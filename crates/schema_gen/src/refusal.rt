@@ -1,16 +1,17 @@
-//! Refusals that come before a source is a text, and the report of any refusal.
+//! Refusals of a file and of bytes that are no text of a source, and the report of any refusal.
 
 ghost use Rattle.std.specs.Prelude.{◌≡◌, ◌≤◌, ◌⊎◌, [], ◌∷◌, length, codes, IfOk, IfErr};
 ghost use Rattle.std.specs.Str.{IsUtf8, IsValidUpTo, IsErrorLen, valid_up_to, error_len};
 ghost use Rattle.diag.specs.Diagnostics.{diagnostic};
 ghost use Rattle.diag.specs.Span.{no_span};
+ghost use Rattle.configuration.specs.Form.{IsBadConfig};
 ghost use Rattle.schema_gen.specs.Refusals.{most_bytes, IsBroken, IsNoText, refusal_line};
 
 use diag::{DeriveError, Diagnostics, Kind, Span, Text};
 use std::alloc::{AllocError, Global};
 use std::str::Utf8Error;
 
-/// The most bytes of a source.
+/// The most bytes of a source, and of a configuration's file.
 pub(crate) const MAX_BYTES: usize = 1_048_576;
 
 /// The refusal of a source of too many bytes.
@@ -21,6 +22,17 @@ pub(crate) fn too_long(alloc: Global) -> Result<Diagnostics, AllocError>
         alloc,
         Kind::TooLong,
         "the source is longer than 1048576 bytes",
+    )
+}
+
+/// The refusal of a file of too many bytes for a configuration.
+pub(crate) fn bad_config(alloc: Global) -> Result<Diagnostics, AllocError>
+    ensures { IfOk result (λ d. IsBadConfig (DeriveError.Refused d)) }
+{
+    Diagnostics::new(
+        alloc,
+        Kind::BadConfig,
+        "the configuration is not of the stated form",
     )
 }
 

@@ -8,7 +8,7 @@ use diag::Kind;
 pub enum Status {
     /// The document was written.
     Done,
-    /// The source was refused, for a cause of this kind.
+    /// The configuration or the source was refused, for a cause of this kind.
     Refused(Kind),
     /// The words have no form that is known.
     Usage,
@@ -18,6 +18,8 @@ pub enum Status {
     WriteFault,
     /// There is no memory for the work.
     Memory,
+    /// The file that the words name could not be read.
+    FileFault,
 }
 
 impl Status {
@@ -32,6 +34,7 @@ impl Status {
             Status::ReadFault => 3,
             Status::WriteFault => 4,
             Status::Memory => 5,
+            Status::FileFault => 6,
         }
     }
 }

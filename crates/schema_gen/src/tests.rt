@@ -7,6 +7,10 @@ const PET: &str = "struct Pet { id: u64, name: Option<String> }";
 const PET_DOCUMENT: &str =
     "{\"components\":{\"schemas\":{\"Pet\":{\"properties\":{\"id\":{\"format\":\"int64\",\"minimum\":0,\"type\":\"integer\"},\"name\":{\"type\":[\"string\",\"null\"]}},\"required\":[\"id\"],\"type\":\"object\"}}}}\n";
 
+const USAGE: &str = "usage: schema_gen derive [--config PATH]\n";
+
+const BAD_CONFIG: &str = "refused: BadConfig 0..0: the configuration is not of the stated form\n";
+
 const EMPTY_DOCUMENT: &str = "{\"components\":{\"schemas\":{}}}\n";
 
 fn words_of(alloc: Global, texts: &[&str]) -> Result<Words, Fail> {
@@ -18,15 +22,33 @@ fn words_of(alloc: Global, texts: &[&str]) -> Result<Words, Fail> {
 }
 
 /// The status of a run with room for what it writes, and what it wrote to both outputs, one after the other.
-fn outcome(alloc: Global, words: &[&str], source: &[u8]) -> Result<(Status, Vec<u8>), Fail> {
+fn outcome_with<F: Files>(
+    alloc: Global,
+    words: &[&str],
+    source: &[u8],
+    files: &mut F,
+) -> Result<(Status, Vec<u8>), Fail> {
     let words = words_of(alloc, words)?;
     let mut input = HonestSource::new(source.to_vec(alloc)?);
     let mut out = HonestSink::new(alloc, 3000)?;
     let mut err = HonestSink::new(alloc, 3000)?;
-    let status = run(alloc, &words, &mut input, &mut out, &mut err);
+    let status = run(alloc, &words, &mut input, files, &mut out, &mut err);
     let mut written = out.as_slice().to_vec(alloc)?;
     written.extend_from_slice(err.as_slice())?;
     Ok((status, written))
+}
+
+/// The same where there are no files.
+fn outcome(alloc: Global, words: &[&str], source: &[u8]) -> Result<(Status, Vec<u8>), Fail> {
+    let mut files = HonestFiles::new(Vec::new(alloc));
+    outcome_with(alloc, words, source, &mut files)
+}
+
+/// The file `config` of these bytes.
+fn config_file(alloc: Global, bytes: &[u8]) -> Result<Vec<(String, Vec<u8>)>, Fail> {
+    let mut files = Vec::new(alloc);
+    files.push((String::from_str(alloc, "config")?, bytes.to_vec(alloc)?))?;
+    Ok(files)
 }
 
 #[test]
@@ -58,7 +80,7 @@ fn writes_documents(rt: HostRuntime) -> Result<(), Fail> {
 }
 
 /// Words, a source, the status, and what `err` gets.
-const REPORTS: [(&[&str], &[u8], Status, &str); 14] = [
+const REPORTS: [(&[&str], &[u8], Status, &str); 21] = [
     (
         &["derive"],
         b"struct S { x: bo",
@@ -113,37 +135,30 @@ const REPORTS: [(&[&str], &[u8], Status, &str); 14] = [
         Status::Refused(Kind::TooDeep),
         "refused: TooDeep 64..65: nesting is deeper than 64\n",
     ),
-    (&[], b"", Status::Usage, "usage: schema_gen derive\n"),
-    (&[""], b"", Status::Usage, "usage: schema_gen derive\n"),
-    (
-        &["deride"],
-        b"",
-        Status::Usage,
-        "usage: schema_gen derive\n",
-    ),
-    (
-        &["derive", "derive"],
-        b"",
-        Status::Usage,
-        "usage: schema_gen derive\n",
-    ),
-    (
-        &["--help"],
-        b"",
-        Status::Usage,
-        "usage: schema_gen derive\n",
-    ),
+    (&[], b"", Status::Usage, USAGE),
+    (&[""], b"", Status::Usage, USAGE),
+    (&["deride"], b"", Status::Usage, USAGE),
+    (&["derive", "derive"], b"", Status::Usage, USAGE),
+    (&["--help"], b"", Status::Usage, USAGE),
+    (&["derive", "--config"], b"", Status::Usage, USAGE),
+    (&["derive", "--config", "a", "b"], b"", Status::Usage, USAGE),
+    (&["--config", "a"], b"", Status::Usage, USAGE),
+    (&["--config", "a", "derive"], b"", Status::Usage, USAGE),
+    (&["derive", "a", "--config"], b"", Status::Usage, USAGE),
+    (&["derive", "--config=a"], b"", Status::Usage, USAGE),
+    (&["deride", "--config", "a"], b"", Status::Usage, USAGE),
 ];
 
 const REFUSED_AS_SYNTAX: Status = Status::Refused(Kind::Syntax);
 
-const NUMBERS: [(Status, u8); 6] = [
+const NUMBERS: [(Status, u8); 7] = [
     (Status::Done, 0),
     (REFUSED_AS_SYNTAX, 1),
     (Status::Usage, 2),
     (Status::ReadFault, 3),
     (Status::WriteFault, 4),
     (Status::Memory, 5),
+    (Status::FileFault, 6),
 ];
 
 #[test]
@@ -268,12 +283,137 @@ fn fails_with_its_streams(rt: HostRuntime) -> Result<(), Fail> {
         );
         let mut out = MemorySink::new(alloc, room, 100, writes.to_vec(alloc)?)?;
         let mut err = MemorySink::new(alloc, 1000, 1000, reports.to_vec(alloc)?)?;
-        let found = run(alloc, &words, &mut input, &mut out, &mut err);
+        let mut files = HonestFiles::new(Vec::new(alloc));
+        let found = run(alloc, &words, &mut input, &mut files, &mut out, &mut err);
         assert_eq!(rt; found, status, "{reads:?} {writes:?} {reports:?} {room}");
         assert_eq!(rt; out.as_slice().len(), length);
         assert!(rt; PET_DOCUMENT.as_bytes().starts_with(out.as_slice()));
         assert_eq!(rt; err.as_slice(), report.as_bytes());
     }
+    Ok(())
+}
+
+const TWO: &str = "struct A { a: bool } struct B { a: A }";
+
+const COPIES: &str = "struct A { p: (B, B) } struct B { x: bool }";
+
+/// The text of the file, a source, the status, and what is reported.
+const CONFIGURED: [(&str, &str, Status, &str); 14] = [
+    ("{}", TWO, Status::Done, ""),
+    (
+        r#"{"limit":1}"#,
+        TWO,
+        Status::Refused(Kind::TooManyInstances),
+        "refused: TooManyInstances 28..29: more than 1 instances are reachable\n",
+    ),
+    (r#"{"limit":2}"#, TWO, Status::Done, ""),
+    (
+        r#"{"copies":3}"#,
+        COPIES,
+        Status::Refused(Kind::TooManyCopies),
+        "refused: TooManyCopies 0..0: more than 3 copies are inlined\n",
+    ),
+    (r#"{"copies":4}"#, COPIES, Status::Done, ""),
+    (r#"{"copies":2}"#, TWO, Status::Done, ""),
+    (r#"{"limit":0}"#, TWO, REFUSED_AS_CONFIG, BAD_CONFIG),
+    (r#"{"other":1}"#, TWO, REFUSED_AS_CONFIG, BAD_CONFIG),
+    ("", TWO, REFUSED_AS_CONFIG, BAD_CONFIG),
+    // the file comes before the source
+    ("[]", "!", REFUSED_AS_CONFIG, BAD_CONFIG),
+    (
+        "{}",
+        "!",
+        REFUSED_AS_SYNTAX,
+        "refused: Syntax 0..1: unexpected text in a declaration\n",
+    ),
+    // what cannot be read is not counted
+    (
+        r#"{"limit":1}"#,
+        "struct A { a: bool } struct A {}",
+        Status::Refused(Kind::DuplicateName),
+        "refused: DuplicateName 28..29: name A is given twice\n",
+    ),
+    (r#"{"limit":1}"#, "struct A { a: A }", Status::Done, ""),
+    (r#"{"limit":1}"#, "", Status::Done, ""),
+];
+
+const REFUSED_AS_CONFIG: Status = Status::Refused(Kind::BadConfig);
+
+#[test]
+fn derives_as_configured(rt: HostRuntime) -> Result<(), Fail> {
+    let alloc = rt.alloc();
+    let words = ["derive", "--config", "config"];
+    for (text, source, expected, report) in CONFIGURED {
+        let mut files = HonestFiles::new(config_file(alloc, text.as_bytes())?);
+        let (status, written) = outcome_with(alloc, &words, source.as_bytes(), &mut files)?;
+        assert_eq!(rt; status, expected, "{text} {source}");
+        if status == Status::Done {
+            let (_, document) = outcome(alloc, &["derive"], source.as_bytes())?;
+            assert_eq!(rt; written.as_slice(), document.as_slice(), "{text} {source}");
+        } else {
+            assert_eq!(rt; written.as_slice(), report.as_bytes(), "{text} {source}");
+        }
+    }
+    Ok(())
+}
+
+/// The words, the calls of files and of the input that fail, the status, and what is written to both outputs.
+type FileCase<'a> = (&'a [&'a str], &'a [usize], &'a [usize], Status, &'a str);
+
+const FILE_CASES: [FileCase<'static>; 9] = [
+    (CONFIG, &[], &[], Status::Done, PET_DOCUMENT),
+    (CONFIG, &[0], &[], Status::FileFault, "file fault\n"),
+    (CONFIG, &[1], &[], Status::Done, PET_DOCUMENT),
+    (ABSENT, &[], &[], Status::FileFault, "file fault\n"),
+    (ABSENT, &[], &[0], Status::FileFault, "file fault\n"),
+    (CONFIG, &[0], &[0], Status::FileFault, "file fault\n"),
+    (CONFIG, &[], &[0], Status::ReadFault, "read fault\n"),
+    // without a path no file is read
+    (&["derive"], &[0], &[], Status::Done, PET_DOCUMENT),
+    (&["derive", "--config"], &[0], &[0], Status::Usage, USAGE),
+];
+
+const CONFIG: &[&str] = &["derive", "--config", "config"];
+
+const ABSENT: &[&str] = &["derive", "--config", "absent"];
+
+#[test]
+fn fails_with_its_files(rt: HostRuntime) -> Result<(), Fail> {
+    let alloc = rt.alloc();
+    for (words, opens, reads, expected, text) in FILE_CASES {
+        let held = config_file(alloc, "{}".as_bytes())?;
+        let mut files = MemoryFiles::new(held, opens.to_vec(alloc)?);
+        let mut input = MemorySource::new(PET.as_bytes().to_vec(alloc)?, 16, reads.to_vec(alloc)?);
+        let mut out = HonestSink::new(alloc, 3000)?;
+        let mut err = HonestSink::new(alloc, 3000)?;
+        let words = words_of(alloc, words)?;
+        let status = run(alloc, &words, &mut input, &mut files, &mut out, &mut err);
+        assert_eq!(rt; status, expected, "{opens:?} {reads:?} {text}");
+        let (has, none) = if status == Status::Done {
+            (out.as_slice(), err.as_slice())
+        } else {
+            (err.as_slice(), out.as_slice())
+        };
+        assert_eq!(rt; has, text.as_bytes(), "{opens:?} {reads:?} {text}");
+        assert!(rt; none.is_empty(), "{opens:?} {reads:?} {text}");
+    }
+    Ok(())
+}
+
+#[test]
+fn bounds_the_file(rt: HostRuntime) -> Result<(), Fail> {
+    let alloc = rt.alloc();
+    let mut bytes = "{}".as_bytes().to_vec(alloc)?;
+    bytes.resize(1_048_576, b' ')?;
+    let mut files = HonestFiles::new(config_file(alloc, bytes.as_slice())?);
+    let (status, written) = outcome_with(alloc, CONFIG, PET.as_bytes(), &mut files)?;
+    assert_eq!(rt; status, Status::Done);
+    assert_eq!(rt; written.as_slice(), PET_DOCUMENT.as_bytes());
+    bytes.push(b' ')?;
+    let mut files = HonestFiles::new(config_file(alloc, bytes.as_slice())?);
+    let (status, written) = outcome_with(alloc, CONFIG, PET.as_bytes(), &mut files)?;
+    assert_eq!(rt; status, REFUSED_AS_CONFIG);
+    assert_eq!(rt; written.as_slice(), BAD_CONFIG.as_bytes());
     Ok(())
 }
 
@@ -328,13 +468,14 @@ fn runs_over_std(rt: HostRuntime) -> Result<(), Fail> {
     let mut narrow: &mut [u8] = &mut report;
     let mut out = StdSink::new(&mut room);
     let mut err = StdSink::new(&mut narrow);
+    let mut files = StdFiles::new(&rt);
     assert_eq!(rt;
-        run(alloc, &words, &mut input, &mut out, &mut err),
+        run(alloc, &words, &mut input, &mut files, &mut out, &mut err),
         Status::Done
     );
     let none = words_of(alloc, &[])?;
     assert_eq!(rt;
-        run(alloc, &none, &mut input, &mut out, &mut err),
+        run(alloc, &none, &mut input, &mut files, &mut out, &mut err),
         Status::WriteFault
     );
     assert!(rt; written.as_slice().starts_with(PET_DOCUMENT.as_bytes()));

@@ -1,7 +1,7 @@
-//! The program: the arguments and the standard streams, and the number of how the run ended.
+//! The program: the arguments, the files and the standard streams, and the number of how the run ended.
 #![tactic(auto)]
 
-use schema_gen::{Status, StdSink, StdSource, Words, run};
+use schema_gen::{Status, StdFiles, StdSink, StdSource, Words, run};
 use std::process::ExitCode;
 use std::{env, io};
 
@@ -24,9 +24,17 @@ fn main(rt: HostRuntime) -> ExitCode {
     let status = match words(&rt) {
         Ok(words) => {
             let mut input = StdSource::new(rt.stdin());
+            let mut files = StdFiles::new(&rt);
             let mut out = StdSink::new(rt.stdout());
             let mut err = StdSink::new(rt.stderr());
-            run(rt.alloc(), &words, &mut input, &mut out, &mut err)
+            run(
+                rt.alloc(),
+                &words,
+                &mut input,
+                &mut files,
+                &mut out,
+                &mut err,
+            )
         }
         Err(_) => Status::Memory,
     };

@@ -2,7 +2,7 @@ use Rattle.std.proofs.Common.{◌≡◌, ◌≤◌, ◌<◌, ◌⊎◌, ℕ, Lis
 use Rattle.diag.specs.declared.error.DeriveError.{DeriveError}
 use Rattle.syntax.specs.Items.{DeclaredItem}
 use Rattle.syntax.specs.Source.{Reads}
-use Rattle.configuration.specs.Configuration.{empty_configuration}
+use Rattle.configuration.specs.Configuration.{Configuration}
 use Rattle.derive_decl.specs.Structs.{StructOf}
 use Rattle.derive_decl.specs.Whole.{structs_of}
 use Rattle.instances.specs.Bounds.{AreBounded, BoundedAreNotRefused}
@@ -14,30 +14,30 @@ OneReading : Type 0
 OneReading = (source : List ℕ) (ds es : List DeclaredItem) → Reads source ds → Reads source es → ds ≡ es
 
 -- a text whose one reading is clear and bounded is not refused
-clear_text : OneReading → BoundedAreNotRefused → (source : List ℕ) (e : DeriveError) → IsSound source → IsRefused empty_configuration source e → ⊥
+clear_text : OneReading → BoundedAreNotRefused → (c : Configuration) (source : List ℕ) (e : DeriveError) → IsSound c source → IsRefused c source e → ⊥
 unfolding OneReading
-clear_text one bounded source e sound (inl (span, is, deep)) = sound.shallow span deep
-clear_text one bounded source e sound (inr (inl unreadable)) = unreadable.3 sound.declarations sound.read
-clear_text one bounded source e sound (inr (inr (ds, read, shallow, fault))) = by (subst IsFine (one source sound.declarations ds sound.read read) (sound.clear, sound.bounded)) fault
+clear_text one bounded c source e sound (inl (span, is, deep)) = sound.shallow span deep
+clear_text one bounded c source e sound (inr (inl unreadable)) = unreadable.3 sound.declarations sound.read
+clear_text one bounded c source e sound (inr (inr (ds, read, shallow, fault))) = by (subst IsFine (one source sound.declarations ds sound.read read) (sound.clear, sound.bounded)) fault
   where
     IsFine : List DeclaredItem → Type 0
-    IsFine ds = AreClear ds × ((structs : List StructOf) → structs_of ds ≡ Some structs → AreBounded empty_configuration ds structs)
+    IsFine ds = AreClear ds × ((structs : List StructOf) → structs_of ds ≡ Some structs → AreBounded c ds structs)
 
-    by : IsFine ds → IsFaulty ds e ⊎ IsBeyond empty_configuration ds e → ⊥
+    by : IsFine ds → IsFaulty ds e ⊎ IsBeyond c ds e → ⊥
     by fine (inl (inl (x, duplicate, is))) = fine.0.distinct x duplicate
     by fine (inl (inr (inl (fault, found, is)))) = fine.0.resolved fault found
     by fine (inl (inr (inr (inl (x, fieldless, is))))) = fine.0.fielded x fieldless
     by fine (inl (inr (inr (inr (inl (span, nameless, is)))))) = fine.0.named span nameless
     by fine (inl (inr (inr (inr (inr (span, attributed, is)))))) = fine.0.documented span attributed
-    by fine (inr (clear, (structs, resolved, unbounded))) = bounded empty_configuration ds structs e (fine.1 structs resolved) unbounded
+    by fine (inr (clear, (structs, resolved, unbounded))) = bounded c ds structs e (fine.1 structs resolved) unbounded
 
 long_and_short : (n : ℕ) → most_bytes < n → n ≤ most_bytes → ⊥
 long_and_short n long short = omega arith
 
-not_refused : OneReading → BoundedAreNotRefused → (source : List ℕ) (e : DeriveError) → IsSound source → IsRefusedSource source e → ⊥
-not_refused one bounded source e sound (inl (long, is)) = long_and_short (length source) long sound.text.short
-not_refused one bounded source e sound (inr (inl (short, (span, broken, is)))) = broken.no_text sound.text.utf8
-not_refused one bounded source e sound (inr (inr (is_text, refused))) = clear_text one bounded source e sound refused
+not_refused : OneReading → BoundedAreNotRefused → (c : Configuration) (source : List ℕ) (e : DeriveError) → IsSound c source → IsRefusedSource c source e → ⊥
+not_refused one bounded c source e sound (inl (long, is)) = long_and_short (length source) long sound.text.short
+not_refused one bounded c source e sound (inr (inl (short, (span, broken, is)))) = broken.no_text sound.text.utf8
+not_refused one bounded c source e sound (inr (inr (is_text, refused))) = clear_text one bounded c source e sound refused
 
 pub returns : goal.returns
 unfolding OneReading
