@@ -86,6 +86,17 @@ fn is_refused(alloc: Global, source: &str, kind: Kind, span: Span) -> bool {
     }
 }
 
+/// Whether the source is refused as `Syntax` from the start to the end.
+fn is_refused_at(alloc: Global, source: &str, start: usize, end: usize) -> bool {
+    match parse_declarations(alloc, source) {
+        Err(DeriveError::Refused(diagnostics)) => {
+            let span = diagnostics.span();
+            diagnostics.kind() == Kind::Syntax && (span.start, span.end) == (start, end)
+        }
+        _ => false,
+    }
+}
+
 fn is_no_type(alloc: Global, text: &str, kind: Kind, span: Span) -> bool {
     match parse_type(alloc, text) {
         Ok(_) => false,
@@ -196,10 +207,7 @@ fn refuses_other_text(rt: HostRuntime) -> Result<(), Fail> {
         ("struct S { a: u8 } /// d", 24, 24),
     ];
     for (source, start, end) in cases {
-        assert!(rt;
-            is_refused(alloc, source, Kind::Syntax, Span { start, end }),
-            "{source}"
-        );
+        assert!(rt; is_refused_at(alloc, source, start, end), "{source}");
     }
     Ok(())
 }

@@ -469,7 +469,7 @@ fn token<R: Abort + AllocGlobal>(rt: &R, kind: TokenKind, text: &str, start: usi
         text: Text::new(rt.alloc(), text).expect(rt, "a text"),
         span: Span {
             start,
-            end: start + text.len(),
+            end: start.saturating_add(text.len()),
         },
     })
 }
@@ -478,7 +478,10 @@ fn group<R: AllocGlobal>(rt: &R, start: usize, end: usize) -> TokenTree {
     TokenTree::Group(Group {
         bracket: Bracket::Round,
         trees: List::new(rt.alloc()),
-        span: Span { start, end },
+        span: Span {
+            start,
+            end: end.max(start),
+        },
     })
 }
 
