@@ -7,7 +7,7 @@ use Rattle.serde_json.specs.Find.{as_array, as_object}
 use Rattle.serde_json.specs.View.{view, items_view, members_view}
 use Rattle.serde_json.specs.declared.value.Value.{Value}
 use Rattle.serde_json.proofs.Views.{Entry}
-use Rattle.renaming.specs.declared.row.RenameRow.{RenameRow}
+use Rattle.diag.specs.declared.rename_row.RenameRow.{RenameRow}
 use Rattle.configuration.specs.Form.{names_of, IsObjectOf, IsRow, AreRows}
 
 -- ---- rows

@@ -1,11 +1,11 @@
 -- What says a configuration says one alone.
 use Rattle.std.proofs.Common.{◌≡◌, ℕ, List, [], ◌∷◌, Option, Some, None, refl, sym, ap, ◌∙◌, subst}
 use Rattle.serde_json.specs.Data.{Data, null, boolean, number, string, array, object, Items, no_items, item}
-use Rattle.renaming.specs.declared.rule.RenameRule.{RenameRule}
-use Rattle.renaming.specs.declared.row.RenamePlace.{RenamePlace}
-use Rattle.renaming.specs.declared.row.RenamePlace.TheVariants.{Field, Variant}
-use Rattle.renaming.specs.declared.row.RenameRow.{RenameRow}
-use Rattle.renaming.specs.Rules.{name_of}
+use Rattle.diag.specs.declared.rename_rule.RenameRule.{RenameRule}
+use Rattle.diag.specs.declared.rename_row.RenamePlace.{RenamePlace}
+use Rattle.diag.specs.declared.rename_row.RenamePlace.TheVariants.{Field, Variant}
+use Rattle.diag.specs.declared.rename_row.RenameRow.{RenameRow}
+use Rattle.diag.specs.RenameRules.{name_of}
 use Rattle.configuration.specs.declared.collect.SchemaCollect.{SchemaCollect}
 use Rattle.configuration.specs.declared.collect.SchemaCollect.TheVariants.{NonInlined, All}
 use Rattle.configuration.specs.Configuration.{Configuration}

@@ -1,6 +1,6 @@
 -- What deriving may take, which instances get components, and what names become by rename rules.
 use Rattle.std.specs.Prelude.{ℕ, List, []}
-use Rattle.renaming.specs.declared.row.RenameRow.{RenameRow}
+use Rattle.diag.specs.declared.rename_row.RenameRow.{RenameRow}
 use Rattle.configuration.specs.declared.collect.SchemaCollect.{SchemaCollect}
 use Rattle.configuration.specs.declared.collect.SchemaCollect.TheVariants.{NonInlined}
 

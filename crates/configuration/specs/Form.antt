@@ -8,10 +8,10 @@ use Rattle.diag.specs.Refusal.{IsRefusal}
 use Rattle.diag.specs.Span.{no_span}
 use Rattle.diag.specs.declared.error.DeriveError.{DeriveError}
 use Rattle.diag.specs.declared.kind.Kind.TheVariants.{BadConfig}
-use Rattle.renaming.specs.declared.row.RenamePlace.{RenamePlace}
-use Rattle.renaming.specs.declared.row.RenamePlace.TheVariants.{Field, Variant}
-use Rattle.renaming.specs.declared.row.RenameRow.{RenameRow}
-use Rattle.renaming.specs.Rules.{name_of}
+use Rattle.diag.specs.declared.rename_row.RenamePlace.{RenamePlace}
+use Rattle.diag.specs.declared.rename_row.RenamePlace.TheVariants.{Field, Variant}
+use Rattle.diag.specs.declared.rename_row.RenameRow.{RenameRow}
+use Rattle.diag.specs.RenameRules.{name_of}
 use Rattle.configuration.specs.declared.collect.SchemaCollect.{SchemaCollect}
 use Rattle.configuration.specs.declared.collect.SchemaCollect.TheVariants.{NonInlined, All}
 use Rattle.configuration.specs.Configuration.{Configuration}

@@ -6,8 +6,7 @@ ghost use Rattle.configuration.specs.Form.{KeepsEmpty, IsConfiguration, IsConfig
 use crate::collect::SchemaCollect;
 use crate::members::{collect_at, is_empty_list_at, is_empty_object_at, is_object_of, whole_at};
 use crate::renames::renames_at;
-use diag::{DeriveError, Diagnostics, Kind};
-use renaming::RenameTable;
+use diag::{DeriveError, Diagnostics, Kind, RenameTable};
 use serde_json::Value;
 use std::alloc::{AllocError, Global};
 use std::marker::Model;

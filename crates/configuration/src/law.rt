@@ -3,7 +3,7 @@ ghost use Rattle.serde_json.specs.Data.{Data};
 ghost use Rattle.configuration.specs.Configuration.{Configuration};
 ghost use Rattle.configuration.specs.Form.{IsConfiguration, IsConfigurationText};
 
-use renaming::rules_have_own_names;
+use diag::rules_have_own_names;
 
 /// A JSON value says at most one configuration, and so does a text.
 pub fn configurations_are_one()

@@ -4,15 +4,14 @@ ghost use Rattle.std.specs.Prelude.{◌≡◌, ◌≢◌, List, [], MatchOption,
 ghost use Rattle.serde_json.specs.Data.{string};
 ghost use Rattle.serde_json.specs.Find.{get};
 ghost use Rattle.serde_json.specs.View.{view, items_view};
-ghost use Rattle.renaming.specs.Rules.{name_of};
-ghost use Rattle.renaming.specs.declared.rule.RenameRule.{RenameRule as AnyRule};
-ghost use Rattle.renaming.specs.declared.row.RenamePlace.{RenamePlace as AnyPlace};
-ghost use Rattle.renaming.specs.declared.row.RenameRow.{RenameRow as AnyRow};
+ghost use Rattle.diag.specs.RenameRules.{name_of};
+ghost use Rattle.diag.specs.declared.rename_rule.RenameRule.{RenameRule as AnyRule};
+ghost use Rattle.diag.specs.declared.rename_row.RenamePlace.{RenamePlace as AnyPlace};
+ghost use Rattle.diag.specs.declared.rename_row.RenameRow.{RenameRow as AnyRow};
 ghost use Rattle.configuration.specs.Form.{place_name, IsGiven, IsRow, AreRows, IsRenames};
 
 use crate::members::{is_object_of, text_at};
-use diag::Text;
-use renaming::{RenamePlace, RenameRow, RenameRule, RenameTable};
+use diag::{RenamePlace, RenameRow, RenameRule, RenameTable, Text};
 use serde_json::Value;
 use std::alloc::{AllocError, Global};
 use std::str::FromStr;

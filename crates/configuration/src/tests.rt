@@ -1,6 +1,5 @@
 use crate::{Config, SchemaCollect};
-use diag::{DeriveError, Kind};
-use renaming::RenameRule;
+use diag::{DeriveError, Kind, RenameRule};
 use serde_json::Value;
 use std::alloc::Global;
 use std::test::Fail;

@@ -1,2 +1,3 @@
 mod Joins
 mod Orders
+pub mod RenameIndexLaws

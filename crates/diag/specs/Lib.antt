@@ -1,6 +1,9 @@
 pub mod Diagnostics
 pub mod Kind
 pub mod Refusal
+pub mod RenameIndex
+pub mod RenameRows
+pub mod RenameRules
 pub mod Span
 pub mod Suggestion
 pub mod formers

@@ -13,10 +13,10 @@ use Rattle.diag.specs.declared.error.DeriveError.TheVariants.{Memory}
 use Rattle.attributes.specs.declared.serde_item.SerdeItem.{SerdeItem}
 use Rattle.attributes.specs.declared.serde_item.SerdeText.{SerdeText}
 use Rattle.std.specs.Result.{result_ok}
-use Rattle.renaming.specs.Rules.{name_of, IsRuleNamed}
-use Rattle.renaming.specs.declared.rule.UnknownRule.{UnknownRule}
-use Rattle.renaming.specs.declared.rule.RenameRule.{RenameRule}
-use Rattle.renaming.specs.declared.rule.RenameRule.TheVariants.{Lower, Upper, Pascal, Camel, Snake, ScreamingSnake, Kebab, ScreamingKebab}
+use Rattle.diag.specs.RenameRules.{name_of, IsRuleNamed}
+use Rattle.diag.specs.declared.rename_rule.UnknownRule.{UnknownRule}
+use Rattle.diag.specs.declared.rename_rule.RenameRule.{RenameRule}
+use Rattle.diag.specs.declared.rename_rule.RenameRule.TheVariants.{Lower, Upper, Pascal, Camel, Snake, ScreamingSnake, Kebab, ScreamingKebab}
 use Rattle.serde_rules.specs.declared.container.SerdeContainer.{SerdeContainer}
 use Rattle.serde_rules.specs.declared.enum_repr.SerdeEnumRepr.{SerdeEnumRepr}
 use Rattle.serde_rules.specs.declared.enum_repr.SerdeEnumRepr.TheVariants.{ExternallyTagged}

@@ -8,9 +8,9 @@ use Rattle.diag.specs.declared.kind.Kind.TheVariants.{BadValue, SerdeTag}
 use Rattle.diag.specs.declared.span.Span.{Span}
 use Rattle.attributes.specs.declared.serde_item.SerdeItem.{SerdeItem}
 use Rattle.attributes.specs.declared.serde_item.SerdeText.{SerdeText}
-use Rattle.renaming.specs.Rules.{name_of}
-use Rattle.renaming.specs.declared.rule.RenameRule.{RenameRule}
-use Rattle.renaming.specs.declared.rule.RenameRule.TheVariants.{Lower, Upper, Pascal, Camel, Snake, ScreamingSnake, Kebab, ScreamingKebab}
+use Rattle.diag.specs.RenameRules.{name_of}
+use Rattle.diag.specs.declared.rename_rule.RenameRule.{RenameRule}
+use Rattle.diag.specs.declared.rename_rule.RenameRule.TheVariants.{Lower, Upper, Pascal, Camel, Snake, ScreamingSnake, Kebab, ScreamingKebab}
 use Rattle.serde_rules.specs.declared.container.SerdeContainer.{SerdeContainer}
 use Rattle.serde_rules.specs.declared.enum_repr.SerdeEnumRepr.{SerdeEnumRepr}
 use Rattle.serde_rules.specs.declared.enum_repr.SerdeEnumRepr.TheVariants.{ExternallyTagged, InternallyTagged, AdjacentlyTagged, Untagged, UnfinishedAdjacentlyTagged}

@@ -1,9 +1,9 @@
 -- What a field or a variant is called in JSON (serde.rs, "Container attributes", `rename_all`; "Field attributes", `rename`).
 use Rattle.std.specs.Prelude.{ℕ, List, [], ◌∷◌, Option, Some, None, Result, Ok, Err}
-use Rattle.renaming.specs.declared.rule.RenameRule.{RenameRule}
-use Rattle.renaming.specs.declared.row.RenamePlace.{RenamePlace}
-use Rattle.renaming.specs.declared.row.RenameRow.{RenameRow}
-use Rattle.renaming.specs.Rows.{row_to}
+use Rattle.diag.specs.declared.rename_rule.RenameRule.{RenameRule}
+use Rattle.diag.specs.declared.rename_row.RenamePlace.{RenamePlace}
+use Rattle.diag.specs.declared.rename_row.RenameRow.{RenameRow}
+use Rattle.diag.specs.RenameRows.{row_to}
 use Rattle.serde_rules.specs.declared.rows.NoRow.{NoRow}
 
 abbrev pub no_row : NoRow

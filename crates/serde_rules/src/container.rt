@@ -11,8 +11,7 @@ ghost use Rattle.serde_rules.specs.Items.{text_for};
 use crate::enum_repr::{SerdeEnumRepr, refusal, with_item};
 use crate::items::{is_told, literal_for};
 use attributes::{Attribute, SerdeItem, serde_items};
-use diag::{DeriveError, Kind};
-use renaming::RenameRule;
+use diag::{DeriveError, Kind, RenameRule};
 use std::alloc::Global;
 use std::str::FromStr;
 

@@ -4,7 +4,7 @@ ghost use Rattle.std.specs.Prelude.{◌≡◌, option_map, IfOk, IfErr};
 ghost use Rattle.serde_rules.specs.Names.{new_name};
 
 use crate::rows::{NoRow, Rename};
-use renaming::{RenameRule, RenameTable};
+use diag::{RenameRule, RenameTable};
 
 /// The new name, or `Ok(None)` where the name stays: what is given, unless it is empty, or else what the rule says, where
 /// there is one. `NoRow` where the rule is needed and has no row. It takes no memory.

@@ -1,11 +1,11 @@
 //! What fields and variants become by rows of a rename table.
 
 ghost use Rattle.std.specs.Prelude.{◌≡◌, option_map};
-ghost use Rattle.renaming.specs.Rows.{row_to};
-ghost use Rattle.renaming.specs.declared.row.RenamePlace.{RenamePlace};
-ghost use Rattle.renaming.specs.declared.row.RenamePlace.TheVariants.{Field, Variant};
+ghost use Rattle.diag.specs.RenameRows.{row_to};
+ghost use Rattle.diag.specs.declared.rename_row.RenamePlace.{RenamePlace};
+ghost use Rattle.diag.specs.declared.rename_row.RenamePlace.TheVariants.{Field, Variant};
 
-use renaming::{RenameRule, RenameTable};
+use diag::{RenameRule, RenameTable};
 use thiserror::Error;
 
 /// A rename rule is needed, and the table has no row for it.

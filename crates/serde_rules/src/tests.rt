@@ -5,9 +5,8 @@ use crate::{
     parse_container, parse_value, rules_are_found_by_name,
 };
 use attributes::{Attribute, attributes_at};
-use diag::{DeriveError, List, Text};
+use diag::{DeriveError, List, RenamePlace, RenameRow, RenameRule, RenameTable, Text};
 use lexing::lex;
-use renaming::{RenamePlace, RenameRow, RenameRule, RenameTable};
 use std::alloc::Global;
 use std::test::Fail;
 

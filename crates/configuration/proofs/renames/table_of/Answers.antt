@@ -1,6 +1,6 @@
 use Rattle.std.proofs.Common.{◌≡◌, ◌+◌, ◌∷◌, ◌++◌, [], sym, arith, subst, take, get_or}
 use Rattle.serde_json.specs.View.{view, items_view}
-use Rattle.renaming.specs.declared.row.RenameRow.{RenameRow}
+use Rattle.diag.specs.declared.rename_row.RenameRow.{RenameRow}
 use Rattle.configuration.specs.Form.{IsRow, AreRows}
 use Rattle.configuration.proofs.FormLaws.{rows_more, none_at}
 use Rattle.configuration.proofs.renames.table_of.Goals as goal

@@ -2,9 +2,9 @@ use Rattle.std.proofs.Common.{arith, vec_len, ◌≡◌, ◌∙◌, sym, ap, sub
 use Rattle.std.specs.BTreeMap.{get_by_text}
 use Rattle.std.specs.Map.{update}
 use Rattle.std.proofs.lemmas.Map.Text.{btree_map_updates_text}
-use Rattle.renaming.specs.Index.{slot_of, slots_of, put_place, IsIndex}
-use Rattle.renaming.proofs.IndexLaws.{index_push}
-use Rattle.renaming.proofs.table.RenameTable.push.Goals as goal
+use Rattle.diag.specs.RenameIndex.{slot_of, slots_of, put_place, IsIndex}
+use Rattle.diag.proofs.RenameIndexLaws.{index_push}
+use Rattle.diag.proofs.rename_table.RenameTable.push.Goals as goal
 
 pub invariant_of-self-in-Ok : goal.invariant_of-self-in-Ok
 invariant_of-self-in-Ok c =

@@ -1,5 +1,5 @@
-use crate::rule::RenameRule;
-use diag::Text;
+use crate::rename_rule::RenameRule;
+use crate::text::Text;
 
 /// What is renamed.
 #[derive(Clone, Copy, Debug, PartialEq, Eq)]

@@ -1,11 +1,11 @@
 ghost use Rattle.std.specs.Prelude.{◌≡◌, ◌<◌, [], ◌∷◌, ◌++◌, OnOk, OnErr, option_map, get_or, None};
 ghost use Rattle.std.specs.BTreeMap.{get_by_text};
-ghost use Rattle.renaming.specs.Index.{slot_of, slots_of, in_slot, put_place};
-ghost use Rattle.renaming.specs.Rows.{row_to};
-ghost use Rattle.renaming.specs.declared.row.RenamePlace.TheVariants.{Field, Variant};
+ghost use Rattle.diag.specs.RenameIndex.{slot_of, slots_of, in_slot, put_place};
+ghost use Rattle.diag.specs.RenameRows.{row_to};
+ghost use Rattle.diag.specs.declared.rename_row.RenamePlace.TheVariants.{Field, Variant};
 
-use crate::row::{RenamePlace, RenameRow};
-use crate::rule::RenameRule;
+use crate::rename_row::{RenamePlace, RenameRow};
+use crate::rename_rule::RenameRule;
 use std::alloc::{AllocError, Global};
 use std::collections::BTreeMap;
 use std::marker::Model;
@@ -29,8 +29,8 @@ pub struct RenameTable {
 impl Model for RenameTable {
     ghost use Rattle.std.specs.Prelude.{List};
     ghost use Rattle.std.specs.BTreeMap.{get_by_text};
-    ghost use Rattle.renaming.specs.declared.row.RenameRow.{RenameRow};
-    ghost use Rattle.renaming.specs.Index.{IsIndex};
+    ghost use Rattle.diag.specs.declared.rename_row.RenameRow.{RenameRow};
+    ghost use Rattle.diag.specs.RenameIndex.{IsIndex};
 
     ghost Value = { List RenameRow };
 

@@ -1,11 +1,11 @@
 -- Where the first row for a rule, a place and a text stands.
 use Rattle.std.specs.Prelude.{◌≡◌, ℕ, suc, ◌+◌, List, [], ◌∷◌, Bool, cond, Option, Some, None, option_map, get_or, set, replicate, length, IfSome}
-use Rattle.renaming.specs.declared.rule.RenameRule.{RenameRule}
-use Rattle.renaming.specs.declared.rule.RenameRule.TheVariants.{Lower, Upper, Camel, Snake, ScreamingSnake, Pascal, Kebab, ScreamingKebab}
-use Rattle.renaming.specs.declared.row.RenamePlace.{RenamePlace}
-use Rattle.renaming.specs.declared.row.RenamePlace.TheVariants.{Field, Variant}
-use Rattle.renaming.specs.declared.row.RenameRow.{RenameRow}
-use Rattle.renaming.specs.Rows.{is_for}
+use Rattle.diag.specs.declared.rename_rule.RenameRule.{RenameRule}
+use Rattle.diag.specs.declared.rename_rule.RenameRule.TheVariants.{Lower, Upper, Camel, Snake, ScreamingSnake, Pascal, Kebab, ScreamingKebab}
+use Rattle.diag.specs.declared.rename_row.RenamePlace.{RenamePlace}
+use Rattle.diag.specs.declared.rename_row.RenamePlace.TheVariants.{Field, Variant}
+use Rattle.diag.specs.declared.rename_row.RenameRow.{RenameRow}
+use Rattle.diag.specs.RenameRows.{is_for}
 
 abbrev pub rule_number : RenameRule → ℕ
 rule_number Lower = 0

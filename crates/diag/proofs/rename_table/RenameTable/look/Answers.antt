@@ -1,8 +1,8 @@
 use Rattle.std.proofs.Common.{arith, ◌≡◌, ◌<◌, ◌∙◌, sym, ap, option_map, Some, None, get_or, length, find}
-use Rattle.renaming.specs.Rows.{is_for, row_to}
-use Rattle.renaming.specs.Index.{place_in}
-use Rattle.renaming.proofs.IndexLaws.{found_none, found_within, found_some}
-use Rattle.renaming.proofs.table.RenameTable.look.Goals as goal
+use Rattle.diag.specs.RenameRows.{is_for, row_to}
+use Rattle.diag.specs.RenameIndex.{place_in}
+use Rattle.diag.proofs.RenameIndexLaws.{found_none, found_within, found_some}
+use Rattle.diag.proofs.rename_table.RenameTable.look.Goals as goal
 
 pub index-requires : goal.index-requires
 index-requires c =

@@ -4,14 +4,14 @@ use Rattle.std.specs.Map.{update}
 use Rattle.std.proofs.lemmas.Slice.Eq.{bytes_eq-Decides}
 use Rattle.std.proofs.lemmas.Bool.{false≢true, cases_eq}
 use Rattle.std.proofs.lemmas.List.{get_or-set_same, get_or-set_other, length-set}
-use Rattle.renaming.specs.declared.rule.RenameRule.{RenameRule}
-use Rattle.renaming.specs.declared.rule.RenameRule.TheVariants.{Lower, Upper, Camel, Snake, ScreamingSnake, Pascal, Kebab, ScreamingKebab}
-use Rattle.renaming.specs.declared.row.RenamePlace.{RenamePlace}
-use Rattle.renaming.specs.declared.row.RenamePlace.TheVariants.{Field, Variant}
-use Rattle.renaming.specs.declared.row.RenameRow.{RenameRow}
-use Rattle.renaming.specs.Rules.{name_of}
-use Rattle.renaming.specs.Rows.{same_rule, same_place, is_for}
-use Rattle.renaming.specs.Index.{rule_number, slot_of, place_in, slots_of, in_slot, put_place, IsIndex}
+use Rattle.diag.specs.declared.rename_rule.RenameRule.{RenameRule}
+use Rattle.diag.specs.declared.rename_rule.RenameRule.TheVariants.{Lower, Upper, Camel, Snake, ScreamingSnake, Pascal, Kebab, ScreamingKebab}
+use Rattle.diag.specs.declared.rename_row.RenamePlace.{RenamePlace}
+use Rattle.diag.specs.declared.rename_row.RenamePlace.TheVariants.{Field, Variant}
+use Rattle.diag.specs.declared.rename_row.RenameRow.{RenameRow}
+use Rattle.diag.specs.RenameRules.{name_of}
+use Rattle.diag.specs.RenameRows.{same_rule, same_place, is_for}
+use Rattle.diag.specs.RenameIndex.{rule_number, slot_of, place_in, slots_of, in_slot, put_place, IsIndex}
 
 bool_cases : (b : Bool) → (b ≡ true) ⊎ (b ≡ false)
 bool_cases true = inl refl

@@ -1,6 +1,6 @@
 ghost use Rattle.std.specs.Prelude.{◌≡◌};
-ghost use Rattle.renaming.specs.Rules.{name_of};
-ghost use Rattle.renaming.specs.declared.rule.RenameRule.{RenameRule as AnyRule};
+ghost use Rattle.diag.specs.RenameRules.{name_of};
+ghost use Rattle.diag.specs.declared.rename_rule.RenameRule.{RenameRule as AnyRule};
 
 use std::fmt;
 use std::str::FromStr;
@@ -44,7 +44,7 @@ impl RenameRule {
 
 /// The rule of the name. Any other text is an `UnknownRule`.
 impl FromStr for RenameRule {
-    ghost use Rattle.renaming.specs.Rules.{IsRuleNamed};
+    ghost use Rattle.diag.specs.RenameRules.{IsRuleNamed};
 
     type Err = UnknownRule;
 
@@ -67,7 +67,7 @@ impl FromStr for RenameRule {
 
 impl fmt::Display for RenameRule {
     ghost use Rattle.std.specs.Prelude.{Some};
-    ghost use Rattle.renaming.specs.Rules.{name_of};
+    ghost use Rattle.diag.specs.RenameRules.{name_of};
 
     ghost output = { λ rule. Some (name_of rule) };
 

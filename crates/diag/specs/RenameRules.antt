@@ -1,8 +1,8 @@
 -- The rename rules, and their names (serde, "Container attributes", `rename_all`).
 use Rattle.std.specs.Prelude.{◌≡◌, ◌≢◌, ℕ, List, Result, MatchResult, codes}
-use Rattle.renaming.specs.declared.rule.RenameRule.{RenameRule}
-use Rattle.renaming.specs.declared.rule.RenameRule.TheVariants.{Lower, Upper, Camel, Snake, ScreamingSnake, Pascal, Kebab, ScreamingKebab}
-use Rattle.renaming.specs.declared.rule.UnknownRule.{UnknownRule}
+use Rattle.diag.specs.declared.rename_rule.RenameRule.{RenameRule}
+use Rattle.diag.specs.declared.rename_rule.RenameRule.TheVariants.{Lower, Upper, Camel, Snake, ScreamingSnake, Pascal, Kebab, ScreamingKebab}
+use Rattle.diag.specs.declared.rename_rule.UnknownRule.{UnknownRule}
 
 abbrev pub name_of : RenameRule → List ℕ
 name_of Lower = codes "lowercase"

@@ -1,5 +1,4 @@
-use crate::{RenamePlace, RenameRow, RenameRule, RenameTable, UnknownRule};
-use diag::Text;
+use crate::{RenamePlace, RenameRow, RenameRule, RenameTable, Text, UnknownRule};
 use std::alloc::{AllocError, Global};
 use std::str::FromStr;
 use std::test::Fail;
