@@ -10,8 +10,6 @@ mod keyword;
 mod layer;
 mod references;
 mod siblings;
-#[cfg(test)]
-mod tests;
 
 pub use judge::{accepts, component_accepts};
 

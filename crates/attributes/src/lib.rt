@@ -19,8 +19,6 @@ mod meta;
 mod path;
 mod read;
 mod serde_item;
-#[cfg(test)]
-mod tests;
 
 pub use attribute::{Attribute, Meta};
 pub use comments::CommentAttributes;

@@ -105,7 +105,7 @@ put-proper ss inner h (named t false notes) = tt
 closed-proper : (ss : List StructOf) → MembersDiffer ss → (n d : ℕ) → IsProper (closed ss n d)
 closed-proper ss differ zero d = (tt, (tt, (tt, tt)))
 closed-proper ss differ (suc n) d =
-    bind-proper (put ss (closed ss n)) (put-proper ss (closed ss n) (closed-proper ss differ n)) (term (struct_at ss d)) (form-proper (struct_at ss d).description (struct_at ss d).form (differs-at ss d differ))
+    bind-proper (put ss (closed ss n)) (put-proper ss (closed ss n) (closed-proper ss differ n)) (term (struct_at ss d)) (form-proper (struct_at ss d).deprecated (struct_at ss d).description (struct_at ss d).form (differs-at ss d differ))
 
 -- ---- references
 
@@ -166,7 +166,7 @@ module _ (forms_accept : FormsAccept) (forms_refer : FormsRefer) (documents_hold
   closed-found (suc n) d =
       bind-leaves (put ss (closed ss n)) (λ r. HasComponent doc r.name) (term (struct_at ss d))
       (form-leaves (λ x. Found (put ss (closed ss n) x)) ⊥ (λ e. e < length ss) (put-found (closed ss n) (closed-found n)) (λ i h. (tt, (tt, tt)))
-      (struct_at ss d).description (struct_at ss d).form (stands d) (λ a. absurd a))
+      (struct_at ss d).deprecated (struct_at ss d).description (struct_at ss d).form (stands d) (λ a. absurd a))
 
   refers : (t : SchemaOf RefLeaf) (d : ℕ) → t ≡ struct_schema ss d → EachReference (HasComponent doc) (form t)
   refers t d e = forms_refer (λ name. is_some (component_schema doc name)) t (subst Found (sym e) (closed-found most_inlined d))

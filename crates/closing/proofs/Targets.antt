@@ -44,7 +44,7 @@ module _ (S : LeafOf → Type 0) (ToBePlain : Type 0) (P T : ℕ → Type 0) (in
   pub at-each : (s : StructOf) → ((e : ℕ) → StandsInOne e (types_of s.form) → P e) → (ToBePlain → AreAllPlain (types_of s.form)) → AtInlined T (named_leaves (term s)) → EachLeaf S (term s)
   at-each s stands plain inline =
       each-both Follows (λ x. AtInlined T (leaf_references x)) S (λ x f t. f t) (term s)
-      (form-leaves Follows ToBePlain P at_named (λ i h t. at_param i h) s.description s.form stands plain) (at-leaves T (term s) inline)
+      (form-leaves Follows ToBePlain P at_named (λ i h t. at_param i h) s.deprecated s.description s.form stands plain) (at-leaves T (term s) inline)
 
 -- ---- short paths
 
@@ -84,7 +84,7 @@ module _ (ss : List StructOf) where
     are-targets d t among =
         subst (λ m. t < m) (sym (as_many-targets ss))
         (from-leaves (λ e. e < length ss) (term (struct_at ss d))
-        (form-leaves (λ x. AtInlined (λ e. e < length ss) (leaf_references x)) ⊥ (λ e. e < length ss) at_named (λ i h e a. absurd a) (struct_at ss d).description (struct_at ss d).form (within d) (λ a. absurd a)) t
+        (form-leaves (λ x. AtInlined (λ e. e < length ss) (leaf_references x)) ⊥ (λ e. e < length ss) at_named (λ i h e a. absurd a) (struct_at ss d).deprecated (struct_at ss d).description (struct_at ss d).form (within d) (λ a. absurd a)) t
         (subst (IsAmong t) (targets-are ss d) among))
       where
         at_named : (e : ℕ) (ts : Opens) (inline : Bool) (notes : Notes) → e < length ss → AtInlined (λ e. e < length ss) (leaf_references (named (types.named e ts) inline notes))

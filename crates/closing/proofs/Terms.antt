@@ -53,7 +53,7 @@ mutual
 
 properties-proper : (ms : List MemberOf) → ArePropertiesProper (properties_of ms)
 properties-proper [] = tt
-properties-proper (m ∷ ms) = (place-proper false false false m.description m.of, properties-proper ms)
+properties-proper (m ∷ ms) = (place-proper false false m.deprecated m.description m.of, properties-proper ms)
 
 names-are : (ms : List MemberOf) → property_names (properties_of ms) ≡ member_names ms
 names-are [] = refl
@@ -63,17 +63,18 @@ either-proper : (b : Bool) (s t : SchemaOf LeafOf) → IsProper s → IsProper t
 either-proper true s t h k = h
 either-proper false s t h k = k
 
-unnamed-proper : (description : Option (List ℕ)) (ts : List Open) → IsProper (unnamed_term description ts)
-unnamed-proper description [] = (tt, (tt, (tt, (tt, tt))))
-unnamed-proper description (t ∷ []) = place-proper false false false description t
-unnamed-proper description (t ∷ u ∷ us) =
-    (tt, either-proper (are_all t (u ∷ us)) (place false false false description t) any_object (place-proper false false false description t) (tt, (tt, (tt, tt))))
+unnamed-proper : (deprecated : Bool) (description : Option (List ℕ)) (ts : List Open) → IsProper (unnamed_term deprecated description ts)
+unnamed-proper deprecated description [] = (tt, (tt, (tt, (tt, tt))))
+unnamed-proper deprecated description (t ∷ []) = place-proper false false deprecated description t
+unnamed-proper deprecated description (t ∷ u ∷ us) =
+    (tt, either-proper (are_all t (u ∷ us)) (place false false deprecated description t) (any_object deprecated) (place-proper false false deprecated description t) (tt, (tt, (tt, tt))))
 
 -- The term of a declaration is proper where its members' names differ.
-pub form-proper : (description : Option (List ℕ)) (form : FormOf) → IsDistinct (names_of form) → IsProper (form_term description form)
-form-proper description (named_fields ms) h = (subst IsDistinct (sym (names-are ms)) h, (properties-proper ms, (tt, tt)))
-form-proper description (unnamed_fields ts) h = unnamed-proper description ts
-form-proper description no_fields h = (tt, (tt, (tt, tt)))
+pub form-proper : (deprecated : Bool) (description : Option (List ℕ)) (form : FormOf) → IsDistinct (names_of form) → IsProper (form_term deprecated description form)
+form-proper deprecated description (named_fields true ms) h = (subst IsDistinct (sym (names-are ms)) h, (properties-proper ms, (tt, tt)))
+form-proper deprecated description (named_fields false ms) h = (subst IsDistinct (sym (names-are ms)) h, (properties-proper ms, (tt, tt)))
+form-proper deprecated description (unnamed_fields ts) h = unnamed-proper deprecated description ts
+form-proper deprecated description no_fields h = (tt, (tt, (tt, tt)))
 
 -- ---- what holds of each leaf
 
@@ -84,7 +85,7 @@ key-plain (through x k) h = key-plain k h
 key-plain _ h = absurd h
 
 pub plain-types : (form : FormOf) → IsPlainForm form → AreAllPlain (types_of form)
-plain-types (named_fields ms) h = h
+plain-types (named_fields denies ms) h = h
 plain-types (unnamed_fields ts) h = h.0
 plain-types no_fields h = tt
 
@@ -130,19 +131,20 @@ module _ (Q : LeafOf → Type 0) (ToBePlain : Type 0) (P : ℕ → Type 0) (at_n
 
   properties-leaves : (ms : List MemberOf) → ((e : ℕ) → StandsInOne e (member_types ms) → P e) → (ToBePlain → AreAllPlain (member_types ms)) → EachPropertyLeaf Q (properties_of ms)
   properties-leaves [] w p = tt
-  properties-leaves (m ∷ ms) w p = (place-leaves false false false m.description m.of (λ e s. w e (inl s)) (λ a. (p a).0), properties-leaves ms (λ e s. w e (inr s)) (λ a. (p a).1))
+  properties-leaves (m ∷ ms) w p = (place-leaves false false m.deprecated m.description m.of (λ e s. w e (inl s)) (λ a. (p a).0), properties-leaves ms (λ e s. w e (inr s)) (λ a. (p a).1))
 
   either-leaves : (b : Bool) (s t : SchemaOf LeafOf) → EachLeaf Q s → EachLeaf Q t → EachLeaf Q (cond b s t)
   either-leaves true s t h k = h
   either-leaves false s t h k = k
 
-  unnamed-leaves : (description : Option (List ℕ)) (ts : List Open) → ((e : ℕ) → StandsInOne e ts → P e) → (ToBePlain → AreAllPlain ts) → EachLeaf Q (unnamed_term description ts)
-  unnamed-leaves description [] w p = (tt, (tt, (tt, tt)))
-  unnamed-leaves description (t ∷ []) w p = place-leaves false false false description t (λ e s. w e (inl s)) (λ a. (p a).0)
-  unnamed-leaves description (t ∷ u ∷ us) w p =
-      (tt, either-leaves (are_all t (u ∷ us)) (place false false false description t) any_object (place-leaves false false false description t (λ e s. w e (inl s)) (λ a. (p a).0)) (tt, (tt, tt)))
+  unnamed-leaves : (deprecated : Bool) (description : Option (List ℕ)) (ts : List Open) → ((e : ℕ) → StandsInOne e ts → P e) → (ToBePlain → AreAllPlain ts) → EachLeaf Q (unnamed_term deprecated description ts)
+  unnamed-leaves deprecated description [] w p = (tt, (tt, (tt, tt)))
+  unnamed-leaves deprecated description (t ∷ []) w p = place-leaves false false deprecated description t (λ e s. w e (inl s)) (λ a. (p a).0)
+  unnamed-leaves deprecated description (t ∷ u ∷ us) w p =
+      (tt, either-leaves (are_all t (u ∷ us)) (place false false deprecated description t) (any_object deprecated) (place-leaves false false deprecated description t (λ e s. w e (inl s)) (λ a. (p a).0)) (tt, (tt, tt)))
 
-  pub form-leaves : (description : Option (List ℕ)) (form : FormOf) → ((e : ℕ) → StandsInOne e (types_of form) → P e) → (ToBePlain → AreAllPlain (types_of form)) → EachLeaf Q (form_term description form)
-  form-leaves description (named_fields ms) w p = (properties-leaves ms w p, (tt, tt))
-  form-leaves description (unnamed_fields ts) w p = unnamed-leaves description ts w p
-  form-leaves description no_fields w p = (tt, (tt, tt))
+  pub form-leaves : (deprecated : Bool) (description : Option (List ℕ)) (form : FormOf) → ((e : ℕ) → StandsInOne e (types_of form) → P e) → (ToBePlain → AreAllPlain (types_of form)) → EachLeaf Q (form_term deprecated description form)
+  form-leaves deprecated description (named_fields true ms) w p = (properties-leaves ms w p, (tt, tt))
+  form-leaves deprecated description (named_fields false ms) w p = (properties-leaves ms w p, (tt, tt))
+  form-leaves deprecated description (unnamed_fields ts) w p = unnamed-leaves deprecated description ts w p
+  form-leaves deprecated description no_fields w p = (tt, (tt, tt))

@@ -8,8 +8,6 @@ mod place;
 mod references;
 mod schemas;
 mod term;
-#[cfg(test)]
-mod tests;
 
 pub use component_schema::{ComponentSchema, ComponentSchemaProps};
 pub use container::{ComponentDescription, Container};

@@ -1,19 +1,19 @@
 -- The first attribute of two lists is that of the first list, or else of the second.
-use Rattle.std.proofs.Common.{◌≡◌, ◌∙◌, ◌<◌, ◌+◌, ℕ, List, [], ◌∷◌, ◌++◌, length, take, map, get_or, refl, ap, ap₂, sym, Option, Some, None, Bool, true, false, cond, codes, append_assoc}
+use Rattle.std.proofs.Common.{◌≡◌, ◌∙◌, ◌<◌, ◌+◌, ℕ, List, [], ◌∷◌, ◌++◌, length, take, map, get_or, refl, ap, ap₂, sym, Option, Some, None, Bool, true, false, cond, append_assoc}
 use Rattle.std.proofs.lemmas.List.{append-nil, take_more}
 use Rattle.std.specs.List.{flat_map}
 use Rattle.std.specs.Option.{option_or}
 use Rattle.diag.specs.declared.span.Span.{Span}
-use Rattle.attributes.specs.Attributes.{AttributeItem, is_word}
-use Rattle.compose.specs.Faults.{first_other}
+use Rattle.attributes.specs.Attributes.{AttributeItem}
+use Rattle.compose.specs.Faults.{is_other, first_other}
 
 pub first_joined : (xs ys : List AttributeItem) → first_other (xs ++ ys) ≡ option_or (first_other xs) (first_other ys)
 first_joined [] ys = refl
-first_joined (a ∷ xs) ys = by (is_word (codes "doc") a.path) (first_joined xs ys)
+first_joined (a ∷ xs) ys = by (is_other a) (first_joined xs ys)
   where
-    by : (b : Bool) → first_other (xs ++ ys) ≡ option_or (first_other xs) (first_other ys) → cond b (first_other (xs ++ ys)) (Some a.span) ≡ option_or (cond b (first_other xs) (Some a.span)) (first_other ys)
-    by true h = h
-    by false h = refl
+    by : (b : Bool) → first_other (xs ++ ys) ≡ option_or (first_other xs) (first_other ys) → cond b (Some a.span) (first_other (xs ++ ys)) ≡ option_or (cond b (Some a.span) (first_other xs)) (first_other ys)
+    by true h = refl
+    by false h = h
 
 -- parts of one item more
 pub parts_push : {A B : Type 0} (part : B → List AttributeItem) (view : A → B) (xs : List A) (x : A) → flat_map part (map view (xs ++ x ∷ [])) ≡ flat_map part (map view xs) ++ part (view x)

@@ -1,20 +1,25 @@
--- Why declarations have no components: a name given twice, a type that stands for nothing or is too large, a form without a field, a field without a name or an attribute that nothing is derived from, or what is beyond a bound.
-use Rattle.std.specs.Prelude.{◌≡◌, ◌⊎◌, ℕ, List, [], ◌∷◌, ◌++◌, Option, Some, None, cond, codes}
+-- Why declarations have no components: a name given twice or without its row, a type that stands for nothing or is too large, a form without a field, a field without a name, serde's items that contradict each other, an attribute that nothing is derived from, or what is beyond a bound.
+use Rattle.std.specs.Prelude.{◌≡◌, ◌⊎◌, ◌||◌, ℕ, List, [], ◌∷◌, ◌++◌, Bool, Option, Some, None, cond, codes}
 use Rattle.std.specs.List.{flat_map}
 use Rattle.diag.specs.Refusal.{IsRefusal}
 use Rattle.diag.specs.declared.error.DeriveError.{DeriveError}
 use Rattle.diag.specs.declared.kind.Kind.TheVariants.{Arity, DuplicateName, Syntax}
 use Rattle.diag.specs.declared.span.Span.{Span}
+use Rattle.diag.specs.declared.rename_row.RenameRow.{RenameRow}
 use Rattle.schema_core.specs.Document.{Entry}
 use Rattle.written_types.specs.declared.written.Ident.{Ident}
 use Rattle.attributes.specs.Attributes.{AttributeItem, is_word}
+use Rattle.attributes.specs.AttributeReading.{serde_items_in, serde_items}
+use Rattle.serde_rules.specs.Items.{has_item}
+use Rattle.serde_rules.specs.Container.{rename_rule, IsContainerRefusal}
 use Rattle.syntax.specs.Items.{FieldItem, FieldItems, named, unnamed, unit, BodyItem, struct_body, DeclaredItem}
 use Rattle.syntax.specs.Source.{Reads, IsUnreadable, IsTooDeep, NestsTooDeep}
 use Rattle.resolving.specs.Resolved.{Fault, IsFault, IsRefusedFor, Somewhere}
 use Rattle.scopes.specs.Names.{declared_idents, place_among, Repeats, duplicate_message}
 use Rattle.configuration.specs.Configuration.{Configuration}
 use Rattle.derive_decl.specs.Structs.{StructOf}
-use Rattle.derive_decl.specs.Faults.{field_idents, body_fields, fieldless_message}
+use Rattle.derive_decl.specs.Fields.{kept, written_idents}
+use Rattle.derive_decl.specs.Faults.{body_fields, kept_fields, container_items, fieldless_message, IsFaultyName}
 use Rattle.derive_decl.specs.Whole.{structs_of}
 use Rattle.closing.specs.Described.{IsApart, AreComponents}
 use Rattle.instances.specs.Bounds.{AreBounded, IsUnbounded}
@@ -25,26 +30,31 @@ named_in (named fs) = fs
 named_in (unnamed fs) = []
 named_in unit = []
 
-abbrev pub named_fields : BodyItem → List FieldItem
-named_fields (struct_body fs) = named_in fs
+-- the named fields that are kept
+abbrev pub kept_named : BodyItem → List FieldItem
+kept_named (struct_body fs) = kept (named_in fs)
+
+-- the names of a declaration's members, where their identifiers stand
+abbrev pub member_idents : List RenameRow → DeclaredItem → List Ident
+member_idents rows d = written_idents rows (rename_rule (serde_items d.attrs)) (kept_named d.body)
 
 -- ---- the conditions
 
--- two declarations, or two named fields of one declaration, have one name; the identifier is that of the second
-abbrev pub IsDuplicate : List DeclaredItem → Ident → Type 0
-IsDuplicate ds x = Repeats (declared_idents ds) x ⊎ Somewhere (λ d. Repeats (field_idents (named_fields d.body)) x) ds
+-- two declarations, or two members of one declaration, have one name; the identifier is that of the second
+abbrev pub IsDuplicate : List RenameRow → List DeclaredItem → Ident → Type 0
+IsDuplicate rows ds x = Repeats (declared_idents ds) x ⊎ Somewhere (λ d. Repeats (member_idents rows d) x) ds
 
--- a field's type has a name that is not known or has other type arguments than it takes, or is too large
+-- the type of a field that is kept has a name that is not known or has other type arguments than it takes, or is too large
 abbrev pub IsFaultOf : List DeclaredItem → Fault → Type 0
-IsFaultOf ds fault = Somewhere (λ d. Somewhere (λ f. IsFault (place_among ds) f.ty fault) (body_fields d.body)) ds
+IsFaultOf ds fault = Somewhere (λ d. Somewhere (λ f. IsFault (place_among ds) f.ty fault) (kept_fields d.body)) ds
 
 -- the declaration of the identifier has unnamed fields, of which there is none
 abbrev pub IsFieldless : List DeclaredItem → Ident → Type 0
 IsFieldless ds x = Somewhere (λ d. (x ≡ d.ident) × (d.body ≡ struct_body (unnamed []))) ds
 
--- a named field has no name
+-- a named field that is kept has no name
 abbrev pub IsNameless : List DeclaredItem → Span → Type 0
-IsNameless ds span = Somewhere (λ d. Somewhere (λ f. (f.ident ≡ None) × (span ≡ f.span)) (named_fields d.body)) ds
+IsNameless ds span = Somewhere (λ d. Somewhere (λ f. (f.ident ≡ None) × (span ≡ f.span)) (kept_named d.body)) ds
 
 -- the attributes of declarations and their fields, in order
 abbrev pub attributes_in : DeclaredItem → List AttributeItem
@@ -53,21 +63,35 @@ attributes_in d = d.attrs ++ flat_map (λ f. f.attrs) (body_fields d.body)
 abbrev pub attributes_of : List DeclaredItem → List AttributeItem
 attributes_of ds = flat_map attributes_in ds
 
--- where the first attribute stands that is of serde, schema, repr or deprecated: nothing is derived from these
+-- an attribute of `schema` or `repr`, or a serde list that flattens: nothing is derived from these
+abbrev pub is_other : AttributeItem → Bool
+is_other a = is_word (codes "schema") a.path || is_word (codes "repr") a.path || has_item (codes "flatten") (serde_items_in a)
+
+-- where the first of these stands
 abbrev pub first_other : List AttributeItem → Option Span
 first_other [] = None
-first_other (a ∷ others) = cond (is_word (codes "doc") a.path) (first_other others) (Some a.span)
+first_other (a ∷ others) = cond (is_other a) (Some a.span) (first_other others)
 
 abbrev pub IsAttributed : List DeclaredItem → Span → Type 0
 IsAttributed ds span = first_other (attributes_of ds) ≡ Some span
 
--- no such condition holds of the declarations
-pub record AreClear (ds : List DeclaredItem) : Type 0 where
-  pub distinct : (x : Ident) → ¬ IsDuplicate ds x
+-- the error refuses the name of a field that is kept: the row of its rule is missing
+abbrev pub IsRowless : List RenameRow → List DeclaredItem → DeriveError → Type 0
+IsRowless rows ds e = Somewhere (λ d. Somewhere (λ f. IsFaultyName rows (rename_rule (serde_items d.attrs)) f e) (kept_named d.body)) ds
+
+-- the error refuses serde's items before a declaration whose fields have names: they contradict each other, or name a rename rule that there is not
+abbrev pub IsDisallowed : List DeclaredItem → DeriveError → Type 0
+IsDisallowed ds e = Somewhere (λ d. IsContainerRefusal (container_items d.attrs d.body) e) ds
+
+-- no such condition holds of the declarations, where names become what the rows say
+pub record AreClear (rows : List RenameRow) (ds : List DeclaredItem) : Type 0 where
+  pub distinct : (x : Ident) → ¬ IsDuplicate rows ds x
   pub resolved : (fault : Fault) → ¬ IsFaultOf ds fault
   pub fielded : (x : Ident) → ¬ IsFieldless ds x
   pub named : (span : Span) → ¬ IsNameless ds span
-  pub documented : (span : Span) → ¬ IsAttributed ds span
+  pub derivable : (span : Span) → ¬ IsAttributed ds span
+  pub written : (e : DeriveError) → ¬ IsRowless rows ds e
+  pub allowed : (e : DeriveError) → ¬ IsDisallowed ds e
 
 -- ---- the answers
 
@@ -75,21 +99,23 @@ abbrev pub nameless_message : List ℕ
 nameless_message = codes "unexpected text in a declaration"
 
 -- the error refuses the declarations for one of the conditions, at its bytes
-abbrev pub IsFaulty : List DeclaredItem → DeriveError → Type 0
-IsFaulty ds e =
-    ((x : Ident) × IsDuplicate ds x × IsRefusal DuplicateName x.span (duplicate_message x.text) e)
+abbrev pub IsFaulty : List RenameRow → List DeclaredItem → DeriveError → Type 0
+IsFaulty rows ds e =
+    ((x : Ident) × IsDuplicate rows ds x × IsRefusal DuplicateName x.span (duplicate_message x.text) e)
     ⊎ ((fault : Fault) × IsFaultOf ds fault × IsRefusedFor fault e)
     ⊎ ((x : Ident) × IsFieldless ds x × IsRefusal Arity x.span fieldless_message e)
     ⊎ ((span : Span) × IsNameless ds span × IsRefusal Syntax span nameless_message e)
     ⊎ ((span : Span) × IsAttributed ds span × IsRefusal Syntax span nameless_message e)
+    ⊎ IsRowless rows ds e
+    ⊎ IsDisallowed ds e
 
 -- the error refuses declarations of which no condition holds: their instances are beyond a bound
 abbrev pub IsBeyond : Configuration → List DeclaredItem → DeriveError → Type 0
-IsBeyond c ds e = AreClear ds × ((ss : List StructOf) × (structs_of ds ≡ Some ss) × IsUnbounded c ds ss e)
+IsBeyond c ds e = AreClear c.renames ds × ((ss : List StructOf) × (structs_of c.renames ds ≡ Some ss) × IsUnbounded c ds ss e)
 
 -- the error refuses a source that is read and nests no deeper than it may, whose declarations are at fault or beyond a bound
 abbrev pub IsFaultySource : Configuration → List ℕ → DeriveError → Type 0
-IsFaultySource c source e = (ds : List DeclaredItem) × Reads source ds × ((span : Span) → ¬ (NestsTooDeep source span)) × (IsFaulty ds e ⊎ IsBeyond c ds e)
+IsFaultySource c source e = (ds : List DeclaredItem) × Reads source ds × ((span : Span) → ¬ (NestsTooDeep source span)) × (IsFaulty c.renames ds e ⊎ IsBeyond c ds e)
 
 -- the error refuses the source: it nests too deep, or it has no reading, or else its declarations are at fault, or else beyond a bound
 abbrev pub IsRefused : Configuration → List ℕ → DeriveError → Type 0
@@ -100,9 +126,9 @@ pub record IsDerived (c : Configuration) (source : List ℕ) (components : List 
   pub declarations : List DeclaredItem
   pub read : Reads source declarations
   pub shallow : (span : Span) → ¬ NestsTooDeep source span
-  pub clear : AreClear declarations
+  pub clear : AreClear c.renames declarations
   pub structs : List StructOf
-  pub resolved : structs_of declarations ≡ Some structs
+  pub resolved : structs_of c.renames declarations ≡ Some structs
   pub bounded : AreBounded c declarations structs
   pub apart : IsApart structs
   pub components_are : AreComponents structs components

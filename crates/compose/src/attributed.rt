@@ -7,41 +7,45 @@ ghost use Rattle.diag.specs.declared.span.Span.{Span as AnySpan};
 ghost use Rattle.attributes.specs.Attributes.{attribute_view};
 ghost use Rattle.syntax.specs.Items.{field_view, body_view, declaration_view, declarations_view};
 ghost use Rattle.derive_decl.specs.Faults.{body_fields};
-ghost use Rattle.compose.specs.Faults.{attributes_in, attributes_of, first_other, IsAttributed, nameless_message};
+ghost use Rattle.compose.specs.Faults.{attributes_in, attributes_of, is_other, first_other, IsAttributed, nameless_message};
 
 use diag::{DeriveError, Diagnostics, Kind, Span};
+use serde_rules::has_serde_item;
 use std::alloc::{AllocError, Global};
+use std::slice;
 use syntax::{Attribute, Body, Declaration, Declarations, Field, Fields};
 
-/// Where the attribute stands, if it is no doc comment.
-fn other(attribute: &Attribute) -> Option<Span>
-    ensures { result ≡ first_other (attribute_view attribute.now ∷ []) }
+/// Whether the attribute is one of `schema` or `repr`, or a serde list that flattens.
+fn is_other(alloc: Global, attribute: &Attribute) -> Result<bool, AllocError>
+    ensures { IfOk result (λ other. other ≡ is_other (attribute_view attribute.now)) }
 {
-    if attribute.is("doc") {
-        return None;
-    }
-    Some(attribute.span)
+    Ok(attribute.is("schema")
+        || attribute.is("repr")
+        || has_serde_item(alloc, slice::from_ref(attribute), "flatten")?)
 }
 
-/// Where the first attribute stands that is no doc comment.
-fn first_other(attributes: &[Attribute]) -> Option<Span>
-    ensures { result ≡ first_other (map attribute_view attributes.now) }
+/// Where the first attribute stands from which nothing is derived.
+fn first_other(alloc: Global, attributes: &[Attribute]) -> Result<Option<Span>, AllocError>
+    ensures { IfOk result (λ found. found ≡ first_other (map attribute_view attributes.now)) }
 {
-    let mut found = None;
     for attribute in attributes {
-        found = found.or(other(attribute));
+        if is_other(alloc, attribute)? {
+            return Ok(Some(attribute.span));
+        }
     }
-    found
+    Ok(None)
 }
 
-fn first_on_fields(fields: &[Field]) -> Option<Span>
-    ensures { result ≡ first_other (flat_map (λ f. f.attrs) (map field_view fields.now)) }
+fn first_on_fields(alloc: Global, fields: &[Field]) -> Result<Option<Span>, AllocError>
+    ensures { IfOk result (λ found. found ≡ first_other (flat_map (λ f. f.attrs) (map field_view fields.now))) }
 {
-    let mut found = None;
     for field in fields {
-        found = found.or(first_other(field.attrs.as_slice()));
+        let found = first_other(alloc, field.attrs.as_slice())?;
+        if found.is_some() {
+            return Ok(found);
+        }
     }
-    found
+    Ok(None)
 }
 
 fn fields_of(body: &Body) -> &[Field]
@@ -55,20 +59,27 @@ fn fields_of(body: &Body) -> &[Field]
 }
 
 #[tactic(auto, using(crate::proofs::First::first_joined))]
-fn first_in(declaration: &Declaration) -> Option<Span>
-    ensures { result ≡ first_other (attributes_in (declaration_view declaration.now)) }
+fn first_in(alloc: Global, declaration: &Declaration) -> Result<Option<Span>, AllocError>
+    ensures { IfOk result (λ found. found ≡ first_other (attributes_in (declaration_view declaration.now))) }
 {
-    first_other(declaration.attrs.as_slice()).or(first_on_fields(fields_of(&declaration.body)))
+    let before = first_other(alloc, declaration.attrs.as_slice())?;
+    let inside = first_on_fields(alloc, fields_of(&declaration.body))?;
+    Ok(before.or(inside))
 }
 
-fn first_among(declarations: &[Declaration]) -> Option<Span>
-    ensures { result ≡ first_other (attributes_of (map declaration_view declarations.now)) }
+fn first_among(
+    alloc: Global,
+    declarations: &[Declaration],
+) -> Result<Option<Span>, AllocError>
+    ensures { IfOk result (λ found. found ≡ first_other (attributes_of (map declaration_view declarations.now))) }
 {
-    let mut found = None;
     for declaration in declarations {
-        found = found.or(first_in(declaration));
+        let found = first_in(alloc, declaration)?;
+        if found.is_some() {
+            return Ok(found);
+        }
     }
-    found
+    Ok(None)
 }
 
 fn attributed(alloc: Global, span: Span) -> Result<DeriveError, AllocError>
@@ -83,12 +94,12 @@ fn attributed(alloc: Global, span: Span) -> Result<DeriveError, AllocError>
     Ok(DeriveError::Refused(diagnostics))
 }
 
-/// Refuses declarations that have another attribute than doc comments, at the first one.
-pub(crate) fn only_docs(alloc: Global, declarations: &Declarations) -> Result<(), DeriveError>
-    ensures documented { IfOk result (λ _. (span : AnySpan) → ¬ IsAttributed (declarations_view declarations.now) span) }
+/// Refuses declarations that have an attribute from which nothing is derived, at the first one.
+pub(crate) fn only_derivable(alloc: Global, declarations: &Declarations) -> Result<(), DeriveError>
+    ensures derivable { IfOk result (λ _. (span : AnySpan) → ¬ IsAttributed (declarations_view declarations.now) span) }
     ensures refused { IfErr result (λ e. (e ≡ DeriveError.Memory) ⊎ ((span : AnySpan) × IsAttributed (declarations_view declarations.now) span × IsRefusal Kind.Syntax span nameless_message e)) }
 {
-    match first_among(declarations.items.as_slice()) {
+    match first_among(alloc, declarations.items.as_slice())? {
         Some(span) => Err(attributed(alloc, span)?),
         None => Ok(()),
     }

@@ -9,7 +9,7 @@ ghost use Rattle.instances.specs.Bounds.{AreBounded, IsUnbounded};
 ghost use Rattle.compose.specs.Faults.{IsFaulty, IsDerived, IsRefused};
 ghost use Rattle.compose.specs.Settled.{IsSettled};
 
-use crate::attributed::only_docs;
+use crate::attributed::only_derivable;
 use closing::components_of;
 use configuration::Config;
 use derive_decl::{Struct, structs_of};
@@ -34,10 +34,10 @@ fn settle(
     declarations: &Declarations,
     config: &Config,
 ) -> Result<List<Struct>, DeriveError>
-    ensures settled { IfOk result (λ ss. IsSettled (declarations_view declarations.now) (map struct_view ss)) }
-    ensures refused { IfErr result (λ e. (e ≡ DeriveError.Memory) ⊎ IsFaulty (declarations_view declarations.now) e) }
+    ensures settled { IfOk result (λ ss. IsSettled config.now.renames (declarations_view declarations.now) (map struct_view ss)) }
+    ensures refused { IfErr result (λ e. (e ≡ DeriveError.Memory) ⊎ IsFaulty config.now.renames (declarations_view declarations.now) e) }
 {
-    only_docs(alloc, declarations)?;
+    only_derivable(alloc, declarations)?;
     let places = declared_places(alloc, declarations)?;
     let structs = structs_of(alloc, declarations, &places, config)?;
     resolving::resolved_have_no_fault();
@@ -52,7 +52,7 @@ fn bounded_components(
     structs: &[Struct],
     config: &Config,
 ) -> Result<Components, DeriveError>
-    requires { IsSettled (map declaration_view declarations.now) (map struct_view structs.now) }
+    requires { IsSettled config.now.renames (map declaration_view declarations.now) (map struct_view structs.now) }
     ensures bounded { IfOk result (λ _. AreBounded config.now (map declaration_view declarations.now) (map struct_view structs.now)) }
     ensures components { IfOk result (λ components. AreComponents (map struct_view structs.now) components) }
     ensures refused { IfErr result (λ e. (e ≡ DeriveError.Memory) ⊎ IsUnbounded config.now (map declaration_view declarations.now) (map struct_view structs.now) e) }
@@ -66,11 +66,12 @@ fn bounded_components(
 
 /// The components of the source's declarations.
 ///
-/// A refusal is of kind `TooDeep` or `Syntax`, where the source cannot be read; or where a declaration or a field has an
-/// attribute of `serde`, `schema`, `repr` or `deprecated`, from which nothing is derived. Else it is of kind `DuplicateName`,
-/// `UnknownType`, `Arity`, `TypeSize` or `Syntax`: a name that two declarations have comes first; then, declaration by
-/// declaration, what is wrong with a field's type, before a name that two fields have; a form of unnamed fields without a
-/// field is `Arity`, and a named field without a name, which no source has, `Syntax`. Else it is `TooManyInstances`, `InlineDepth` or `TooManyCopies`, in this order, where the instances are beyond a bound of the
+/// A refusal is of kind `TooDeep` or `Syntax`, where the source cannot be read; or `Syntax`, at an attribute of `schema` or
+/// `repr` or one of `serde` that flattens, from which nothing is derived. Else it is of kind `DuplicateName`, `SerdeTag`,
+/// `BadValue`, `MissingRow`, `UnknownType`, `Arity`, `TypeSize` or `Syntax`: a name that two declarations have comes first;
+/// then, declaration by declaration, what serde's attributes of a struct contradict, what is wrong with a field's name or
+/// type, before a name that two members have; a form of unnamed fields without a field is `Arity`, and a named field without
+/// a name, which no source has, `Syntax`. Else it is `TooManyInstances`, `InlineDepth` or `TooManyCopies`, in this order, where the instances are beyond a bound of the
 /// configuration.
 pub fn derive_components(
     alloc: Global,

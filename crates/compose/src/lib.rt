@@ -3,8 +3,6 @@
 
 mod attributed;
 mod derive;
-#[cfg(test)]
-mod tests;
 
 pub use closing::{components_describe, references_accept};
 pub use derive::{Derived, derive_components};

@@ -6,8 +6,6 @@ mod config;
 mod law;
 mod members;
 mod renames;
-#[cfg(test)]
-mod tests;
 
 pub use collect::SchemaCollect;
 pub use config::Config;

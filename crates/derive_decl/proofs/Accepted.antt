@@ -3,12 +3,12 @@ use Rattle.std.proofs.Common.{ℕ, suc, drop, length, None, Option, pos, int_le,
 use Rattle.std.specs.List.{list_all}
 use Rattle.std.proofs.Math.Dec.{leb-zero, leb-suc-zero, leb-suc-suc}
 use Rattle.acceptance.specs.Acceptance.{others_pass, names_pass}
-use Rattle.acceptance.specs.Json.{Json, null, boolean, number, text, list, map, entries, names, is_in, look, distinct, on_map, on_list, if_there}
+use Rattle.acceptance.specs.Json.{Json, Members, null, boolean, number, text, list, map, entries, names, is_in, look, distinct, on_map, on_list, if_there}
 use Rattle.schema_core.specs.declared.tree.SchemaTypeInner.TheVariants as word
 use Rattle.schema_core.specs.declared.tree.TypeWord.TheVariants.{Any}
 use Rattle.schema_core.specs.declared.notes.Notes.{Notes}
 use Rattle.schema_core.specs.Notes.{no_notes}
-use Rattle.schema_core.specs.Schema.{SchemaOf, schema_count}
+use Rattle.schema_core.specs.Schema.{SchemaOf, schema_count, property_names}
 use Rattle.schema_core.specs.Schema as tree
 use Rattle.schema_core.specs.Form.{array_word}
 use Rattle.schema_core.specs.Meaning.{each_in_order, word_accepts, minimum_accepts, required_accepts, tree_accepts, properties_accept}
@@ -20,10 +20,10 @@ use Rattle.open_types.specs.Same.{same_type}
 use Rattle.open_types.specs.Laws.{SameIsEqual}
 use Rattle.component.specs.Leaves as named_leaf
 use Rattle.component.specs.Places.{word_of, minimum_of, type_word, noted, described, only_word, null_alone, one_of_null, or_null, beside, in_place, declared, place, inline_places}
-use Rattle.derive_decl.specs.Structs.{MemberOf, FormOf, named_fields, unnamed_fields, no_fields, is_required, member_types}
-use Rattle.derive_decl.specs.Shape.{is_null, is_text, is_boolean, is_number, is_list, is_map, reads, type_shape, items_fit, member_fits, elements_fit, unnamed_shape, form_shape}
+use Rattle.derive_decl.specs.Structs.{MemberOf, FormOf, named_fields, unnamed_fields, no_fields, member_types, member_names}
+use Rattle.derive_decl.specs.Shape.{is_null, is_text, is_boolean, is_number, is_list, is_map, reads, type_shape, items_fit, member_fits, no_others, elements_fit, unnamed_shape, form_shape}
 use Rattle.derive_decl.specs.Plain.{IsTextKey, IsPlainType, ArePlainTypes, AreAllPlain, AreAlike, IsPlainForm}
-use Rattle.derive_decl.specs.Terms.{properties_of, required_names, list_of_length, are_all, any_object, unnamed_term, form_term}
+use Rattle.derive_decl.specs.Terms.{properties_of, required_names, object_of, list_of_length, are_all, any_object, unnamed_term, form_term}
 use Rattle.derive_decl.specs.Meaning.{leaf_shape, TermsAccept}
 
 -- ---- conditions
@@ -69,6 +69,15 @@ and-third true false true d = refl
 and-third true false false d = refl
 and-third false b true d = refl
 and-third false b false d = refl
+
+-- a condition in the middle, taken to the end
+and-last : (a b c : Bool) → (a && (b && c)) ≡ ((a && c) && b)
+and-last true b c = and-swap b c
+and-last false b c = refl
+
+or-false : (a : Bool) → (a || false) ≡ a
+or-false true = refl
+or-false false = refl
 
 or-swap : (a b : Bool) → (a || (b || false)) ≡ (b || a)
 or-swap true true = refl
@@ -198,6 +207,15 @@ entries-pass : (p q : Json → Bool) (es : List (List ℕ × Json)) → (others_
 entries-pass p q [] = refl
 entries-pass p q (e ∷ es) = and-cross (q e.1) (others_pass [] q es) (p (text e.0)) (names_pass p es) ∙ ap (λ b. (p (text e.0) && q e.1) && b) (entries-pass p q es)
 
+-- where other names are denied, each name is among these
+others-denied : (ks : List (List ℕ)) (es : List (List ℕ × Json)) → others_pass ks (λ w. false) es ≡ list_all (λ e. is_in e.0 ks) es
+others-denied ks [] = refl
+others-denied ks (e ∷ es) = (λ i. or-false (is_in e.0 ks) i && others-denied ks es i)
+
+property_names-are : (ms : List MemberOf) → property_names (properties_of ms) ≡ member_names ms
+property_names-are [] = refl
+property_names-are (m ∷ ms) = ap (λ ns. m.name ∷ ns) (property_names-are ms)
+
 -- ---- required names
 
 needed : (a b p q : Bool) → ((a && p) && ((b && q) && true)) ≡ ((b && a) && (p && (q && true)))
@@ -283,10 +301,19 @@ module _ (instance : ℕ → Json → Bool) where
       (properties_accept (leaf_shape instance) (properties_of ms) es && (list_all (λ k. is_in k (names es)) (required_names ms) && true)) ≡ list_all (member_fits instance es) ms
   members-accept [] h es = refl
   members-accept (m ∷ ms) h es =
-      (λ i. (if_there (look m.name es) (λ v. place-accepts false false false m.description m.of h.0 v i) && properties_accept (leaf_shape instance) (properties_of ms) es)
+      (λ i. (if_there (look m.name es) (λ v. place-accepts false false m.deprecated m.description m.of h.0 v i) && properties_accept (leaf_shape instance) (properties_of ms) es)
       && (list_all (λ k. is_in k (names es)) (required_names (m ∷ ms)) && true))
-      ∙ member-accepts (is_required m) (if_there (look m.name es) (type_shape instance m.of)) (properties_accept (leaf_shape instance) (properties_of ms) es) (λ k. is_in k (names es)) m.name (required_names ms)
+      ∙ member-accepts m.required (if_there (look m.name es) (type_shape instance m.of)) (properties_accept (leaf_shape instance) (properties_of ms) es) (λ k. is_in k (names es)) m.name (required_names ms)
       ∙ ap (λ b. member_fits instance es m && b) (members-accept ms h.1 es)
+
+  -- what members ask of entries, and where others are denied that there are none
+  fields-accept : (denies : Bool) (notes : Notes) (ms : List MemberOf) → AreAllPlain (member_types ms) → (es : Members) →
+      tree_accepts (leaf_shape instance) (object_of notes denies (required_names ms) (properties_of ms)) (map es) ≡ (list_all (member_fits instance (entries es)) ms && (not denies || no_others ms (entries es)))
+  fields-accept false notes ms h es = members-accept ms h (entries es) ∙ sym (and-true (list_all (member_fits instance (entries es)) ms))
+  fields-accept true notes ms h es =
+      and-last (properties_accept (leaf_shape instance) (properties_of ms) (entries es)) (others_pass (property_names (properties_of ms)) (λ w. false) (entries es))
+      (list_all (λ k. is_in k (names (entries es))) (required_names ms) && true)
+      ∙ (λ i. members-accept ms h (entries es) i && others-denied (property_names-are ms i) (entries es) i)
 
   -- ---- unnamed fields
 
@@ -303,32 +330,32 @@ module _ (instance : ℕ → Json → Bool) where
       ∙ (λ i. type_shape instance (equal i) v && elements-accept same t us (and-right (same_type t u) (are_all t us) h) vs i)
 
   -- one place is the schema itself; of several alike, a list of so many
-  unnamed-accepts : SameIsEqual → (description : Option (List ℕ)) (ts : List Open) → AreAllPlain ts → AreAlike ts → (v : Json) →
-      tree_accepts (leaf_shape instance) (unnamed_term description ts) v ≡ unnamed_shape instance ts v
-  unnamed-accepts same description [] h alike v = absurd alike
-  unnamed-accepts same description (t ∷ []) h alike v = place-accepts false false false description t h.0 v
-  unnamed-accepts same description (t ∷ u ∷ us) h alike v =
+  unnamed-accepts : SameIsEqual → (deprecated : Bool) (description : Option (List ℕ)) (ts : List Open) → AreAllPlain ts → AreAlike ts → (v : Json) →
+      tree_accepts (leaf_shape instance) (unnamed_term deprecated description ts) v ≡ unnamed_shape instance ts v
+  unnamed-accepts same deprecated description [] h alike v = absurd alike
+  unnamed-accepts same deprecated description (t ∷ []) h alike v = place-accepts false false deprecated description t h.0 v
+  unnamed-accepts same deprecated description (t ∷ u ∷ us) h alike v =
       let all_t : IsTrue (are_all t (t ∷ u ∷ us)) = and-both (same_type t t) (are_all t (u ∷ us)) ((same t t).1 refl) alike in
       let n : ℕ = length (t ∷ u ∷ us) in
-      (λ i. tree_accepts (leaf_shape instance) (list_of_length n (described description) (cond (alike i) (place false false false description t) any_object)) v)
+      (λ i. tree_accepts (leaf_shape instance) (list_of_length n (described description) (cond (alike i) (place false false deprecated description t) (any_object deprecated))) v)
       ∙ (λ i. word_accepts (array_word false) v && (on_list v (λ vs. int_le (pos (length vs)) (pos n)) && (on_list v (λ vs. int_le (pos n) (pos (length vs)))
-      && (on_list v (λ vs. true) && on_list v (list_all (λ w. place-accepts false false false description t h.0 w i))))))
+      && (on_list v (λ vs. true) && on_list v (list_all (λ w. place-accepts false false deprecated description t h.0 w i))))))
       ∙ exactly-accept v (λ vs. int_le (pos (length vs)) (pos n)) (λ vs. int_le (pos n) (pos (length vs))) (list_all (type_shape instance t))
       ∙ (λ i. is_list v (λ vs. elements-accept same t (t ∷ u ∷ us) all_t vs i))
 
   -- ---- declarations
 
-  form-accepts : SameIsEqual → (description : Option (List ℕ)) (form : FormOf) → IsPlainForm form → (v : Json) →
-      tree_accepts (leaf_shape instance) (form_term description form) v ≡ form_shape instance form v
-  form-accepts same description (named_fields ms) h (map es) = members-accept ms h (entries es)
-  form-accepts same description (named_fields ms) h null = refl
-  form-accepts same description (named_fields ms) h (boolean b) = refl
-  form-accepts same description (named_fields ms) h (number m) = refl
-  form-accepts same description (named_fields ms) h (text t) = refl
-  form-accepts same description (named_fields ms) h (list xs) = refl
-  form-accepts same description (unnamed_fields ts) h v = unnamed-accepts same description ts h.0 h.1 v
-  form-accepts same description no_fields h v = absurd h
+  form-accepts : SameIsEqual → (deprecated : Bool) (description : Option (List ℕ)) (form : FormOf) → IsPlainForm form → (v : Json) →
+      tree_accepts (leaf_shape instance) (form_term deprecated description form) v ≡ form_shape instance form v
+  form-accepts same deprecated description (named_fields denies ms) h (map es) = fields-accept denies (noted deprecated description) ms h es
+  form-accepts same deprecated description (named_fields denies ms) h null = refl
+  form-accepts same deprecated description (named_fields denies ms) h (boolean b) = refl
+  form-accepts same deprecated description (named_fields denies ms) h (number m) = refl
+  form-accepts same deprecated description (named_fields denies ms) h (text t) = refl
+  form-accepts same deprecated description (named_fields denies ms) h (list xs) = refl
+  form-accepts same deprecated description (unnamed_fields ts) h v = unnamed-accepts same deprecated description ts h.0 h.1 v
+  form-accepts same deprecated description no_fields h v = absurd h
 
 -- The term of a plain declaration accepts what has its shape.
 pub terms-accept : SameIsEqual → TermsAccept
-terms-accept same instance s h v = form-accepts instance same s.description s.form h v
+terms-accept same instance s h v = form-accepts instance same s.deprecated s.description s.form h v

@@ -3,8 +3,8 @@ use Rattle.std.proofs.Common.{ℕ, zero, suc, ◌+◌, ◌-◌, ◌≤◌, List,
 use Rattle.std.specs.List.{list_all}
 use Rattle.acceptance.specs.Json.{Json, null, boolean, number, text, list, map, entries, elements, names, is_in, look, distinct, if_there}
 use Rattle.open_types.specs.Open.{Open, Opens, leaf, any_value, free_object, unit, tuple, items, set, map_of, option, through, param, named, no_types, more_types}
-use Rattle.derive_decl.specs.Structs.{MemberOf, FormOf, named_fields, unnamed_fields, no_fields, StructOf, is_required, struct_at}
-use Rattle.derive_decl.specs.Shape.{is_null, is_list, is_map, type_shape, items_fit, member_fits, elements_fit, unnamed_shape, form_shape, shape}
+use Rattle.derive_decl.specs.Structs.{MemberOf, FormOf, named_fields, unnamed_fields, no_fields, StructOf, struct_at}
+use Rattle.derive_decl.specs.Shape.{is_null, is_list, is_map, type_shape, items_fit, member_fits, no_others, elements_fit, unnamed_shape, form_shape, shape}
 
 both-more : (a b c d : Bool) → (IsTrue a → IsTrue c) → (IsTrue b → IsTrue d) → IsTrue (a && b) → IsTrue (c && d)
 both-more true true c d f g h = subst (λ x. IsTrue (x && d)) (sym (f refl)) (g refl)
@@ -69,7 +69,7 @@ module _ (a b : ℕ → Json → Bool) (more : (d : ℕ) (v : Json) → IsTrue (
 
   member-more : (es : List (List ℕ × Json)) (m : MemberOf) → IsTrue (member_fits a es m) → IsTrue (member_fits b es m)
   member-more es m h =
-      both-more (not (is_required m) || is_in m.name (names es)) (if_there (look m.name es) (type_shape a m.of)) (not (is_required m) || is_in m.name (names es)) (if_there (look m.name es) (type_shape b m.of))
+      both-more (not m.required || is_in m.name (names es)) (if_there (look m.name es) (type_shape a m.of)) (not m.required || is_in m.name (names es)) (if_there (look m.name es) (type_shape b m.of))
       (λ r. r) (there-more (type_shape a m.of) (type_shape b m.of) (type-more m.of) (look m.name es)) h
 
   elements-more : (ts : List Open) (vs : List Json) → IsTrue (elements_fit a ts vs) → IsTrue (elements_fit b ts vs)
@@ -84,7 +84,10 @@ module _ (a b : ℕ → Json → Bool) (more : (d : ℕ) (v : Json) → IsTrue (
   unnamed-more (t ∷ u ∷ us) v h = list-more (elements_fit a (t ∷ u ∷ us)) (elements_fit b (t ∷ u ∷ us)) (elements-more (t ∷ u ∷ us)) v h
 
   form-more : (form : FormOf) (v : Json) → IsTrue (form_shape a form v) → IsTrue (form_shape b form v)
-  form-more (named_fields ms) v h = map-more (λ es. list_all (member_fits a es) ms) (λ es. list_all (member_fits b es) ms) (λ es. all-more (member_fits a es) (member_fits b es) (member-more es) ms) v h
+  form-more (named_fields denies ms) v h =
+      map-more (λ es. list_all (member_fits a es) ms && (not denies || no_others ms es)) (λ es. list_all (member_fits b es) ms && (not denies || no_others ms es))
+      (λ es. both-more (list_all (member_fits a es) ms) (not denies || no_others ms es) (list_all (member_fits b es) ms) (not denies || no_others ms es)
+      (all-more (member_fits a es) (member_fits b es) (member-more es) ms) (λ o. o)) v h
   form-more (unnamed_fields ts) v h = unnamed-more ts v h
   form-more no_fields v h = h
 

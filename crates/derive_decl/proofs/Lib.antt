@@ -3,3 +3,4 @@ pub mod Alike
 pub mod Deeper
 pub mod Growing
 pub mod Members
+pub mod Rules

@@ -7,17 +7,17 @@ use Rattle.schema_core.specs.Schema as tree
 use Rattle.component.specs.Leaves.{LeafOf}
 use Rattle.component.specs.Places.{place}
 use Rattle.derive_decl.specs.declared.member.Member.{Member}
-use Rattle.derive_decl.specs.Structs.{MemberOf, is_required, member_types}
+use Rattle.derive_decl.specs.Structs.{MemberOf, member_types}
 use Rattle.derive_decl.specs.Terms.{properties_of, required_names}
 use Rattle.derive_decl.specs.Views.{member_view}
 
 -- a member's property
 abbrev pub property_of : Member → List ℕ × SchemaOf LeafOf
-property_of m = (m.ident.text, place false false false m.description (open_view m.ty))
+property_of m = (m.ident.text, place false false m.deprecated m.description (open_view m.ty))
 
 pub properties_are : (ms : List Member) → tree.properties_of (map property_of ms) ≡ properties_of (map member_view ms)
 properties_are [] = refl
-properties_are (m ∷ ms) = ap (tree.property m.ident.text (place false false false m.description (open_view m.ty))) (properties_are ms)
+properties_are (m ∷ ms) = ap (tree.property m.ident.text (place false false m.deprecated m.description (open_view m.ty))) (properties_are ms)
 
 -- a member's type
 abbrev pub type_in : Member → Open
@@ -27,26 +27,22 @@ pub types_are : (ms : List Member) → map type_in ms ≡ member_types (map memb
 types_are [] = refl
 types_are (m ∷ ms) = ap (λ ts. open_view m.ty ∷ ts) (types_are ms)
 
-required-push : (ms : List MemberOf) (m : MemberOf) → required_names (ms ++ m ∷ []) ≡ required_names ms ++ cond (is_required m) (m.name ∷ []) []
+required-push : (ms : List MemberOf) (m : MemberOf) → required_names (ms ++ m ∷ []) ≡ required_names ms ++ cond m.required (m.name ∷ []) []
 required-push [] m = refl
-required-push (n ∷ ms) m = by (is_required n) (required-push ms m)
+required-push (n ∷ ms) m = by n.required (required-push ms m)
   where
-    by : (b : Bool) → required_names (ms ++ m ∷ []) ≡ required_names ms ++ cond (is_required m) (m.name ∷ []) [] →
-        cond b (n.name ∷ required_names (ms ++ m ∷ [])) (required_names (ms ++ m ∷ [])) ≡ cond b (n.name ∷ required_names ms) (required_names ms) ++ cond (is_required m) (m.name ∷ []) []
+    by : (b : Bool) → required_names (ms ++ m ∷ []) ≡ required_names ms ++ cond m.required (m.name ∷ []) [] →
+        cond b (n.name ∷ required_names (ms ++ m ∷ [])) (required_names (ms ++ m ∷ [])) ≡ cond b (n.name ∷ required_names ms) (required_names ms) ++ cond m.required (m.name ∷ []) []
     by true e = ap (λ ns. n.name ∷ ns) e
     by false e = e
 
 -- the names that must be there so far, and one more member
 pub required_more : (members : List Member) (i : ℕ) (m : Member) (names after : List (List ℕ)) → i < length members → m ≡ get_or members i m → names ≡ required_names (map member_view (take i members)) →
-    after ≡ names ++ cond (is_required (member_view m)) (m.ident.text ∷ []) [] → after ≡ required_names (map member_view (take (i + 1) members))
+    after ≡ names ++ cond m.required (m.ident.text ∷ []) [] → after ≡ required_names (map member_view (take (i + 1) members))
 required_more members i m names after l is before e =
     e
-    ∙ ap (λ ns. ns ++ cond (is_required (member_view m)) (m.ident.text ∷ []) []) before
+    ∙ ap (λ ns. ns ++ cond m.required (m.ident.text ∷ []) []) before
     ∙ sym (required-push (map member_view (take i members)) (member_view m))
     ∙ ap (λ (x : Member). required_names (map member_view (take i members) ++ member_view x ∷ [])) is
     ∙ sym (ap required_names (map_push member_view (take i members) (get_or members i m)))
     ∙ sym (ap (λ ms. required_names (map member_view ms)) (take_more members i m l))
-
-pub append_none : {A : Type 0} (xs : List A) → xs ≡ xs ++ []
-append_none [] = refl
-append_none (x ∷ xs) = ap (λ ys. x ∷ ys) (append_none xs)

@@ -1,22 +1,24 @@
--- Why a declaration has no schema: a name that two fields have, a type that stands for nothing or is too large, a form of unnamed fields without a field.
-use Rattle.std.specs.Prelude.{◌≡◌, ◌≤◌, ◌⊎◌, ℕ, List, [], ◌∷◌, Option, Some, None, codes}
+-- Why a declaration has no schema: serde's items that contradict each other, a name that has no row or that two fields have, a type that stands for nothing or is too large, a form of unnamed fields without a field.
+use Rattle.std.specs.Prelude.{◌≡◌, ◌≤◌, ◌⊎◌, ℕ, List, [], ◌∷◌, ◌++◌, Option, Some, None, Err, codes}
 use Rattle.std.specs.List.{AllByRecursion}
 use Rattle.diag.specs.Refusal.{IsRefusal}
 use Rattle.diag.specs.declared.error.DeriveError.{DeriveError}
-use Rattle.diag.specs.declared.kind.Kind.TheVariants.{DuplicateName, Arity, Syntax}
+use Rattle.diag.specs.declared.kind.Kind.TheVariants.{DuplicateName, MissingRow, Arity, Syntax}
+use Rattle.diag.specs.declared.rename_rule.RenameRule.{RenameRule}
+use Rattle.diag.specs.declared.rename_row.RenameRow.{RenameRow}
+use Rattle.diag.specs.RenameRules.{name_of}
 use Rattle.written_types.specs.declared.written.Ident.{Ident}
+use Rattle.attributes.specs.Attributes.{AttributeItem}
+use Rattle.attributes.specs.AttributeReading.{serde_items}
+use Rattle.attributes.specs.declared.serde_item.SerdeItem.{SerdeItem}
+use Rattle.serde_rules.specs.declared.value.SerdeValue.{SerdeValue}
+use Rattle.serde_rules.specs.Container.{IsContainerRefusal}
 use Rattle.syntax.specs.Items.{FieldItem, FieldItems, named, unnamed, unit, BodyItem, struct_body, DeclaredItem}
 use Rattle.resolving.specs.Names.{size}
 use Rattle.resolving.specs.Resolved.{Fault, IsFault, IsRefusedFor, Somewhere, most_names}
 use Rattle.scopes.specs.Names.{Repeats, duplicate_message}
-
-abbrev pub with_ident : Option Ident → List Ident → List Ident
-with_ident None xs = xs
-with_ident (Some x) xs = x ∷ xs
-
-abbrev pub field_idents : List FieldItem → List Ident
-field_idents [] = []
-field_idents (f ∷ fs) = with_ident f.ident (field_idents fs)
+use Rattle.derive_decl.specs.Fields.{FieldRules, field_rules, value_of, kept, name_by, written_idents}
+use Rattle.derive_decl.specs.Structs.{Around}
 
 abbrev pub fields_in : FieldItems → List FieldItem
 fields_in (named fs) = fs
@@ -26,12 +28,34 @@ fields_in unit = []
 abbrev pub body_fields : BodyItem → List FieldItem
 body_fields (struct_body fs) = fields_in fs
 
+-- the fields whose types stand in a schema: of unnamed fields all
+abbrev pub kept_in : FieldItems → List FieldItem
+kept_in (named fs) = kept fs
+kept_in (unnamed fs) = fs
+kept_in unit = []
+
+abbrev pub kept_fields : BodyItem → List FieldItem
+kept_fields (struct_body fs) = kept_in fs
+
+-- serde's items before a struct count where its fields have names
+abbrev pub items_of : List AttributeItem → FieldItems → List SerdeItem
+items_of attributes (named fs) = serde_items attributes
+items_of attributes (unnamed fs) = []
+items_of attributes unit = []
+
+abbrev pub container_items : List AttributeItem → BodyItem → List SerdeItem
+container_items attributes (struct_body fs) = items_of attributes fs
+
 -- a type has no more names than it may
 abbrev pub IsSmall : FieldItem → Type 0
 IsSmall f = size f.ty ≤ most_names
 
 abbrev pub HasSmall : BodyItem → Type 0
-HasSmall b = AllByRecursion IsSmall (body_fields b)
+HasSmall b = AllByRecursion IsSmall (kept_fields b)
+
+-- Serde's items do not contradict each other, and name rename rules that there are.
+pub record AreAllowed (items : List SerdeItem) : Type 0 where
+  pub none : (e : DeriveError) → ¬ IsContainerRefusal items e
 
 abbrev pub nameless_message : List ℕ
 nameless_message = codes "unexpected text in a declaration"
@@ -39,34 +63,51 @@ nameless_message = codes "unexpected text in a declaration"
 abbrev pub fieldless_message : List ℕ
 fieldless_message = codes "a tuple form without a field"
 
+abbrev pub row_message : RenameRule → List ℕ → List ℕ
+row_message rule name = codes "no row for " ++ (name_of rule ++ (codes " of " ++ name))
+
 -- ---- the answers
 
 -- the error refuses the field's type
-abbrev pub IsFaultyType : (List ℕ → Option ℕ) → FieldItem → DeriveError → Type 0
-IsFaultyType place_of f e = (fault : Fault) × IsFault place_of f.ty fault × IsRefusedFor fault e
+abbrev pub IsFaultyType : Around → FieldItem → DeriveError → Type 0
+IsFaultyType around f e = (fault : Fault) × IsFault around.place_of f.ty fault × IsRefusedFor fault e
 
--- the error refuses the field among named ones: for its type, or since it has no name
-abbrev pub IsFaultyMember : (List ℕ → Option ℕ) → FieldItem → DeriveError → Type 0
-IsFaultyMember place_of f e = IsFaultyType place_of f e ⊎ ((f.ident ≡ None) × IsRefusal Syntax f.span nameless_message e)
+-- the error refuses the identifier: the row of the rule is needed and missing
+abbrev pub IsUnwritten : List RenameRow → Option RenameRule → SerdeValue → Ident → DeriveError → Type 0
+IsUnwritten rows None value x e = ⊥
+IsUnwritten rows (Some rule) value x e = (name_by rows (Some rule) value x ≡ None) × IsRefusal MissingRow x.span (row_message rule x.text) e
+
+-- the error refuses the field's name
+abbrev pub IsFaultyName : List RenameRow → Option RenameRule → FieldItem → DeriveError → Type 0
+IsFaultyName rows rule f e = (x : Ident) × (f.ident ≡ Some x) × IsUnwritten rows rule (value_of f) x e
+
+-- the error refuses the field among named ones: for its type, its name, or since it has none
+abbrev pub IsFaultyMember : Around → FieldRules → FieldItem → DeriveError → Type 0
+IsFaultyMember around rules f e =
+    IsFaultyType around f e ⊎ IsFaultyName around.rows rules.rule f e ⊎ ((f.ident ≡ None) × IsRefusal Syntax f.span nameless_message e)
 
 -- the error refuses the named fields: one of them, or a name that two have
-abbrev pub AreFaultyMembers : (List ℕ → Option ℕ) → List FieldItem → DeriveError → Type 0
-AreFaultyMembers place_of fs e =
-    Somewhere (λ f. IsFaultyMember place_of f e) fs
-    ⊎ ((x : Ident) × Repeats (field_idents fs) x × IsRefusal DuplicateName x.span (duplicate_message x.text) e)
+abbrev pub AreFaultyMembers : Around → FieldRules → List FieldItem → DeriveError → Type 0
+AreFaultyMembers around rules fs e =
+    Somewhere (λ f. IsFaultyMember around rules f e) (kept fs)
+    ⊎ ((x : Ident) × Repeats (written_idents around.rows rules.rule (kept fs)) x × IsRefusal DuplicateName x.span (duplicate_message x.text) e)
+
+-- the error refuses the named fields of a struct, or serde's items before it
+abbrev pub AreFaultyNamed : Around → List SerdeItem → List FieldItem → DeriveError → Type 0
+AreFaultyNamed around items fs e = IsContainerRefusal items e ⊎ AreFaultyMembers around (field_rules items) fs e
 
 -- the error refuses the unnamed fields: the type of one, or since there is none
-abbrev pub AreFaultyTypes : (List ℕ → Option ℕ) → Ident → List FieldItem → DeriveError → Type 0
-AreFaultyTypes place_of x fs e = Somewhere (λ f. IsFaultyType place_of f e) fs ⊎ ((fs ≡ []) × IsRefusal Arity x.span fieldless_message e)
+abbrev pub AreFaultyTypes : Around → Ident → List FieldItem → DeriveError → Type 0
+AreFaultyTypes around x fs e = Somewhere (λ f. IsFaultyType around f e) fs ⊎ ((fs ≡ []) × IsRefusal Arity x.span fieldless_message e)
 
-abbrev pub AreFaulty : (List ℕ → Option ℕ) → Ident → FieldItems → DeriveError → Type 0
-AreFaulty place_of x (named fs) e = AreFaultyMembers place_of fs e
-AreFaulty place_of x (unnamed fs) e = AreFaultyTypes place_of x fs e
-AreFaulty place_of x unit e = ⊥
+abbrev pub AreFaulty : Around → List SerdeItem → Ident → FieldItems → DeriveError → Type 0
+AreFaulty around items x (named fs) e = AreFaultyNamed around items fs e
+AreFaulty around items x (unnamed fs) e = AreFaultyTypes around x fs e
+AreFaulty around items x unit e = ⊥
 
--- the error refuses the declaration of the name
-abbrev pub IsFaultyBody : (List ℕ → Option ℕ) → Ident → BodyItem → DeriveError → Type 0
-IsFaultyBody place_of x (struct_body fs) e = AreFaulty place_of x fs e
+-- the error refuses the declaration of the name, before which serde's items stand
+abbrev pub IsFaultyBody : Around → List SerdeItem → Ident → BodyItem → DeriveError → Type 0
+IsFaultyBody around items x (struct_body fs) e = AreFaulty around items x fs e
 
-abbrev pub IsFaultyItem : (List ℕ → Option ℕ) → DeclaredItem → DeriveError → Type 0
-IsFaultyItem place_of d e = IsFaultyBody place_of d.ident d.body e
+abbrev pub IsFaultyItem : Around → DeclaredItem → DeriveError → Type 0
+IsFaultyItem around d e = IsFaultyBody around (serde_items d.attrs) d.ident d.body e

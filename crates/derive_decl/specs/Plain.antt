@@ -67,7 +67,7 @@ AreAlike [] = ⊥
 AreAlike (t ∷ ts) = IsTrue (are_all t ts)
 
 abbrev pub IsPlainForm : FormOf → Type 0
-IsPlainForm (named_fields ms) = AreAllPlain (types_of (named_fields ms))
+IsPlainForm (named_fields denies ms) = AreAllPlain (types_of (named_fields denies ms))
 IsPlainForm (unnamed_fields ts) = AreAllPlain ts × AreAlike ts
 IsPlainForm no_fields = ⊥
 

@@ -6,7 +6,7 @@ use Rattle.leaves.specs.Leaves.{kind_of}
 use Rattle.leaves.specs.declared.leaf.LeafKind.{LeafKind}
 use Rattle.leaves.specs.declared.leaf.LeafKind.TheVariants as kinds
 use Rattle.open_types.specs.Open.{Open, Opens, leaf, any_value, free_object, unit, tuple, items, set, map_of, option, through, param, named, no_types, more_types}
-use Rattle.derive_decl.specs.Structs.{MemberOf, FormOf, named_fields, unnamed_fields, no_fields, StructOf, is_required, struct_at}
+use Rattle.derive_decl.specs.Structs.{MemberOf, FormOf, named_fields, unnamed_fields, no_fields, StructOf, member_names, struct_at}
 
 abbrev pub is_null : Json → Bool
 is_null null = true
@@ -66,7 +66,7 @@ abbrev mutual
 
 -- a required member is there, and one that is there has the shape of its type
 abbrev pub member_fits : (ℕ → Json → Bool) → List (List ℕ × Json) → MemberOf → Bool
-member_fits instance es m = (not (is_required m) || is_in m.name (names es)) && if_there (look m.name es) (type_shape instance m.of)
+member_fits instance es m = (not m.required || is_in m.name (names es)) && if_there (look m.name es) (type_shape instance m.of)
 
 -- as many elements as types, each of the shape of its own
 abbrev pub elements_fit : (ℕ → Json → Bool) → List Open → List Json → Bool
@@ -80,9 +80,13 @@ abbrev pub unnamed_shape : (ℕ → Json → Bool) → List Open → Json → Bo
 unnamed_shape instance (t ∷ []) v = type_shape instance t v
 unnamed_shape instance ts v = is_list v (elements_fit instance ts)
 
--- a map whose members fit, beside which others may stand; unnamed fields; null
+-- no name stands there but those of the members
+abbrev pub no_others : List MemberOf → List (List ℕ × Json) → Bool
+no_others ms es = list_all (λ e. is_in e.0 (member_names ms)) es
+
+-- a map whose members fit, beside which others may stand unless they are refused; unnamed fields; null
 abbrev pub form_shape : (ℕ → Json → Bool) → FormOf → Json → Bool
-form_shape instance (named_fields ms) v = is_map v (λ es. list_all (member_fits instance es) ms)
+form_shape instance (named_fields denies ms) v = is_map v (λ es. list_all (member_fits instance es) ms && (not denies || no_others ms es))
 form_shape instance (unnamed_fields ts) v = unnamed_shape instance ts v
 form_shape instance no_fields v = is_null v
 

@@ -1,27 +1,36 @@
 -- What declarations are resolved to (the serde data model): structs with named fields, with unnamed ones, and without fields.
-use Rattle.std.specs.Prelude.{ℕ, zero, suc, List, [], ◌∷◌, Bool, true, false, not, Option, Some, None, option_map, option_and_then}
+use Rattle.std.specs.Prelude.{ℕ, zero, suc, List, [], ◌∷◌, Bool, true, false, not, ◌&&◌, Option, Some, None, option_map, option_and_then}
+use Rattle.diag.specs.declared.rename_row.RenameRow.{RenameRow}
 use Rattle.written_types.specs.declared.written.Ident.{Ident}
 use Rattle.attributes.specs.Attributes.{AttributeItem}
+use Rattle.attributes.specs.AttributeReading.{serde_items}
 use Rattle.attributes.specs.Comments.{docs_of, formatted}
+use Rattle.serde_rules.specs.Value.{is_required}
 use Rattle.syntax.specs.Items.{FieldItem, FieldItems, named, unnamed, unit, BodyItem, struct_body, DeclaredItem}
 use Rattle.open_types.specs.Open.{Open}
 use Rattle.open_types.specs.Open as types
 use Rattle.resolving.specs.Resolved.{type_of}
+use Rattle.scopes.specs.Names.{place_among}
 use Rattle.component.specs.Descriptions.{said}
+use Rattle.derive_decl.specs.Fields.{is_deprecated, FieldRules, field_rules, value_of, kept, written_name}
 
--- a field by its name, its description and its type
+-- a field by its name in JSON, whether its member must be there, whether it is deprecated, its description and its type
 pub record MemberOf : Type 0 where
   pub name : List ℕ
+  pub required : Bool
+  pub deprecated : Bool
   pub description : Option (List ℕ)
   pub of : Open
 
+-- named fields, and whether members that none of them has are refused; unnamed fields; none
 pub data FormOf : Type 0 where
-  named_fields : List MemberOf → FormOf
+  named_fields : Bool → List MemberOf → FormOf
   unnamed_fields : List Open → FormOf
   no_fields : FormOf
 
 pub record StructOf : Type 0 where
   pub name : List ℕ
+  pub deprecated : Bool
   pub description : Option (List ℕ)
   pub form : FormOf
 
@@ -39,10 +48,6 @@ is_option (types.through h t) = false
 is_option (types.param i) = false
 is_option (types.named d ts) = false
 
--- a member must be there unless its type is an option
-abbrev pub is_required : MemberOf → Bool
-is_required m = not (is_option m.of)
-
 abbrev pub member_names : List MemberOf → List (List ℕ)
 member_names [] = []
 member_names (m ∷ ms) = m.name ∷ member_names ms
@@ -53,18 +58,18 @@ member_types (m ∷ ms) = m.of ∷ member_types ms
 
 -- the names of the members, and the types of the places, in order
 abbrev pub names_of : FormOf → List (List ℕ)
-names_of (named_fields ms) = member_names ms
+names_of (named_fields denies ms) = member_names ms
 names_of (unnamed_fields ts) = []
 names_of no_fields = []
 
 abbrev pub types_of : FormOf → List Open
-types_of (named_fields ms) = member_types ms
+types_of (named_fields denies ms) = member_types ms
 types_of (unnamed_fields ts) = ts
 types_of no_fields = []
 
 -- the struct at a place; past the end, one without a name
 abbrev pub struct_at : List StructOf → ℕ → StructOf
-struct_at [] d = record { name = []; description = None; form = no_fields }
+struct_at [] d = record { name = []; deprecated = false; description = None; form = no_fields }
 struct_at (s ∷ ss) zero = s
 struct_at (s ∷ ss) (suc d) = struct_at ss d
 
@@ -83,30 +88,46 @@ all_of f (x ∷ xs) = option_and_then (λ y. option_map (λ ys. y ∷ ys) (all_o
 abbrev pub description_of : List AttributeItem → Option (List ℕ)
 description_of attributes = said (formatted (docs_of attributes))
 
--- a field with its name, its description and the type that its written type stands for
-abbrev pub member_from : Ident → Option (List ℕ) → Open → MemberOf
-member_from x description of = record { name = x.text; description = description; of = of }
+-- what is known around a declaration: the places of the names that are declared, and what names become by rename rules
+pub record Around : Type 0 where
+  pub place_of : List ℕ → Option ℕ
+  pub rows : List RenameRow
 
-abbrev pub member_as : Option (List ℕ) → Option Ident → Option Open → Option MemberOf
-member_as description None t = None
-member_as description (Some x) t = option_map (member_from x description) t
+abbrev pub around_of : List RenameRow → List DeclaredItem → Around
+around_of rows ds = record { place_of = place_among ds; rows = rows }
 
-abbrev pub member_of : (List ℕ → Option ℕ) → FieldItem → Option MemberOf
-member_of place_of f = member_as (description_of f.attrs) f.ident (type_of place_of f.ty)
+-- A field of this name and type. Its member must be there unless the type is an option, or serde may leave it out or need not find it.
+abbrev pub member_from : FieldRules → FieldItem → List ℕ → Open → MemberOf
+member_from rules f name of = record {
+  name = name;
+  required = not (is_option of) && is_required (value_of f) rules.default;
+  deprecated = is_deprecated f.attrs;
+  description = description_of f.attrs;
+  of = of;
+}
 
--- the form, where each type stands for something; of unnamed fields there is at least one
-abbrev pub form_of : (List ℕ → Option ℕ) → FieldItems → Option FormOf
-form_of place_of (named fs) = option_map named_fields (all_of (member_of place_of) fs)
-form_of place_of (unnamed []) = None
-form_of place_of (unnamed (f ∷ fs)) = option_map unnamed_fields (all_of (λ g. type_of place_of g.ty) (f ∷ fs))
-form_of place_of unit = Some no_fields
+-- the field of an identifier, where it has a name in JSON and its type stands for something
+abbrev pub member_as : Around → FieldRules → FieldItem → Option Ident → Option MemberOf
+member_as around rules f None = None
+member_as around rules f (Some x) =
+    option_and_then (λ name. option_map (member_from rules f name) (type_of around.place_of f.ty)) (written_name around.rows rules.rule f x)
 
-abbrev pub body_form : (List ℕ → Option ℕ) → BodyItem → Option FormOf
-body_form place_of (struct_body fs) = form_of place_of fs
+abbrev pub member_of : Around → FieldRules → FieldItem → Option MemberOf
+member_of around rules f = member_as around rules f f.ident
+
+-- the form, where each type that is kept stands for something; of unnamed fields there is at least one
+abbrev pub form_of : Around → FieldRules → FieldItems → Option FormOf
+form_of around rules (named fs) = option_map (named_fields rules.denies) (all_of (member_of around rules) (kept fs))
+form_of around rules (unnamed []) = None
+form_of around rules (unnamed (f ∷ fs)) = option_map unnamed_fields (all_of (λ g. type_of around.place_of g.ty) (f ∷ fs))
+form_of around rules unit = Some no_fields
+
+abbrev pub body_form : Around → FieldRules → BodyItem → Option FormOf
+body_form around rules (struct_body fs) = form_of around rules fs
 
 -- what a declaration is resolved to, where it has a form
 abbrev pub struct_from : List AttributeItem → Ident → FormOf → StructOf
-struct_from attributes x form = record { name = x.text; description = description_of attributes; form = form }
+struct_from attributes x form = record { name = x.text; deprecated = is_deprecated attributes; description = description_of attributes; form = form }
 
-abbrev pub struct_of : (List ℕ → Option ℕ) → DeclaredItem → Option StructOf
-struct_of place_of d = option_map (struct_from d.attrs d.ident) (body_form place_of d.body)
+abbrev pub struct_of : Around → DeclaredItem → Option StructOf
+struct_of around d = option_map (struct_from d.attrs d.ident) (body_form around (field_rules (serde_items d.attrs)) d.body)

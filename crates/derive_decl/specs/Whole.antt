@@ -2,21 +2,24 @@
 use Rattle.std.specs.Prelude.{◌≡◌, ℕ, List, [], ◌∷◌, Option, Some, option_map}
 use Rattle.schema_core.specs.Meaning.{IsDistinct}
 use Rattle.written_types.specs.declared.written.Ident.{Ident}
+use Rattle.diag.specs.declared.rename_row.RenameRow.{RenameRow}
 use Rattle.attributes.specs.Attributes.{AttributeItem}
+use Rattle.attributes.specs.AttributeReading.{serde_items}
 use Rattle.syntax.specs.Items.{BodyItem, DeclaredItem}
-use Rattle.scopes.specs.Names.{place_among}
-use Rattle.derive_decl.specs.Structs.{StructOf, names_of, all_of, body_form, struct_from, struct_of}
-use Rattle.derive_decl.specs.Faults.{HasSmall}
+use Rattle.derive_decl.specs.Fields.{field_rules}
+use Rattle.derive_decl.specs.Structs.{StructOf, Around, around_of, names_of, all_of, body_form, struct_from, struct_of}
+use Rattle.derive_decl.specs.Faults.{HasSmall, container_items, AreAllowed}
 
--- The struct is what a declaration of these attributes, this name and this body is resolved to: its members have different names, and its types are not too large.
-pub record IsResolved (place_of : List ℕ → Option ℕ) (attributes : List AttributeItem) (x : Ident) (body : BodyItem) (of : StructOf) : Type 0 where
-  pub resolved : option_map (struct_from attributes x) (body_form place_of body) ≡ Some of
+-- The struct is what a declaration of these attributes, this name and this body is resolved to: its members have different names, its types are not too large, and serde's items before it are allowed.
+pub record IsResolved (around : Around) (attributes : List AttributeItem) (x : Ident) (body : BodyItem) (of : StructOf) : Type 0 where
+  pub resolved : option_map (struct_from attributes x) (body_form around (field_rules (serde_items attributes)) body) ≡ Some of
   pub distinct : IsDistinct (names_of of.form)
   pub small : HasSmall body
+  pub allowed : AreAllowed (container_items attributes body)
 
--- the structs of all declarations, where each type stands for something
-abbrev pub structs_of : List DeclaredItem → Option (List StructOf)
-structs_of ds = all_of (struct_of (place_among ds)) ds
+-- the structs of all declarations, where each type stands for something and each name has its row
+abbrev pub structs_of : List RenameRow → List DeclaredItem → Option (List StructOf)
+structs_of rows ds = all_of (struct_of (around_of rows ds)) ds
 
 -- no two members of a struct have one name
 abbrev pub MembersDiffer : List StructOf → Type 0
@@ -26,3 +29,7 @@ MembersDiffer (s ∷ ss) = IsDistinct (names_of s.form) × MembersDiffer ss
 -- the types of the declaration have no more names than they may
 abbrev pub IsSmallItem : DeclaredItem → Type 0
 IsSmallItem d = HasSmall d.body
+
+-- serde's items before the declaration are allowed
+abbrev pub IsAllowedItem : DeclaredItem → Type 0
+IsAllowedItem d = AreAllowed (container_items d.attrs d.body)

@@ -4,11 +4,10 @@
 mod law;
 mod member;
 mod named_struct;
+mod remarks;
 mod root;
 mod schema;
 mod structs;
-#[cfg(test)]
-mod tests;
 mod unit_struct;
 mod unnamed_struct;
 mod whole;

@@ -1,28 +1,37 @@
 //! Named fields with resolved types.
 
-ghost use Rattle.std.specs.Prelude.{◌≡◌, ◌⊎◌, ◌≤◌, IfOk, IfErr, Some, map};
-ghost use Rattle.attributes.specs.Attributes.{attribute_view};
+ghost use Rattle.std.specs.Prelude.{◌≡◌, ◌⊎◌, ◌∷◌, [], IfOk, IfErr, Some, map, option_map};
+ghost use Rattle.std.specs.List.{AllByRecursion, cons_option};
 ghost use Rattle.diag.specs.Refusal.{IsRefusal};
 ghost use Rattle.open_types.specs.Open.{open_view};
-ghost use Rattle.resolving.specs.Names.{size};
+ghost use Rattle.resolving.specs.Resolved.{Somewhere};
 ghost use Rattle.scopes.specs.Scopes.{IsScope};
 ghost use Rattle.syntax.specs.Items.{field_view};
-ghost use Rattle.written_types.specs.Written.{written_view};
-ghost use Rattle.derive_decl.specs.Structs.{description_of, is_required, member_of, member_from};
-ghost use Rattle.derive_decl.specs.Faults.{IsFaultyMember, IsSmall, nameless_message};
+ghost use Rattle.derive_decl.specs.Fields.{kept, name_by, named_at, rules_view, value_of, written_ident, written_idents};
+ghost use Rattle.derive_decl.specs.Structs.{all_of, is_option, member_of, member_from};
+ghost use Rattle.derive_decl.specs.Faults.{IsUnwritten, IsFaultyMember, IsSmall, nameless_message, row_message};
 ghost use Rattle.derive_decl.specs.Views.{known, member_view};
 
-use component::{ComponentDescription, Container};
-use diag::{DeriveError, Diagnostics, Kind, Span, Text};
+use crate::remarks::{description_of, is_deprecated};
+use component::Container;
+use configuration::Config;
+use diag::{DeriveError, Diagnostics, Kind, RenameRule, Span, Text};
 use open_types::OpenType;
 use scopes::{Named, resolve};
+use serde_rules::names::rename;
+use serde_rules::{FieldRename, SerdeContainer, SerdeValue, is_required, parse_value};
 use std::alloc::{AllocError, Global};
-use syntax::{Attribute, CommentAttributes, Field, Ident};
+use syntax::{Field, Ident};
 
-/// A field by its identifier, its description and its type.
+/// A field by its name in JSON, what is said of it, and its type.
 #[derive(Debug, Drop)]
 pub struct Member {
+    /// The name in JSON, where the field's identifier stands.
     pub ident: Ident,
+    /// Whether the member must be there: null may stand for an option that is not, and serde may leave a member out or
+    /// need not find it.
+    pub required: bool,
+    pub deprecated: bool,
     pub description: Option<Text>,
     pub ty: OpenType,
 }
@@ -35,27 +44,14 @@ impl Named for Member {
     }
 }
 
-impl Member {
-    /// Whether the member must be there: null may stand for an option that is not.
-    pub fn is_required(&self) -> bool
-        ensures { result ≡ is_required (member_view self.now) }
-    {
-        match &self.ty {
-            OpenType::Option(_) => false,
-            _ => true,
-        }
-    }
-}
-
-/// Doc comments as a description, where they say something.
-pub(crate) fn description_of(
-    alloc: Global,
-    attributes: &[Attribute],
-) -> Result<Option<Text>, AllocError>
-    ensures { IfOk result (λ description. description ≡ description_of (map attribute_view attributes.now)) }
+/// Whether null stands for the type.
+fn is_option(ty: &OpenType) -> bool
+    ensures { result ≡ is_option (open_view ty.now) }
 {
-    let comments = CommentAttributes::from_attributes(alloc, attributes)?;
-    ComponentDescription::CommentAttributes(&comments).text(alloc)
+    match ty {
+        OpenType::Option(_) => true,
+        _ => false,
+    }
 }
 
 /// The refusal of a named field without a name.
@@ -71,38 +67,111 @@ fn nameless(alloc: Global, span: Span) -> Result<DeriveError, AllocError>
     Ok(DeriveError::Refused(diagnostics))
 }
 
+/// The refusal of an identifier that needs a row of the rule.
+fn missing_row(alloc: Global, rule: &RenameRule, ident: &Ident) -> Result<DeriveError, AllocError>
+    ensures { IfOk result (λ e. IsRefusal Kind.MissingRow ident.now.span (row_message rule.now ident.now.text) e) }
+{
+    let message = format!(in alloc; "no row for {} of {}", rule.name(), ident.text.as_str())?;
+    let diagnostics = Diagnostics::with_span(
+        alloc,
+        Kind::MissingRow,
+        ident.span,
+        message.as_str(),
+    )?;
+    Ok(DeriveError::Refused(diagnostics))
+}
+
+/// The name of the identifier in JSON, where the identifier stands.
+fn written_ident(
+    alloc: Global,
+    config: &Config,
+    rule: Option<RenameRule>,
+    value: &SerdeValue,
+    ident: &Ident,
+) -> Result<Ident, DeriveError>
+    ensures written { IfOk result (λ x. option_map (named_at ident.now) (name_by config.now.renames rule value.now ident.now) ≡ Some x) }
+    ensures refused { IfErr result (λ e. (e ≡ DeriveError.Memory) ⊎ IsUnwritten config.now.renames rule value.now ident.now e) }
+{
+    let given = value.rename.as_ref().map(|text| text.as_str());
+    let renamed = rename::<FieldRename>(
+        config.renames(),
+        ident.text.as_str(),
+        given,
+        rule.as_ref(),
+    );
+    match (renamed, rule) {
+        (Ok(Some(name)), _) => Ok(Ident {
+            text: Text::new(alloc, name)?,
+            raw: ident.raw,
+            span: ident.span,
+        }),
+        (Err(_), Some(rule)) => Err(missing_row(alloc, &rule, ident)?),
+        (Ok(None), _) | (Err(_), None) => Ok(ident.copy(alloc)?),
+    }
+}
+
+/// The member of a field of this name and type, before which serde says `value`.
 fn member_with(
     alloc: Global,
-    ident: &Ident,
-    attributes: &[Attribute],
+    rules: &SerdeContainer,
+    value: &SerdeValue,
+    field: &Field,
+    ident: Ident,
     ty: OpenType,
 ) -> Result<Member, AllocError>
-    ensures ident { IfOk result (λ m. m.ident ≡ ident.now) }
-    ensures member { IfOk result (λ m. member_view m ≡ member_from ident.now (description_of (map attribute_view attributes.now)) (open_view ty)) }
+    requires { value.now ≡ value_of (field_view field.now) }
+    ensures ident { IfOk result (λ m. m.ident ≡ ident) }
+    ensures member { IfOk result (λ m. member_view m ≡ member_from (rules_view rules.now) (field_view field.now) ident.text (open_view ty)) }
 {
+    let attributes = field.attrs.as_slice();
     Ok(Member {
-        ident: ident.copy(alloc)?,
+        required: !is_option(&ty) && is_required(value, rules),
+        deprecated: is_deprecated(attributes),
         description: description_of(alloc, attributes)?,
+        ident,
         ty,
     })
 }
 
-/// The field with its type resolved.
+/// The member of a field that is kept, before which serde says `value`.
+fn kept_member(
+    alloc: Global,
+    container: &Container<'_>,
+    rules: &SerdeContainer,
+    value: &SerdeValue,
+    field: &Field,
+) -> Result<Member, DeriveError>
+    requires scope { IsScope container.now.scope.now }
+    requires value { value.now ≡ value_of (field_view field.now) }
+    ensures member { IfOk result (λ m. member_of (known container.now) (rules_view rules.now) (field_view field.now) ≡ Some (member_view m)) }
+    ensures ident { IfOk result (λ m. written_ident container.now.config.now.renames rules.now.rename_all (field_view field.now) ≡ Some m.ident) }
+    ensures small { IfOk result (λ _. IsSmall (field_view field.now)) }
+    ensures refused { IfErr result (λ e. (e ≡ DeriveError.Memory) ⊎ IsFaultyMember (known container.now) (rules_view rules.now) (field_view field.now) e) }
+{
+    let Some(ident) = &field.ident else {
+        return Err(nameless(alloc, field.span)?);
+    };
+    let name = written_ident(alloc, container.config, rules.rename_all, value, ident)?;
+    let ty = resolve(alloc, container.scope, &field.ty, container.config)?;
+    Ok(member_with(alloc, rules, value, field, name, ty)?)
+}
+
+/// The member of the field, where it has one: a skipped field has none.
 pub(crate) fn resolve_member(
     alloc: Global,
     container: &Container<'_>,
+    rules: &SerdeContainer,
     field: &Field,
-) -> Result<Member, DeriveError>
+) -> Result<Option<Member>, DeriveError>
     requires { IsScope container.now.scope.now }
-    ensures member { IfOk result (λ m. member_of (known container.now) (field_view field.now) ≡ Some (member_view m)) }
-    ensures ident { IfOk result (λ m. field.now.ident ≡ Some m.ident) }
-    ensures small { IfOk result (λ _. IsSmall (field_view field.now)) }
-    ensures refused { IfErr result (λ e. (e ≡ DeriveError.Memory) ⊎ IsFaultyMember (known container.now) (field_view field.now) e) }
+    ensures member { IfOk result (λ m. all_of (member_of (known container.now) (rules_view rules.now)) (kept (field_view field.now ∷ [])) ≡ Some (map member_view (cons_option m []))) }
+    ensures ident { IfOk result (λ m. written_idents container.now.config.now.renames rules.now.rename_all (kept (field_view field.now ∷ [])) ≡ map (λ n. n.ident) (cons_option m [])) }
+    ensures small { IfOk result (λ _. AllByRecursion IsSmall (kept (field_view field.now ∷ []))) }
+    ensures refused { IfErr result (λ e. (e ≡ DeriveError.Memory) ⊎ Somewhere (λ f. IsFaultyMember (known container.now) (rules_view rules.now) f e) (kept (field_view field.now ∷ []))) }
 {
-    let ident = match &field.ident {
-        Some(ident) => ident,
-        None => return Err(nameless(alloc, field.span)?),
-    };
-    let ty = resolve(alloc, container.scope, &field.ty, container.config)?;
-    Ok(member_with(alloc, ident, field.attrs.as_slice(), ty)?)
+    let value = parse_value(alloc, field.attrs.as_slice())?;
+    if value.skip {
+        return Ok(None);
+    }
+    Ok(Some(kept_member(alloc, container, rules, &value, field)?))
 }

@@ -2,14 +2,16 @@
 
 ghost use Rattle.std.specs.Prelude.{◌≡◌, ◌⊎◌, map, IfOk, IfErr, Some};
 ghost use Rattle.attributes.specs.Attributes.{attribute_view};
+ghost use Rattle.attributes.specs.AttributeReading.{serde_items};
 ghost use Rattle.std.specs.List.{AllByRecursion};
 ghost use Rattle.schema_core.specs.Meaning.{IsDistinct};
 ghost use Rattle.open_types.specs.Open.{open_view};
 ghost use Rattle.scopes.specs.Scopes.{IsScope};
 ghost use Rattle.syntax.specs.Items.{fields_view, body_view};
+ghost use Rattle.derive_decl.specs.Fields.{field_rules, is_deprecated};
 ghost use Rattle.derive_decl.specs.Structs.{StructOf, form_of, body_form, description_of, names_of, types_of};
-ghost use Rattle.derive_decl.specs.Faults.{fields_in, IsSmall, HasSmall, AreFaulty, IsFaultyBody};
-ghost use Rattle.derive_decl.specs.Views.{known, form_view, form_description, struct_view};
+ghost use Rattle.derive_decl.specs.Faults.{kept_in, items_of, container_items, IsSmall, HasSmall, AreAllowed, AreFaulty, IsFaultyBody};
+ghost use Rattle.derive_decl.specs.Views.{known, form_view, form_deprecated, form_description, struct_view};
 ghost use Rattle.derive_decl.specs.Whole.{IsResolved};
 
 use crate::named_struct::NamedStructSchema;
@@ -34,11 +36,13 @@ pub struct Schema<'a> {
 
 fn fields_form(alloc: Global, root: &Root<'_>, fields: &Fields) -> Result<Form, DeriveError>
     requires { IsScope root.now.container.now.scope.now }
-    ensures form { IfOk result (λ f. form_of (known root.now.container.now) (fields_view fields.now) ≡ Some (form_view f)) }
+    ensures form { IfOk result (λ f. form_of (known root.now.container.now) (field_rules (serde_items (map attribute_view root.now.attributes.now))) (fields_view fields.now) ≡ Some (form_view f)) }
+    ensures deprecated { IfOk result (λ f. form_deprecated f ≡ is_deprecated (map attribute_view root.now.attributes.now)) }
     ensures description { IfOk result (λ f. form_description f ≡ description_of (map attribute_view root.now.attributes.now)) }
     ensures distinct { IfOk result (λ f. IsDistinct (names_of (form_view f))) }
-    ensures small { IfOk result (λ _. AllByRecursion IsSmall (fields_in (fields_view fields.now))) }
-    ensures refused { IfErr result (λ e. (e ≡ DeriveError.Memory) ⊎ AreFaulty (known root.now.container.now) root.now.ident.now (fields_view fields.now) e) }
+    ensures small { IfOk result (λ _. AllByRecursion IsSmall (kept_in (fields_view fields.now))) }
+    ensures allowed { IfOk result (λ _. AreAllowed (items_of (map attribute_view root.now.attributes.now) (fields_view fields.now))) }
+    ensures refused { IfErr result (λ e. (e ≡ DeriveError.Memory) ⊎ AreFaulty (known root.now.container.now) (serde_items (map attribute_view root.now.attributes.now)) root.now.ident.now (fields_view fields.now) e) }
 {
     match fields {
         Fields::Named(fields) => Ok(Form::Named(NamedStructSchema::new(
@@ -57,11 +61,13 @@ fn fields_form(alloc: Global, root: &Root<'_>, fields: &Fields) -> Result<Form, 
 
 fn body_form(alloc: Global, root: &Root<'_>, body: &Body) -> Result<Form, DeriveError>
     requires { IsScope root.now.container.now.scope.now }
-    ensures form { IfOk result (λ f. body_form (known root.now.container.now) (body_view body.now) ≡ Some (form_view f)) }
+    ensures form { IfOk result (λ f. body_form (known root.now.container.now) (field_rules (serde_items (map attribute_view root.now.attributes.now))) (body_view body.now) ≡ Some (form_view f)) }
+    ensures deprecated { IfOk result (λ f. form_deprecated f ≡ is_deprecated (map attribute_view root.now.attributes.now)) }
     ensures description { IfOk result (λ f. form_description f ≡ description_of (map attribute_view root.now.attributes.now)) }
     ensures distinct { IfOk result (λ f. IsDistinct (names_of (form_view f))) }
     ensures small { IfOk result (λ _. HasSmall (body_view body.now)) }
-    ensures refused { IfErr result (λ e. (e ≡ DeriveError.Memory) ⊎ IsFaultyBody (known root.now.container.now) root.now.ident.now (body_view body.now) e) }
+    ensures allowed { IfOk result (λ _. AreAllowed (container_items (map attribute_view root.now.attributes.now) (body_view body.now))) }
+    ensures refused { IfErr result (λ e. (e ≡ DeriveError.Memory) ⊎ IsFaultyBody (known root.now.container.now) (serde_items (map attribute_view root.now.attributes.now)) root.now.ident.now (body_view body.now) e) }
 {
     match body {
         Body::Struct(fields) => fields_form(alloc, root, fields),
@@ -91,13 +97,13 @@ impl<'a> Schema<'a> {
 
     /// The declaration with its types resolved.
     ///
-    /// A refusal is of kind `UnknownType`, `Arity` or `TypeSize`, for the type of a field; `DuplicateName`, at the second
-    /// of two names that are equal; `Arity`, at the name of a declaration whose form is unnamed fields without a field; or
-    /// `Syntax`, at a named field without a name.
+    /// A refusal is of kind `UnknownType`, `Arity` or `TypeSize`, for the type of a field; `Arity`, at the name of a
+    /// declaration whose form is unnamed fields without a field; or, of a struct with named fields, as that of
+    /// `NamedStructSchema::new`.
     pub fn resolve(&self, alloc: Global) -> Result<Struct, DeriveError>
         requires { IsScope self.now.container.now.scope.now }
         ensures resolved { IfOk result (λ s. IsResolved (known self.now.container.now) (map attribute_view self.now.attributes.now) self.now.ident.now (body_view self.now.body.now) (struct_view s)) }
-        ensures refused { IfErr result (λ e. (e ≡ DeriveError.Memory) ⊎ IsFaultyBody (known self.now.container.now) self.now.ident.now (body_view self.now.body.now) e) }
+        ensures refused { IfErr result (λ e. (e ≡ DeriveError.Memory) ⊎ IsFaultyBody (known self.now.container.now) (serde_items (map attribute_view self.now.attributes.now)) self.now.ident.now (body_view self.now.body.now) e) }
     {
         let root = Root {
             ident: self.ident,
@@ -116,7 +122,7 @@ impl<'a> Schema<'a> {
     pub fn place_types(&self, alloc: Global) -> Result<List<OpenType>, DeriveError>
         requires { IsScope self.now.container.now.scope.now }
         ensures types { IfOk result (λ ts. (of : StructOf) × IsResolved (known self.now.container.now) (map attribute_view self.now.attributes.now) self.now.ident.now (body_view self.now.body.now) of × (types_of of.form ≡ map open_view ts)) }
-        ensures refused { IfErr result (λ e. (e ≡ DeriveError.Memory) ⊎ IsFaultyBody (known self.now.container.now) self.now.ident.now (body_view self.now.body.now) e) }
+        ensures refused { IfErr result (λ e. (e ≡ DeriveError.Memory) ⊎ IsFaultyBody (known self.now.container.now) (serde_items (map attribute_view self.now.attributes.now)) self.now.ident.now (body_view self.now.body.now) e) }
     {
         let resolved = self.resolve(alloc)?;
         Ok(types_of(alloc, resolved.form)?)
@@ -126,6 +132,7 @@ impl<'a> Schema<'a> {
 impl ToTerm for Schema<'_> {
     ghost use Rattle.std.specs.Prelude.{◌≡◌, map};
     ghost use Rattle.attributes.specs.Attributes.{attribute_view};
+    ghost use Rattle.attributes.specs.AttributeReading.{serde_items};
     ghost use Rattle.scopes.specs.Scopes.{IsScope};
     ghost use Rattle.syntax.specs.Items.{body_view};
     ghost use Rattle.derive_decl.specs.Structs.{StructOf};
@@ -138,7 +145,7 @@ impl ToTerm for Schema<'_> {
 
     ghost has_term = { λ s t. (of : StructOf) × IsResolved (known s.container.now) (map attribute_view s.attributes.now) s.ident.now (body_view s.body.now) of × (t ≡ term of) };
 
-    ghost is_refused = { λ s e. IsFaultyBody (known s.container.now) s.ident.now (body_view s.body.now) e };
+    ghost is_refused = { λ s e. IsFaultyBody (known s.container.now) (serde_items (map attribute_view s.attributes.now)) s.ident.now (body_view s.body.now) e };
 
     fn to_term(&self, alloc: Global) -> Result<Term, DeriveError> {
         let resolved = self.resolve(alloc)?;

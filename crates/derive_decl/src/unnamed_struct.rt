@@ -9,12 +9,13 @@ ghost use Rattle.resolving.specs.Resolved.{Somewhere, type_of};
 ghost use Rattle.scopes.specs.Scopes.{IsScope};
 ghost use Rattle.syntax.specs.Items.{field_view, unnamed};
 ghost use Rattle.component.specs.Leaves.{term_view};
+ghost use Rattle.derive_decl.specs.Fields.{FieldRules as AnyRules, is_deprecated};
 ghost use Rattle.derive_decl.specs.Structs.{all_of, description_of, form_of};
 ghost use Rattle.derive_decl.specs.Terms.{are_all, any_object, list_of_length, unnamed_term, form_term};
 ghost use Rattle.derive_decl.specs.Faults.{IsFaultyType, AreFaultyTypes, IsSmall, fieldless_message};
 ghost use Rattle.derive_decl.specs.Views.{known, unnamed_view};
 
-use crate::member::description_of;
+use crate::remarks::{description_of, is_deprecated};
 use crate::root::Root;
 use component::{Container, Place, Term, ToTerm, any_object, noted, place_term};
 use diag::{DeriveError, Diagnostics, Kind, List, Span, Text};
@@ -27,6 +28,7 @@ use syntax::Field;
 /// A struct with unnamed fields. One field is read as its content, several as a list.
 #[derive(Debug, Drop)]
 pub struct UnnamedStructSchema {
+    pub deprecated: bool,
     pub description: Option<Text>,
     pub types: List<OpenType>,
 }
@@ -51,7 +53,7 @@ fn resolve_types(
     fields: &[Field],
 ) -> Result<List<OpenType>, DeriveError>
     requires { IsScope container.now.scope.now }
-    ensures types { IfOk result (λ ts. all_of (λ f. type_of (known container.now) f.ty) (map field_view fields.now) ≡ Some (map open_view ts)) }
+    ensures types { IfOk result (λ ts. all_of (λ f. type_of (known container.now).place_of f.ty) (map field_view fields.now) ≡ Some (map open_view ts)) }
     ensures small { IfOk result (λ _. AllByRecursion IsSmall (map field_view fields.now)) }
     ensures refused { IfErr result (λ e. (e ≡ DeriveError.Memory) ⊎ Somewhere (λ f. IsFaultyType (known container.now) f e) (map field_view fields.now)) }
 {
@@ -73,7 +75,8 @@ impl UnnamedStructSchema {
         fields: &[Field],
     ) -> Result<UnnamedStructSchema, DeriveError>
         requires { IsScope root.now.container.now.scope.now }
-        ensures form { IfOk result (λ s. form_of (known root.now.container.now) (unnamed (map field_view fields.now)) ≡ Some (unnamed_view s)) }
+        ensures form { IfOk result (λ s. (rules : AnyRules) → form_of (known root.now.container.now) rules (unnamed (map field_view fields.now)) ≡ Some (unnamed_view s)) }
+        ensures deprecated { IfOk result (λ s. s.deprecated ≡ is_deprecated (map attribute_view root.now.attributes.now)) }
         ensures description { IfOk result (λ s. s.description ≡ description_of (map attribute_view root.now.attributes.now)) }
         ensures small { IfOk result (λ _. AllByRecursion IsSmall (map field_view fields.now)) }
         ensures refused { IfErr result (λ e. (e ≡ DeriveError.Memory) ⊎ AreFaultyTypes (known root.now.container.now) root.now.ident.now (map field_view fields.now) e) }
@@ -82,6 +85,7 @@ impl UnnamedStructSchema {
             return Err(fieldless(alloc, root.ident.span)?);
         }
         Ok(UnnamedStructSchema {
+            deprecated: is_deprecated(root.attributes),
             types: resolve_types(alloc, root.container, fields)?,
             description: description_of(alloc, root.attributes)?,
         })
@@ -124,9 +128,14 @@ fn list_of_length(
 impl UnnamedStructSchema {
     /// The schema of the struct.
     pub(crate) fn term(&self, alloc: Global) -> Result<Term, AllocError>
-        ensures { IfOk result (λ t. term_view t ≡ form_term self.now.description (unnamed_view self.now)) }
+        ensures { IfOk result (λ t. term_view t ≡ form_term self.now.deprecated self.now.description (unnamed_view self.now)) }
     {
-        unnamed_term(alloc, &self.description, self.types.as_slice())
+        unnamed_term(
+            alloc,
+            self.deprecated,
+            &self.description,
+            self.types.as_slice(),
+        )
     }
 }
 
@@ -137,7 +146,7 @@ impl ToTerm for UnnamedStructSchema {
 
     ghost is_ready = { λ _. Unit {0} };
 
-    ghost has_term = { λ s t. t ≡ form_term s.description (unnamed_view s) };
+    ghost has_term = { λ s t. t ≡ form_term s.deprecated s.description (unnamed_view s) };
 
     ghost is_refused = { λ _ _. ⊥ };
 
@@ -149,21 +158,22 @@ impl ToTerm for UnnamedStructSchema {
 /// The schema of unnamed fields of these types.
 fn unnamed_term(
     alloc: Global,
+    deprecated: bool,
     description: &Option<Text>,
     types: &[OpenType],
 ) -> Result<Term, AllocError>
-    ensures { IfOk result (λ s. term_view s ≡ unnamed_term description.now (map open_view types.now)) }
+    ensures { IfOk result (λ s. term_view s ≡ unnamed_term deprecated description.now (map open_view types.now)) }
 {
     let place = Place {
         nullable: false,
         inline: false,
-        deprecated: false,
+        deprecated,
         description,
     };
     let items = match types {
         [ty] => return place_term(alloc, place, ty),
         [first, others @ ..] if are_all(first, others) => place_term(alloc, place, first)?,
-        _ => any_object(alloc, false, Notes::new())?,
+        _ => any_object(alloc, false, noted(alloc, deprecated, &None)?)?,
     };
     let notes = noted(alloc, false, description)?;
     list_of_length(alloc, types.len(), notes, items)

@@ -8,10 +8,10 @@ ghost use Rattle.syntax.specs.Items.{declaration_view, declarations_view};
 ghost use Rattle.resolving.specs.Resolved.{Somewhere};
 ghost use Rattle.scopes.specs.Names.{place_among};
 ghost use Rattle.scopes.specs.Scopes.{IsScope};
-ghost use Rattle.derive_decl.specs.Structs.{names_of, struct_of};
+ghost use Rattle.derive_decl.specs.Structs.{names_of, around_of, struct_of};
 ghost use Rattle.derive_decl.specs.Faults.{IsFaultyItem};
 ghost use Rattle.derive_decl.specs.Views.{known, struct_view};
-ghost use Rattle.derive_decl.specs.Whole.{structs_of, MembersDiffer, IsSmallItem};
+ghost use Rattle.derive_decl.specs.Whole.{structs_of, MembersDiffer, IsSmallItem, IsAllowedItem};
 
 use crate::schema::Schema;
 use crate::structs::Struct;
@@ -33,6 +33,7 @@ fn struct_of(
     ensures resolved { IfOk result (λ s. struct_of (known container.now) (declaration_view declaration.now) ≡ Some (struct_view s)) }
     ensures distinct { IfOk result (λ s. IsDistinct (names_of (struct_view s).form)) }
     ensures small { IfOk result (λ _. IsSmallItem (declaration_view declaration.now)) }
+    ensures allowed { IfOk result (λ _. IsAllowedItem (declaration_view declaration.now)) }
     ensures refused { IfErr result (λ e. (e ≡ DeriveError.Memory) ⊎ IsFaultyItem (known container.now) (declaration_view declaration.now) e) }
 {
     let schema = Schema::new(
@@ -54,10 +55,11 @@ pub fn structs_of(
     config: &Config,
 ) -> Result<List<Struct>, DeriveError>
     requires { (name : Items ℕ) → get_by_text places.now name ≡ place_among (declarations_view declarations.now) name }
-    ensures resolved { IfOk result (λ ss. structs_of (declarations_view declarations.now) ≡ Some (map struct_view ss)) }
+    ensures resolved { IfOk result (λ ss. structs_of config.now.renames (declarations_view declarations.now) ≡ Some (map struct_view ss)) }
     ensures distinct { IfOk result (λ ss. MembersDiffer (map struct_view ss)) }
     ensures small { IfOk result (λ _. AllByRecursion IsSmallItem (declarations_view declarations.now)) }
-    ensures refused { IfErr result (λ e. (e ≡ DeriveError.Memory) ⊎ Somewhere (λ d. IsFaultyItem (place_among (declarations_view declarations.now)) d e) (declarations_view declarations.now)) }
+    ensures allowed { IfOk result (λ _. AllByRecursion IsAllowedItem (declarations_view declarations.now)) }
+    ensures refused { IfErr result (λ e. (e ≡ DeriveError.Memory) ⊎ Somewhere (λ d. IsFaultyItem (around_of config.now.renames (declarations_view declarations.now)) d e) (declarations_view declarations.now)) }
 {
     let mut structs = List::new(alloc);
     for owner in 0..declarations.items.len() {

@@ -22,8 +22,3 @@ pub use rename_table::RenameTable;
 pub use span::Span;
 pub use suggestion::{Suggestion, suggestions_are_ordered};
 pub use text::Text;
-
-#[cfg(test)]
-mod rename_tests;
-#[cfg(test)]
-mod tests;

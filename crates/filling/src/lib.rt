@@ -3,8 +3,6 @@
 
 mod copy;
 mod fill;
-#[cfg(test)]
-mod tests;
 
 pub use copy::{CopyLeaf, copied, copy_schema};
 pub use fill::{Fill, filled};

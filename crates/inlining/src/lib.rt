@@ -5,8 +5,6 @@
 mod copies;
 mod law;
 mod order;
-#[cfg(test)]
-mod tests;
 
 pub use copies::are_more_copies;
 pub use law::orders_stand;

@@ -2,7 +2,5 @@
 #![tactic(auto)]
 
 mod leaf;
-#[cfg(test)]
-mod tests;
 
 pub use leaf::{Leaf, LeafKind};

@@ -8,8 +8,6 @@ mod nest;
 mod piece;
 mod raw;
 mod scan;
-#[cfg(test)]
-mod tests;
 mod text;
 mod word;
 

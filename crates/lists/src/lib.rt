@@ -2,7 +2,5 @@
 #![tactic(auto)]
 
 mod comma;
-#[cfg(test)]
-mod tests;
 
 pub use comma::after_comma;

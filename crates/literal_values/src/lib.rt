@@ -5,8 +5,6 @@ mod escapes;
 mod numbers;
 mod raw_strings;
 mod strings;
-#[cfg(test)]
-mod tests;
 mod value;
 
 pub use value::{LiteralValue, is_string, literal_value, text_value};

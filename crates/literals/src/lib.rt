@@ -8,8 +8,6 @@ mod numbers;
 mod raw_strings;
 mod scan;
 mod strings;
-#[cfg(test)]
-mod tests;
 
 pub use laws::{literals_are_longest, literals_have_quotes};
 pub use literal::after_literal;

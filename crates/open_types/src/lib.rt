@@ -6,8 +6,6 @@ mod copy;
 mod law;
 mod open_type;
 mod same;
-#[cfg(test)]
-mod tests;
 
 pub use closed_type::{ClosedType, substitute};
 pub use law::{closed_types_stay, same_types_are_equal};

@@ -8,8 +8,6 @@ mod meaning;
 mod refusal;
 mod resolve;
 mod size;
-#[cfg(test)]
-mod tests;
 
 pub use head::Head;
 pub use law::{resolved_are_within, resolved_have_no_fault};

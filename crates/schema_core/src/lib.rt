@@ -9,8 +9,6 @@ mod json_value;
 mod law;
 mod members;
 mod notes;
-#[cfg(test)]
-mod tests;
 mod tree;
 
 pub use bound::Bound;

@@ -1,20 +1,29 @@
 -- Refusals of a source have another kind than those of a configuration.
-use Rattle.std.proofs.Common.{◌≡◌, ◌⊎◌, ℕ, List, [], ◌∷◌, inl, inr, subst, codes}
+use Rattle.std.proofs.Common.{◌≡◌, ◌⊎◌, ℕ, List, [], ◌∷◌, inl, inr, subst, codes, Option, Some, None, Result, Ok, Err, IsSomeAnd, Any}
 use Rattle.diag.specs.Diagnostics.{HasFirst, diagnostic}
 use Rattle.diag.specs.Refusal.{IsRefusal}
 use Rattle.diag.specs.Span.{no_span}
 use Rattle.diag.specs.declared.diagnostics.DiangosticsInner.{DiangosticsInner}
 use Rattle.diag.specs.declared.error.DeriveError.TheVariants.{Refused}
 use Rattle.diag.specs.declared.kind.Kind.{Kind}
-use Rattle.diag.specs.declared.kind.Kind.TheVariants.{BadConfig, TooLong, TooDeep, Syntax, DuplicateName, UnknownType, Arity, TypeSize, TooManyInstances, InlineDepth, TooManyCopies}
+use Rattle.diag.specs.declared.kind.Kind.TheVariants.{BadConfig, TooLong, TooDeep, Syntax, DuplicateName, UnknownType, Arity, TypeSize, TooManyInstances, InlineDepth, TooManyCopies, MissingRow, SerdeTag, BadValue}
 use Rattle.diag.specs.declared.span.Span.{Span}
-use Rattle.syntax.specs.Items.{DeclaredItem}
+use Rattle.diag.specs.declared.rename_rule.RenameRule.{RenameRule}
+use Rattle.diag.specs.declared.rename_row.RenameRow.{RenameRow}
+use Rattle.attributes.specs.AttributeReading.{serde_items}
+use Rattle.attributes.specs.declared.serde_item.SerdeItem.{SerdeItem}
+use Rattle.attributes.specs.declared.serde_item.SerdeText.{SerdeText}
+use Rattle.serde_rules.specs.declared.enum_repr.SerdeEnumRepr.{SerdeEnumRepr}
+use Rattle.serde_rules.specs.Items.{literal_for}
+use Rattle.serde_rules.specs.Container.{TagFault, representation, rule_named, rename_rule, unknown_rule, IsTagRefusal, IsRuleRefusal, IsContainerRefusal}
+use Rattle.syntax.specs.Items.{FieldItem, DeclaredItem}
 use Rattle.resolving.specs.Resolved.{Fault, unknown_type, wrong_arity, too_large, IsRefusedFor, Somewhere}
 use Rattle.configuration.specs.Configuration.{Configuration}
 use Rattle.configuration.specs.Form.{IsBadConfig}
 use Rattle.derive_decl.specs.Structs.{StructOf}
+use Rattle.derive_decl.specs.Faults.{container_items, IsFaultyName}
 use Rattle.instances.specs.Bounds.{IsRefusalOf, IsUnbounded}
-use Rattle.compose.specs.Faults.{IsFaulty, IsBeyond, IsRefused}
+use Rattle.compose.specs.Faults.{kept_named, IsFaulty, IsBeyond, IsRefused}
 use Rattle.schema_gen.specs.Refusals.{IsRefusedSource}
 
 -- the refusal of a configuration has its kind
@@ -47,15 +56,39 @@ module _ (ds : List DiangosticsInner) (first : HasFirst ds (λ d. d.kind ≡ Bad
   unbounded c items structs (inr (inl (few, (path, is_path, long, somewhere)))) = nowhere _ items (λ d is. other_of InlineDepth _ _ _ (λ e. cc) is.1) somewhere
   unbounded c items structs (inr (inr (few, shallow, (many, is)))) = other TooManyCopies _ _ (λ e. cc) is
 
-  faulty : (items : List DeclaredItem) → IsFaulty items (Refused ds) → ⊥
-  faulty items (inl (x, duplicate, is)) = other DuplicateName _ _ (λ e. cc) is
-  faulty items (inr (inl (fault, found, is))) = other_for fault is
-  faulty items (inr (inr (inl (x, fieldless, is)))) = other Arity _ _ (λ e. cc) is
-  faulty items (inr (inr (inr (inl (span, nameless, is))))) = other Syntax _ _ (λ e. cc) is
-  faulty items (inr (inr (inr (inr (span, attributed, is))))) = other Syntax _ _ (λ e. cc) is
+  rowless : (rows : List RenameRow) (rule : Option RenameRule) (f : FieldItem) → IsFaultyName rows rule f (Refused ds) → ⊥
+  rowless rows None f (x, ident, h) = h
+  rowless rows (Some rule) f (x, ident, (none, is)) = other MissingRow _ _ (λ e. cc) is
 
-  declared : (c : Configuration) (items : List DeclaredItem) → IsFaulty items (Refused ds) ⊎ IsBeyond c items (Refused ds) → ⊥
-  declared c items (inl fault) = faulty items fault
+  tagged : (r : Result SerdeEnumRepr TagFault) → IsTagRefusal r (Refused ds) → ⊥
+  tagged (Ok repr) h = h
+  tagged (Err why) is = other SerdeTag _ _ (λ e. cc) is
+
+  ruled : (o : Option SerdeText) → IsSomeAnd o (λ literal. (rule_named literal.text ≡ None) × IsRefusal BadValue literal.span unknown_rule (Refused ds)) → ⊥
+  ruled None h = absurd h
+  ruled (Some literal) h = other BadValue _ _ (λ e. cc) h.1
+
+  none_of : {A : Type 0} (P : A → Type 0) (xs : List A) → ((x : A) → P x → ⊥) → Any P xs → ⊥
+  none_of P [] none here = here
+  none_of P (x ∷ xs) none (inl here) = none x here
+  none_of P (x ∷ xs) none (inr there) = none_of P xs none there
+
+  disallowed : (items : List SerdeItem) → IsContainerRefusal items (Refused ds) → ⊥
+  disallowed items (inl h) = tagged (representation items) h
+  disallowed items (inr h) = none_of (λ item. IsRuleRefusal item (Refused ds)) items (λ item. ruled (literal_for (codes "rename_all") item)) h
+
+  faulty : (rows : List RenameRow) (items : List DeclaredItem) → IsFaulty rows items (Refused ds) → ⊥
+  faulty rows items (inl (x, duplicate, is)) = other DuplicateName _ _ (λ e. cc) is
+  faulty rows items (inr (inl (fault, found, is))) = other_for fault is
+  faulty rows items (inr (inr (inl (x, fieldless, is)))) = other Arity _ _ (λ e. cc) is
+  faulty rows items (inr (inr (inr (inl (span, nameless, is))))) = other Syntax _ _ (λ e. cc) is
+  faulty rows items (inr (inr (inr (inr (inl (span, attributed, is)))))) = other Syntax _ _ (λ e. cc) is
+  faulty rows items (inr (inr (inr (inr (inr (inl h)))))) =
+      nowhere _ items (λ d. nowhere (λ f. IsFaultyName rows (rename_rule (serde_items d.attrs)) f (Refused ds)) (kept_named d.body) (rowless rows (rename_rule (serde_items d.attrs)))) h
+  faulty rows items (inr (inr (inr (inr (inr (inr h)))))) = nowhere _ items (λ d. disallowed (container_items d.attrs d.body)) h
+
+  declared : (c : Configuration) (items : List DeclaredItem) → IsFaulty c.renames items (Refused ds) ⊎ IsBeyond c items (Refused ds) → ⊥
+  declared c items (inl fault) = faulty c.renames items fault
   declared c items (inr (clear, (structs, resolved, beyond))) = unbounded c items structs beyond
 
   refused : (c : Configuration) (source : List ℕ) → IsRefused c source (Refused ds) → ⊥

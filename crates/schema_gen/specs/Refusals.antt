@@ -58,8 +58,8 @@ pub record IsSound (c : Configuration) (bytes : List ℕ) : Type 0 where
   pub declarations : List DeclaredItem
   pub read : Reads bytes declarations
   pub shallow : (span : Span) → ¬ NestsTooDeep bytes span
-  pub clear : AreClear declarations
-  pub bounded : (structs : List StructOf) → structs_of declarations ≡ Some structs → AreBounded c declarations structs
+  pub clear : AreClear c.renames declarations
+  pub bounded : (structs : List StructOf) → structs_of c.renames declarations ≡ Some structs → AreBounded c declarations structs
 
 -- ---- the causes of a run's refusal
 

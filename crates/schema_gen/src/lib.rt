@@ -10,8 +10,6 @@ mod program;
 mod reading;
 mod refusal;
 mod status;
-#[cfg(test)]
-mod tests;
 
 pub use command::Words;
 pub use compose::{Derived, derive_components};

@@ -67,6 +67,10 @@ all_rules = Lower ∷ Upper ∷ Pascal ∷ Camel ∷ Snake ∷ ScreamingSnake �
 abbrev pub rule_named : List ℕ → Option RenameRule
 rule_named text = find (λ rule. bytes_eq (name_of rule) text) all_rules
 
+-- the rule that the last name of a rule names
+abbrev pub rename_rule : List SerdeItem → Option RenameRule
+rename_rule items = option_and_then rule_named (last_text (codes "rename_all") items)
+
 abbrev pub quoted_name : RenameRule → List ℕ
 quoted_name rule = 34 ∷ name_of rule ++ 34 ∷ []
 
@@ -80,7 +84,7 @@ names_known_rule item = option_map_or (λ text. is_some (rule_named text)) (text
 -- ---- the whole
 
 pub record AreContainerRules (items : List SerdeItem) (rules : SerdeContainer) : Type 0 where
-  pub rename_all : rules.rename_all ≡ option_and_then rule_named (last_text (codes "rename_all") items)
+  pub rename_all : rules.rename_all ≡ rename_rule items
   pub known : IsTrue (list_all names_known_rule items)
   pub enum_repr : representation items ≡ Ok rules.enum_repr
   pub default : rules.default ≡ has_item (codes "default") items

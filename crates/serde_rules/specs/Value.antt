@@ -4,7 +4,6 @@ use Rattle.std.specs.List.{list_any}
 use Rattle.std.specs.Option.{option_map_or}
 use Rattle.attributes.specs.declared.serde_item.SerdeItem.{SerdeItem}
 use Rattle.serde_rules.specs.declared.value.SerdeValue.{SerdeValue}
-use Rattle.serde_rules.specs.declared.container.SerdeContainer.{SerdeContainer}
 use Rattle.serde_rules.specs.Items.{is_named, has_item, last_text}
 
 abbrev pub is_skipping : SerdeItem → Bool
@@ -24,6 +23,6 @@ value_rules items = record {
   double_option = option_map_or is_double_option (last_text (codes "with") items) false;
 }
 
--- the member of a field of these rules is always there
-abbrev pub is_required : SerdeValue → SerdeContainer → Bool
-is_required field container = not (field.skip_serializing_if || field.double_option || field.default || container.default)
+-- the member of a field of these rules is always there, in a container whose fields may all be absent or not
+abbrev pub is_required : SerdeValue → Bool → Bool
+is_required field all_default = not (field.skip_serializing_if || field.double_option || field.default || all_default)

@@ -9,8 +9,6 @@ mod laws;
 pub mod names;
 mod required;
 mod rows;
-#[cfg(test)]
-mod tests;
 mod value;
 
 pub use container::{SerdeContainer, parse_container};

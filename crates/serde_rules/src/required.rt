@@ -6,7 +6,7 @@ use crate::value::SerdeValue;
 
 /// Whether the member of a field is always there: it may be absent neither when it is read nor when it is written.
 pub fn is_required(field_rule: &SerdeValue, container_rules: &SerdeContainer) -> bool
-    ensures { result ≡ is_required field_rule.now container_rules.now }
+    ensures { result ≡ is_required field_rule.now container_rules.now.default }
 {
     !(field_rule.skip_serializing_if
         || field_rule.double_option

@@ -14,6 +14,3 @@ pub use sink::Sink;
 pub use source::{Failed, Source};
 pub use standard::{StdSink, StdSource};
 pub use write::write_all;
-
-#[cfg(test)]
-mod tests;

@@ -21,8 +21,6 @@ mod items;
 mod laws;
 mod parse;
 mod scope;
-#[cfg(test)]
-mod tests;
 
 pub use attributes::{Attribute, CommentAttributes, Meta};
 pub use item::{Body, Declaration, Declarations, Field, Fields};

@@ -4,8 +4,6 @@
 mod copy;
 mod cursor;
 mod laws;
-#[cfg(test)]
-mod tests;
 mod token;
 
 pub use copy::copy_trees;

@@ -21,8 +21,6 @@ mod constants;
 mod parts;
 mod read;
 mod starts;
-#[cfg(test)]
-mod tests;
 mod types;
 
 pub use read::{

@@ -11,8 +11,6 @@ mod laws;
 mod path;
 mod primitive;
 mod schema_type;
-#[cfg(test)]
-mod tests;
 mod tree;
 
 pub use configuration::{Config, SchemaCollect};

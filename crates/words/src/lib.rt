@@ -4,8 +4,6 @@
 mod keywords;
 mod readers;
 mod stopping;
-#[cfg(test)]
-mod tests;
 mod tree_word;
 mod vocabulary;
 

@@ -3,8 +3,6 @@
 
 mod copy;
 mod laws;
-#[cfg(test)]
-mod tests;
 mod written;
 
 pub use laws::types_are_equal_by_text;

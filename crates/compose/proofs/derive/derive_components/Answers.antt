@@ -39,7 +39,7 @@ returns-in_err-components-clause-refused c =
     let p = err_from_is_err_and c.from_residual-in_err-components.result c.from_residual-in_err-components.ensures.1 in
     let ds = declarations_view c.in_ok-declarations.declarations in
     let ss = map struct_view c.in_ok-structs.structs in
-    let settled : IsSettled ds ss = c.in_ok-structs.ensures.settled in
+    let settled : IsSettled c.args.config.now.renames ds ss = c.in_ok-structs.ensures.settled in
     rw (p.1, p.2)
     (elim c.in_err-components.ensures.refused [
       | inl memory ↦ inl memory
@@ -50,7 +50,7 @@ pub returns-clause-describes : goal.returns-clause-describes
 returns-clause-describes c =
     let ds = declarations_view c.in_ok-declarations.declarations in
     let ss = map struct_view c.in_ok-structs.structs in
-    let settled : IsSettled ds ss = c.in_ok-structs.ensures.settled in
+    let settled : IsSettled c.args.config.now.renames ds ss = c.in_ok-structs.ensures.settled in
     let bounded : AreBounded c.args.config.now ds ss = same_slices (λ ds ss. AreBounded c.args.config.now ds ss) c.as_slice-items.ensures c.as_slice-structs.ensures c.in_ok-components.ensures.bounded in
     let components : AreComponents ss c.in_ok-components.components = same_slices (λ ds ss. AreComponents ss c.in_ok-components.components) c.as_slice-items.ensures c.as_slice-structs.ensures c.in_ok-components.ensures.components in
     let derived : IsDerived c.args.config.now c.args.source.now c.in_ok-components.components =

@@ -6,13 +6,13 @@ use Rattle.compose.proofs.Faulty.{faulty_all}
 use Rattle.compose.proofs.Whole.{settled}
 use Rattle.compose.proofs.derive.settle.Goals as goal
 
-pub returns-in_err-only_docs-clause-refused : goal.returns-in_err-only_docs-clause-refused
-returns-in_err-only_docs-clause-refused c =
+pub returns-in_err-only_derivable-clause-refused : goal.returns-in_err-only_derivable-clause-refused
+returns-in_err-only_derivable-clause-refused c =
     let p = err_from_is_err_and c.from_residual.result c.from_residual.ensures.1 in
     rw (p.1, p.2)
-    (elim c.in_err-only_docs.ensures.refused [
+    (elim c.in_err-only_derivable.ensures.refused [
       | inl memory ↦ inl memory
-      | inr fault ↦ inr (inr (inr (inr (inr fault))))
+      | inr fault ↦ inr (inr (inr (inr (inr (inl fault)))))
     ])
 
 pub returns-in_err-places-clause-refused : goal.returns-in_err-places-clause-refused
@@ -30,11 +30,11 @@ returns-in_err-structs-clause-refused c =
     rw (p.1, p.2)
     (elim c.in_err-structs.ensures.refused [
       | inl memory ↦ inl memory
-      | inr fault ↦ inr (faulty_all (declarations_view c.args.declarations.now) c.in_err-structs.field-0.0 fault)
+      | inr fault ↦ inr (faulty_all c.args.config.now.renames (declarations_view c.args.declarations.now) c.in_err-structs.field-0.0 fault)
     ])
 
 pub returns-clause-settled : goal.returns-clause-settled
 returns-clause-settled c =
     let ds = declarations_view c.args.declarations.now in
     let ss = map struct_view c.in_ok-structs.structs in
-    settled c.resolved_have_no_fault.ensures c.resolved_are_within.ensures ds ss c.in_ok-structs.ensures.resolved c.in_ok-structs.ensures.small c.in_ok-places.ensures.distinct c.in_ok-structs.ensures.distinct c.in_ok-only_docs.ensures.documented
+    settled c.resolved_have_no_fault.ensures c.resolved_are_within.ensures c.args.config.now.renames ds ss c.in_ok-structs.ensures.resolved c.in_ok-structs.ensures.small c.in_ok-structs.ensures.allowed c.in_ok-places.ensures.distinct c.in_ok-structs.ensures.distinct c.in_ok-only_derivable.ensures.derivable

@@ -3,20 +3,21 @@ use Rattle.std.proofs.lemmas.Grind.{common_steps}
 use Rattle.std.proofs.lemmas.Result.{err_from_is_err_and}
 use Rattle.std.specs.List.{AllByRecursion}
 use Rattle.syntax.specs.Items.{field_view}
+use Rattle.derive_decl.specs.Fields.{kept, rules_view, written_idents}
 use Rattle.derive_decl.specs.Structs.{all_of, member_of}
-use Rattle.derive_decl.specs.Faults.{IsFaultyMember, IsSmall, field_idents}
+use Rattle.derive_decl.specs.Faults.{IsFaultyMember, IsSmall}
 use Rattle.derive_decl.specs.Views.{known, member_view}
-use Rattle.derive_decl.proofs.Growing.{all_more, idents_more, facts_more, somewhere}
+use Rattle.derive_decl.proofs.Growing.{members_more, idents_more, kept_facts_more, somewhere_kept}
 use Rattle.derive_decl.proofs.named_struct.resolve_members.Goals as goal
 
-pub returns-in_err-resolve_member-clause-refused : goal.returns-in_err-resolve_member-clause-refused
-returns-in_err-resolve_member-clause-refused c =
+pub returns-in_err-member-clause-refused : goal.returns-in_err-member-clause-refused
+returns-in_err-member-clause-refused c =
     let p = err_from_is_err_and c.from_residual.result c.from_residual.ensures.1 in
     let lt : c.loop-field.field-index < length c.args.fields.now = omega arith in
     rw (p.1, p.2)
-    (elim c.in_err-resolve_member.ensures.refused [
+    (elim c.in_err-member.ensures.refused [
       | inl memory ↦ inl memory
-      | inr fault ↦ inr (somewhere (λ f. IsFaultyMember (known c.args.container.now) f c.in_err-resolve_member.field-0.0) field_view c.args.fields.now c.loop-field.field-index c.field-item.result lt c.field-item.is fault)
+      | inr fault ↦ inr (somewhere_kept (λ f. IsFaultyMember (known c.args.container.now) (rules_view c.args.rules.now) f c.in_err-member.field-0.0) c.args.fields.now c.loop-field.field-index c.field-item.result lt c.field-item.is fault)
     ])
 
 pub loop-field-preserved : goal.loop-field-preserved
@@ -25,23 +26,23 @@ loop-field-preserved c =
     let at = c.loop-field.field-index in
     let field = c.field-item.result in
     let lt : at < length fields = omega arith in
-    rw c.in_ok-push.ensures.ok (
-      all_more (member_of (known c.args.container.now)) field_view member_view fields at field c.loop-field.members _ lt c.field-item.is c.loop-field.invariant.0 c.in_ok-resolve_member.ensures.member,
-      idents_more fields at field c.loop-field.members _ lt c.field-item.is c.loop-field.invariant.1 c.in_ok-resolve_member.ensures.ident,
-      facts_more IsSmall field_view fields at field lt c.field-item.is c.loop-field.invariant.2 c.in_ok-resolve_member.ensures.small,
+    rw c.in_ok-push_some.ensures (
+      members_more (known c.args.container.now) (rules_view c.args.rules.now) fields at field c.loop-field.members _ lt c.field-item.is c.loop-field.invariant.0 c.in_ok-member.ensures.member,
+      idents_more c.args.container.now.config.now.renames c.args.rules.now.rename_all fields at field c.loop-field.members _ lt c.field-item.is c.loop-field.invariant.1 c.in_ok-member.ensures.ident,
+      kept_facts_more IsSmall fields at field lt c.field-item.is c.loop-field.invariant.2 c.in_ok-member.ensures.small,
     )
 
 pub returns-clause-members : goal.returns-clause-members
 returns-clause-members c =
     let whole : take c.loop-field.field-index c.args.fields.now ≡ c.args.fields.now = grind (arith, common_steps) in
-    subst (λ fs. all_of (member_of (known c.args.container.now)) (map field_view fs) ≡ Some (map member_view c.loop-field.members)) whole c.loop-field.invariant.0
+    subst (λ fs. all_of (member_of (known c.args.container.now) (rules_view c.args.rules.now)) (kept (map field_view fs)) ≡ Some (map member_view c.loop-field.members)) whole c.loop-field.invariant.0
 
 pub returns-clause-idents : goal.returns-clause-idents
 returns-clause-idents c =
     let whole : take c.loop-field.field-index c.args.fields.now ≡ c.args.fields.now = grind (arith, common_steps) in
-    subst (λ fs. field_idents (map field_view fs) ≡ map (λ m. m.ident) c.loop-field.members) whole c.loop-field.invariant.1
+    subst (λ fs. written_idents c.args.container.now.config.now.renames c.args.rules.now.rename_all (kept (map field_view fs)) ≡ map (λ m. m.ident) c.loop-field.members) whole c.loop-field.invariant.1
 
 pub returns-clause-small : goal.returns-clause-small
 returns-clause-small c =
     let whole : take c.loop-field.field-index c.args.fields.now ≡ c.args.fields.now = grind (arith, common_steps) in
-    subst (λ fs. AllByRecursion IsSmall (map field_view fs)) whole c.loop-field.invariant.2
+    subst (λ fs. AllByRecursion IsSmall (kept (map field_view fs))) whole c.loop-field.invariant.2

@@ -1,7 +1,12 @@
-use Rattle.std.proofs.Common.{map, sym, subst, inl, inr}
+use Rattle.std.proofs.Common.{◌∙◌, List, map, ap, sym, subst, inl, inr}
 use Rattle.std.proofs.lemmas.Result.{err_from_is_err_and}
-use Rattle.syntax.specs.Items.{field_view, fields_view}
-use Rattle.derive_decl.specs.Faults.{AreFaulty, AreFaultyMembers}
+use Rattle.attributes.specs.Attributes.{attribute_view}
+use Rattle.attributes.specs.AttributeReading.{serde_items}
+use Rattle.syntax.specs.declared.item.Field.{Field}
+use Rattle.syntax.specs.Items.{field_view, fields_view, unnamed}
+use Rattle.derive_decl.specs.Fields.{field_rules}
+use Rattle.derive_decl.specs.Structs.{form_of}
+use Rattle.derive_decl.specs.Faults.{AreFaulty, AreFaultyNamed}
 use Rattle.derive_decl.specs.Views.{known}
 use Rattle.derive_decl.proofs.schema.fields_form.Goals as goal
 
@@ -13,6 +18,14 @@ returns-in_err-new-in-Named-clause-refused c =
     rw (p.1, p.2)
     (elim c.in_err-new-in-Named.ensures.refused [
       | inl memory ↦ inl memory
-      | inr fault ↦ inr (subst (λ b. AreFaulty (known root.container.now) root.ident.now (fields_view b) e) (sym c.in-Named.is)
-          (subst (λ fs. AreFaultyMembers (known root.container.now) (map field_view fs) e) c.as_slice.ensures fault))
+      | inr fault ↦ inr (subst (λ b. AreFaulty (known root.container.now) (serde_items (map attribute_view root.attributes.now)) root.ident.now (fields_view b) e) (sym c.in-Named.is)
+          (subst (λ fs. AreFaultyNamed (known root.container.now) (serde_items (map attribute_view root.attributes.now)) (map field_view fs) e) c.as_slice.ensures fault))
     ])
+
+pub returns-in_ok-new-in-Unnamed-clause-form : goal.returns-in_ok-new-in-Unnamed-clause-form
+returns-in_ok-new-in-Unnamed-clause-form c =
+    let root = c.args.root.now in
+    let rules = field_rules (serde_items (map attribute_view root.attributes.now)) in
+    ap (λ fs. form_of (known root.container.now) rules (fields_view fs)) c.in-Unnamed.is
+    ∙ ap (λ (fs : List Field). form_of (known root.container.now) rules (unnamed (map field_view fs))) (sym c.as_slice-in-Unnamed.ensures)
+    ∙ c.in_ok-new-in-Unnamed.ensures.form rules

@@ -3,11 +3,10 @@ use Rattle.std.proofs.lemmas.List.{map_push}
 use Rattle.std.proofs.lemmas.Result.{err_from_is_err_and}
 use Rattle.syntax.specs.declared.item.Declaration.{Declaration}
 use Rattle.syntax.specs.Items.{declaration_view, declarations_view}
-use Rattle.scopes.specs.Names.{place_among}
-use Rattle.derive_decl.specs.Structs.{struct_of}
+use Rattle.derive_decl.specs.Structs.{around_of, struct_of}
 use Rattle.derive_decl.specs.Faults.{IsFaultyItem}
 use Rattle.derive_decl.specs.Views.{struct_view}
-use Rattle.derive_decl.specs.Whole.{MembersDiffer, IsSmallItem}
+use Rattle.derive_decl.specs.Whole.{MembersDiffer, IsSmallItem, IsAllowedItem}
 use Rattle.derive_decl.proofs.Growing.{all_more, facts_more, somewhere, differ-push}
 use Rattle.derive_decl.proofs.whole.structs_of.Goals as goal
 
@@ -22,7 +21,7 @@ returns-in_err-struct_of-clause-refused c =
     rw (p.1, p.2)
     (elim c.in_err-struct_of.ensures.refused [
       | inl memory ↦ inl memory
-      | inr fault ↦ inr (somewhere (λ x. IsFaultyItem (place_among (declarations_view c.args.declarations.now)) x c.in_err-struct_of.field-0.0) declaration_view items at d lt is fault)
+      | inr fault ↦ inr (somewhere (λ x. IsFaultyItem (around_of c.args.config.now.renames (declarations_view c.args.declarations.now)) x c.in_err-struct_of.field-0.0) declaration_view items at d lt is fault)
     ])
 
 pub loop-owner-preserved : goal.loop-owner-preserved
@@ -33,7 +32,8 @@ loop-owner-preserved c =
     let lt : at < length items = omega arith in
     let is : d ≡ get_or items at d = c.index-as_slice-owner.is ∙ ap (λ (xs : List Declaration). get_or xs at d) c.as_slice.ensures in
     rw c.in_ok-push.ensures.ok (
-      all_more (struct_of (place_among (declarations_view c.args.declarations.now))) declaration_view struct_view items at d c.loop-owner.structs _ lt is c.loop-owner.invariant.0 c.in_ok-struct_of.ensures.resolved,
+      all_more (struct_of (around_of c.args.config.now.renames (declarations_view c.args.declarations.now))) declaration_view struct_view items at d c.loop-owner.structs _ lt is c.loop-owner.invariant.0 c.in_ok-struct_of.ensures.resolved,
       subst MembersDiffer (sym (map_push struct_view c.loop-owner.structs _)) (differ-push (map struct_view c.loop-owner.structs) _ c.loop-owner.invariant.1 c.in_ok-struct_of.ensures.distinct),
       facts_more IsSmallItem declaration_view items at d lt is c.loop-owner.invariant.2 c.in_ok-struct_of.ensures.small,
+      facts_more IsAllowedItem declaration_view items at d lt is c.loop-owner.invariant.3 c.in_ok-struct_of.ensures.allowed,
     )

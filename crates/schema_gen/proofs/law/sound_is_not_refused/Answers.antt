@@ -21,14 +21,16 @@ clear_text one bounded c source e sound (inr (inl unreadable)) = unreadable.3 so
 clear_text one bounded c source e sound (inr (inr (ds, read, shallow, fault))) = by (subst IsFine (one source sound.declarations ds sound.read read) (sound.clear, sound.bounded)) fault
   where
     IsFine : List DeclaredItem → Type 0
-    IsFine ds = AreClear ds × ((structs : List StructOf) → structs_of ds ≡ Some structs → AreBounded c ds structs)
+    IsFine ds = AreClear c.renames ds × ((structs : List StructOf) → structs_of c.renames ds ≡ Some structs → AreBounded c ds structs)
 
-    by : IsFine ds → IsFaulty ds e ⊎ IsBeyond c ds e → ⊥
+    by : IsFine ds → IsFaulty c.renames ds e ⊎ IsBeyond c ds e → ⊥
     by fine (inl (inl (x, duplicate, is))) = fine.0.distinct x duplicate
     by fine (inl (inr (inl (fault, found, is)))) = fine.0.resolved fault found
     by fine (inl (inr (inr (inl (x, fieldless, is))))) = fine.0.fielded x fieldless
     by fine (inl (inr (inr (inr (inl (span, nameless, is)))))) = fine.0.named span nameless
-    by fine (inl (inr (inr (inr (inr (span, attributed, is)))))) = fine.0.documented span attributed
+    by fine (inl (inr (inr (inr (inr (inl (span, attributed, is))))))) = fine.0.derivable span attributed
+    by fine (inl (inr (inr (inr (inr (inr (inl rowless))))))) = fine.0.written e rowless
+    by fine (inl (inr (inr (inr (inr (inr (inr disallowed))))))) = fine.0.allowed e disallowed
     by fine (inr (clear, (structs, resolved, unbounded))) = bounded c ds structs e (fine.1 structs resolved) unbounded
 
 long_and_short : (n : ℕ) → most_bytes < n → n ≤ most_bytes → ⊥

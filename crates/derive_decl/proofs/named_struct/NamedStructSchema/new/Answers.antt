@@ -1,29 +1,29 @@
-use Rattle.std.proofs.Common.{◌≡◌, map, ap, sym, ◌∙◌, subst, inl, inr}
+use Rattle.std.proofs.Common.{map, subst, inl, inr}
 use Rattle.std.proofs.lemmas.Result.{err_from_is_err_and}
-use Rattle.diag.specs.Refusal.{IsRefusal}
-use Rattle.diag.specs.declared.kind.Kind.TheVariants.{DuplicateName}
-use Rattle.schema_core.specs.Meaning.{IsDistinct}
-use Rattle.written_types.specs.declared.written.Ident.{Ident}
+use Rattle.attributes.specs.Attributes.{attribute_view}
+use Rattle.attributes.specs.AttributeReading.{serde_items}
 use Rattle.syntax.specs.Items.{field_view}
-use Rattle.scopes.specs.Names.{Repeats, texts, duplicate_message}
-use Rattle.derive_decl.specs.declared.member.Member.{Member}
-use Rattle.derive_decl.specs.Faults.{field_idents}
-use Rattle.derive_decl.proofs.Growing.{member_names-are}
+use Rattle.derive_decl.specs.Faults.{AreFaultyMembers}
+use Rattle.derive_decl.specs.Views.{known}
+use Rattle.derive_decl.proofs.Rules.{rules_are}
 use Rattle.derive_decl.proofs.named_struct.NamedStructSchema.new.Goals as goal
 
-pub returns-in_err-places_of-clause-refused : goal.returns-in_err-places_of-clause-refused
-returns-in_err-places_of-clause-refused c =
-    let p = err_from_is_err_and c.from_residual-in_err-places_of.result c.from_residual-in_err-places_of.ensures.1 in
-    let e = c.in_err-places_of.field-0.0 in
-    let idents : map (λ (m : Member). m.ident) c.as_slice.result.now ≡ field_idents (map field_view c.args.fields.now) =
-    ap (map (λ (m : Member). m.ident)) c.as_slice.ensures ∙ sym c.in_ok-members.ensures.idents in
+pub returns-in_err-rules-clause-refused : goal.returns-in_err-rules-clause-refused
+returns-in_err-rules-clause-refused c =
+    let p = err_from_is_err_and c.from_residual.result c.from_residual.ensures.1 in
     rw (p.1, p.2)
-    (elim c.in_err-places_of.ensures.refused [
+    (elim c.in_err-rules.ensures.refused [
       | inl memory ↦ inl memory
-      | inr fault ↦ inr (inr (subst (λ xs. (x : Ident) × Repeats xs x × IsRefusal DuplicateName x.span (duplicate_message x.text) e) idents fault))
+      | inr fault ↦ inr (inl fault)
     ])
 
-pub returns-clause-distinct : goal.returns-clause-distinct
-returns-clause-distinct c =
-    let members = c.in_ok-members.members in
-    subst IsDistinct (ap (λ ms. texts (map (λ (m : Member). m.ident) ms)) c.as_slice.ensures ∙ sym (member_names-are members)) c.in_ok-places_of.ensures.distinct
+pub returns-in_err-distinct_members-clause-refused : goal.returns-in_err-distinct_members-clause-refused
+returns-in_err-distinct_members-clause-refused c =
+    let p = err_from_is_err_and c.from_residual-in_err-distinct_members.result c.from_residual-in_err-distinct_members.ensures.1 in
+    let root = c.args.root.now in
+    let same = rules_are (serde_items (map attribute_view root.attributes.now)) c.in_ok-rules.rules c.in_ok-rules.ensures.read in
+    rw (p.1, p.2)
+    (elim c.in_err-distinct_members.ensures.refused [
+      | inl memory ↦ inl memory
+      | inr fault ↦ inr (inr (subst (λ rules. AreFaultyMembers (known root.container.now) rules (map field_view c.args.fields.now) c.in_err-distinct_members.field-0.0) same fault))
+    ])

@@ -1,0 +1,29 @@
+use Rattle.std.proofs.Common.{◌≡◌, map, ap, sym, ◌∙◌, subst, inl, inr}
+use Rattle.std.proofs.lemmas.Result.{err_from_is_err_and}
+use Rattle.diag.specs.Refusal.{IsRefusal}
+use Rattle.diag.specs.declared.kind.Kind.TheVariants.{DuplicateName}
+use Rattle.schema_core.specs.Meaning.{IsDistinct}
+use Rattle.written_types.specs.declared.written.Ident.{Ident}
+use Rattle.syntax.specs.Items.{field_view}
+use Rattle.scopes.specs.Names.{Repeats, texts, duplicate_message}
+use Rattle.derive_decl.specs.declared.member.Member.{Member}
+use Rattle.derive_decl.specs.Fields.{kept, written_idents}
+use Rattle.derive_decl.proofs.Growing.{member_names-are}
+use Rattle.derive_decl.proofs.named_struct.distinct_members.Goals as goal
+
+pub returns-in_err-places_of-clause-refused : goal.returns-in_err-places_of-clause-refused
+returns-in_err-places_of-clause-refused c =
+    let p = err_from_is_err_and c.from_residual-in_err-places_of.result c.from_residual-in_err-places_of.ensures.1 in
+    let e = c.in_err-places_of.field-0.0 in
+    let idents : map (λ (m : Member). m.ident) c.as_slice.result.now ≡ written_idents c.args.container.now.config.now.renames c.args.rules.now.rename_all (kept (map field_view c.args.fields.now)) =
+    ap (map (λ (m : Member). m.ident)) c.as_slice.ensures ∙ sym c.in_ok-members.ensures.idents in
+    rw (p.1, p.2)
+    (elim c.in_err-places_of.ensures.refused [
+      | inl memory ↦ inl memory
+      | inr fault ↦ inr (inr (subst (λ xs. (x : Ident) × Repeats xs x × IsRefusal DuplicateName x.span (duplicate_message x.text) e) idents fault))
+    ])
+
+pub returns-clause-distinct : goal.returns-clause-distinct
+returns-clause-distinct c =
+    let members = c.in_ok-members.members in
+    subst IsDistinct (ap (λ ms. texts (map (λ (m : Member). m.ident) ms)) c.as_slice.ensures ∙ sym (member_names-are members)) c.in_ok-places_of.ensures.distinct
