@@ -1,6 +1,6 @@
-use derive_decl::{Schema, shapes_deepen, terms_accept};
 use component::{Container, Term, TermLeaf, ToTerm};
 use configuration::Config;
+use derive_decl::{Schema, shapes_deepen, terms_accept};
 use diag::{DeriveError, List, Text};
 use filling::{Fill, filled};
 use open_types::OpenType;

@@ -1,8 +1,8 @@
 ghost use Rattle.std.specs.Prelude.{IfOk};
 ghost use Rattle.inlining.specs.Inlining.{AreTargets};
 
-use inlining::{Depth, are_more_copies, inline_order};
 use diag::List;
+use inlining::{Depth, are_more_copies, inline_order};
 use std::alloc::{AllocError, Global};
 use std::test::Fail;
 

@@ -1,7 +1,5 @@
 -- The first attribute of two lists is that of the first list, or else of the second.
-use Rattle.std.proofs.Common.{◌≡◌, ◌∙◌, ◌<◌, ◌+◌, ℕ, List, [], ◌∷◌, ◌++◌, length, take, map, get_or, refl, ap, ap₂, sym, Option, Some, None, Bool, true, false, cond, append_assoc}
-use Rattle.std.proofs.lemmas.List.{append-nil, take_more}
-use Rattle.std.specs.List.{flat_map}
+use Rattle.std.proofs.Common.{◌≡◌, ◌∙◌, ◌<◌, ◌+◌, ℕ, suc, List, [], ◌∷◌, ◌++◌, length, drop, get_or, refl, ap, sym, Option, Some, None, Bool, true, false, cond, add-one, drop-cons}
 use Rattle.std.specs.Option.{option_or}
 use Rattle.diag.specs.declared.span.Span.{Span}
 use Rattle.attributes.specs.Attributes.{AttributeItem}
@@ -15,14 +13,18 @@ first_joined (a ∷ xs) ys = by (is_other a) (first_joined xs ys)
     by true h = refl
     by false h = h
 
--- parts of one item more
-pub parts_push : {A B : Type 0} (part : B → List AttributeItem) (view : A → B) (xs : List A) (x : A) → flat_map part (map view (xs ++ x ∷ [])) ≡ flat_map part (map view xs) ++ part (view x)
-parts_push part view [] x = append-nil (part (view x))
-parts_push part view (y ∷ ys) x = ap (λ v. part (view y) ++ v) (parts_push part view ys x) ∙ sym (append_assoc (part (view y)) (flat_map part (map view ys)) (part (view x)))
+-- the attributes of a list are those of its first item, and then those of the others
+module _ {A : Type 0} (parts : List A → List AttributeItem) (part : A → List AttributeItem) (split : (x : A) (xs : List A) → parts (x ∷ xs) ≡ part x ++ parts xs) where
+  -- the first of an item, or else the first behind it
+  first_at : (xs : List A) (i : ℕ) (x : A) → i < length xs → x ≡ get_or xs i x → first_other (parts (drop i xs)) ≡ option_or (first_other (part x)) (first_other (parts (drop (i + 1) xs)))
+  first_at xs i x l e = rw (add-one, drop-cons xs i x, ← e) (ap first_other (split x (drop (suc i) xs)) ∙ first_joined (part x) (parts (drop (suc i) xs)))
 
--- the first attribute of the parts of one item more
-pub first_more : {A : Type 0} (parts : List A → List AttributeItem) (part : A → List AttributeItem) → ((xs : List A) (x : A) → parts (xs ++ x ∷ []) ≡ parts xs ++ part x)
-    → (xs : List A) (i : ℕ) (x : A) (found other : Option Span) → i < length xs → x ≡ get_or xs i x → found ≡ first_other (parts (take i xs)) → other ≡ first_other (part x) → option_or found other ≡ first_other (parts (take (i + 1) xs))
-first_more parts part push xs i x found other lt is before here =
-    ap₂ option_or before here ∙ sym (first_joined (parts (take i xs)) (part x)) ∙ ap first_other (sym (push (take i xs) x))
-    ∙ ap (λ v. first_other (parts v)) (ap (λ v. take i xs ++ v ∷ []) is ∙ sym (take_more xs i x lt))
+  -- the item has none, so the first stands behind it
+  pub first_later : (xs : List A) (i : ℕ) (x : A) (found : Option Span) → i < length xs → x ≡ get_or xs i x → found ≡ first_other (part x) → found ≡ None →
+      first_other (parts (drop i xs)) ≡ first_other (parts xs) → first_other (parts (drop (i + 1) xs)) ≡ first_other (parts xs)
+  first_later xs i x found l e here none so = sym (ap (λ o. option_or o (first_other (parts (drop (i + 1) xs)))) (sym here ∙ none)) ∙ sym (first_at xs i x l e) ∙ so
+
+  -- the item has one, which is the first
+  pub first_here : (xs : List A) (i : ℕ) (x : A) (found : Option Span) (s : Span) → i < length xs → x ≡ get_or xs i x → found ≡ first_other (part x) → found ≡ Some s →
+      first_other (parts (drop i xs)) ≡ first_other (parts xs) → Some s ≡ first_other (parts xs)
+  first_here xs i x found s l e here is so = sym (ap (λ o. option_or o (first_other (parts (drop (i + 1) xs)))) (sym here ∙ is)) ∙ sym (first_at xs i x l e) ∙ so

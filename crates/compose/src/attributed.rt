@@ -19,9 +19,22 @@ use syntax::{Attribute, Body, Declaration, Declarations, Field, Fields};
 fn is_other(alloc: Global, attribute: &Attribute) -> Result<bool, AllocError>
     ensures { IfOk result (λ other. other ≡ is_other (attribute_view attribute.now)) }
 {
-    Ok(attribute.is("schema")
-        || attribute.is("repr")
-        || has_serde_item(alloc, slice::from_ref(attribute), "flatten")?)
+    Ok(
+        attribute.is("schema")
+            || attribute.is("repr")
+            || has_serde_item(alloc, slice::from_ref(attribute), "flatten")?,
+    )
+}
+
+/// Where the attribute stands, if nothing is derived from it.
+fn other(alloc: Global, attribute: &Attribute) -> Result<Option<Span>, AllocError>
+    ensures { IfOk result (λ found. found ≡ first_other (attribute_view attribute.now ∷ [])) }
+{
+    if is_other(alloc, attribute)? {
+        Ok(Some(attribute.span))
+    } else {
+        Ok(None)
+    }
 }
 
 /// Where the first attribute stands from which nothing is derived.
@@ -29,8 +42,8 @@ fn first_other(alloc: Global, attributes: &[Attribute]) -> Result<Option<Span>, 
     ensures { IfOk result (λ found. found ≡ first_other (map attribute_view attributes.now)) }
 {
     for attribute in attributes {
-        if is_other(alloc, attribute)? {
-            return Ok(Some(attribute.span));
+        if let Some(span) = other(alloc, attribute)? {
+            return Ok(Some(span));
         }
     }
     Ok(None)
@@ -40,9 +53,8 @@ fn first_on_fields(alloc: Global, fields: &[Field]) -> Result<Option<Span>, Allo
     ensures { IfOk result (λ found. found ≡ first_other (flat_map (λ f. f.attrs) (map field_view fields.now))) }
 {
     for field in fields {
-        let found = first_other(alloc, field.attrs.as_slice())?;
-        if found.is_some() {
-            return Ok(found);
+        if let Some(span) = first_other(alloc, field.attrs.as_slice())? {
+            return Ok(Some(span));
         }
     }
     Ok(None)
@@ -67,16 +79,12 @@ fn first_in(alloc: Global, declaration: &Declaration) -> Result<Option<Span>, Al
     Ok(before.or(inside))
 }
 
-fn first_among(
-    alloc: Global,
-    declarations: &[Declaration],
-) -> Result<Option<Span>, AllocError>
+fn first_among(alloc: Global, declarations: &[Declaration]) -> Result<Option<Span>, AllocError>
     ensures { IfOk result (λ found. found ≡ first_other (attributes_of (map declaration_view declarations.now))) }
 {
     for declaration in declarations {
-        let found = first_in(alloc, declaration)?;
-        if found.is_some() {
-            return Ok(found);
+        if let Some(span) = first_in(alloc, declaration)? {
+            return Ok(Some(span));
         }
     }
     Ok(None)

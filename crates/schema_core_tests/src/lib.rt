@@ -4,6 +4,6 @@
 #[cfg(test)]
 mod of_acceptance;
 #[cfg(test)]
-mod of_schema_core;
-#[cfg(test)]
 mod of_filling;
+#[cfg(test)]
+mod of_schema_core;

@@ -1,5 +1,5 @@
-use filling::{CopyLeaf, Fill, copy_schema, filled};
 use diag::{List, Text};
+use filling::{CopyLeaf, Fill, copy_schema, filled};
 use schema_core::{
     Additional, AllOfSchema, Array, ArrayItems, Bound, Components, Json, Notes, Object,
     OneOfSchema, RefLeaf, Schema, SchemaTypeInner, Tree, TypeWord,

@@ -1,8 +1,8 @@
+use diag::{List, Text};
 use schema_core::{
     Additional, AllOfSchema, Array, ArrayItems, Bound, Components, Json, Notes, Object,
     OneOfSchema, RefLeaf, Schema, SchemaTypeInner, Tree, TypeWord,
 };
-use diag::{List, Text};
 use serde_json::Value;
 use std::process::Abort;
 

@@ -4,6 +4,8 @@
 #[cfg(test)]
 mod of_compose;
 #[cfg(test)]
+mod of_example;
+#[cfg(test)]
 mod of_schema_gen;
 #[cfg(test)]
 mod of_serde;

@@ -22,7 +22,7 @@ fn words_of(alloc: Global, texts: &[&str]) -> Result<Words, Fail> {
 }
 
 /// The status of a run with room for what it writes, and what it wrote to both outputs, one after the other.
-fn outcome_with<F: Files>(
+pub fn outcome_with<F: Files>(
     alloc: Global,
     words: &[&str],
     source: &[u8],
@@ -30,8 +30,8 @@ fn outcome_with<F: Files>(
 ) -> Result<(Status, Vec<u8>), Fail> {
     let words = words_of(alloc, words)?;
     let mut input = HonestSource::new(source.to_vec(alloc)?);
-    let mut out = HonestSink::new(alloc, 3000)?;
-    let mut err = HonestSink::new(alloc, 3000)?;
+    let mut out = HonestSink::new(alloc, 10_000)?;
+    let mut err = HonestSink::new(alloc, 10_000)?;
     let status = run(alloc, &words, &mut input, files, &mut out, &mut err);
     let mut written = out.as_slice().to_vec(alloc)?;
     written.extend_from_slice(err.as_slice())?;
@@ -45,7 +45,7 @@ fn outcome(alloc: Global, words: &[&str], source: &[u8]) -> Result<(Status, Vec<
 }
 
 /// The file `config` of these bytes.
-fn config_file(alloc: Global, bytes: &[u8]) -> Result<Vec<(String, Vec<u8>)>, Fail> {
+pub fn config_file(alloc: Global, bytes: &[u8]) -> Result<Vec<(String, Vec<u8>)>, Fail> {
     let mut files = Vec::new(alloc);
     files.push((String::from_str(alloc, "config")?, bytes.to_vec(alloc)?))?;
     Ok(files)
@@ -384,8 +384,8 @@ fn fails_with_its_files(rt: HostRuntime) -> Result<(), Fail> {
         let held = config_file(alloc, "{}".as_bytes())?;
         let mut files = MemoryFiles::new(held, opens.to_vec(alloc)?);
         let mut input = MemorySource::new(PET.as_bytes().to_vec(alloc)?, 16, reads.to_vec(alloc)?);
-        let mut out = HonestSink::new(alloc, 3000)?;
-        let mut err = HonestSink::new(alloc, 3000)?;
+        let mut out = HonestSink::new(alloc, 10_000)?;
+        let mut err = HonestSink::new(alloc, 10_000)?;
         let words = words_of(alloc, words)?;
         let status = run(alloc, &words, &mut input, &mut files, &mut out, &mut err);
         assert_eq!(rt; status, expected, "{opens:?} {reads:?} {text}");

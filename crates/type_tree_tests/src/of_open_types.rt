@@ -1,8 +1,8 @@
 ghost use Rattle.std.specs.Prelude.{IfOk};
 ghost use Rattle.open_types.specs.Open.{open_view, IsOverFirst};
 
-use open_types::{ClosedType, Leaf, ListHead, MapHead, OpenType, SetHead, ThroughHead, substitute};
 use diag::List;
+use open_types::{ClosedType, Leaf, ListHead, MapHead, OpenType, SetHead, ThroughHead, substitute};
 use std::alloc::{AllocError, Global};
 use std::test::Fail;
 

@@ -1,5 +1,5 @@
-use resolving::resolve_type;
 use diag::{DeriveError, List, Span, Text};
+use resolving::resolve_type;
 use std::alloc::{AllocError, Global};
 use std::collections::BTreeMap;
 use std::test::Fail;

@@ -2,10 +2,10 @@ ghost use Rattle.std.specs.Prelude.{◌≡◌, IfOk};
 ghost use Rattle.open_types.specs.Open.{open_view, opens_view, items, named, no_types, more_types};
 ghost use Rattle.open_types.specs.declared.open_type.ListHead.TheVariants.{Vec as AnyVec};
 
-use scopes::{Scope, declared_places, resolve, type_text};
 use configuration::Config;
 use diag::{DeriveError, List, Text};
 use open_types::{ListHead, OpenType, substitute};
+use scopes::{Scope, declared_places, resolve, type_text};
 use std::alloc::{AllocError, Global};
 use std::test::Fail;
 use syntax::{parse_declarations, parse_type};

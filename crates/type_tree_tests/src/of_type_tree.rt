@@ -1,9 +1,11 @@
-use type_tree::{GenericType, KnownFormat, PrimitiveType, SchemaPath, SchemaType, TypeTree, ValueType};
 use diag::{DeriveError, Kind, List, Span, Text};
 use schema_core::{SchemaTypeInner, TypeWord};
 use std::process::Abort;
 use std::test::Fail;
 use tokens::{Bracket, Group, Token, TokenKind, TokenTree};
+use type_tree::{
+    GenericType, KnownFormat, PrimitiveType, SchemaPath, SchemaType, TypeTree, ValueType,
+};
 use written_types::{GenericArgument, Ident, Path, PathSegment, WrittenType};
 
 fn ident<R: Abort + AllocGlobal>(rt: &R, word: &str) -> Ident {

@@ -1,11 +1,23 @@
-use Rattle.std.proofs.Common.{◌≡◌, ◌∙◌, ◌∷◌, [], List, map}
+use Rattle.std.proofs.Common.{List, map, refl}
+use Rattle.attributes.specs.Attributes.{AttributeItem}
 use Rattle.syntax.specs.declared.item.Declaration.{Declaration}
 use Rattle.syntax.specs.Items.{declaration_view}
 use Rattle.compose.specs.Faults.{attributes_in, attributes_of}
-use Rattle.compose.proofs.First.{first_more, parts_push}
+use Rattle.compose.proofs.First.{first_here, first_later}
 use Rattle.compose.proofs.attributed.first_among.Goals as goal
+
+abbrev parts : List Declaration → List AttributeItem
+parts declarations = attributes_of (map declaration_view declarations)
+
+abbrev part : Declaration → List AttributeItem
+part declaration = attributes_in (declaration_view declaration)
+
+pub returns-in-Some : goal.returns-in-Some
+returns-in-Some c =
+    first_here parts part (λ x xs. refl) c.args.declarations.now c.loop-declaration.declaration-index c.declaration-item.result c.in_ok-span.field-0 c.in-Some.span c.loop-declaration-test.true c.declaration-item.is
+    c.in_ok-span.ensures c.in-Some.is c.loop-declaration.invariant
 
 pub loop-declaration-preserved : goal.loop-declaration-preserved
 loop-declaration-preserved c =
-    c.or-found.ensures
-    ∙ first_more (λ (xs : List Declaration). attributes_of (map declaration_view xs)) (λ (x : Declaration). attributes_in (declaration_view x)) (parts_push attributes_in declaration_view) c.args.declarations.now c.loop-declaration.declaration-index c.declaration-item.result c.loop-declaration.found c.first_in.result c.loop-declaration-test.true c.declaration-item.is c.loop-declaration.invariant (c.first_in.ensures)
+    first_later parts part (λ x xs. refl) c.args.declarations.now c.loop-declaration.declaration-index c.declaration-item.result c.in_ok-span.field-0 c.loop-declaration-test.true c.declaration-item.is
+    c.in_ok-span.ensures c.in_default.is c.loop-declaration.invariant

@@ -1,15 +1,25 @@
-use Rattle.std.proofs.Common.{◌≡◌, ◌∙◌, ◌∷◌, [], List, map}
-use Rattle.std.proofs.Common.{ap}
+use Rattle.std.proofs.Common.{◌≡◌, ◌∙◌, List, map, ap, refl}
 use Rattle.std.specs.List.{flat_map}
 use Rattle.attributes.specs.declared.attribute.Attribute.{Attribute}
-use Rattle.attributes.specs.Attributes.{attribute_view}
+use Rattle.attributes.specs.Attributes.{AttributeItem, attribute_view}
 use Rattle.syntax.specs.declared.item.Field.{Field}
 use Rattle.syntax.specs.Items.{FieldItem, field_view}
 use Rattle.compose.specs.Faults.{first_other}
-use Rattle.compose.proofs.First.{first_more, parts_push}
+use Rattle.compose.proofs.First.{first_here, first_later}
 use Rattle.compose.proofs.attributed.first_on_fields.Goals as goal
+
+abbrev parts : List Field → List AttributeItem
+parts fields = flat_map (λ (f : FieldItem). f.attrs) (map field_view fields)
+
+abbrev part : Field → List AttributeItem
+part field = map attribute_view field.attrs
+
+pub returns-in-Some : goal.returns-in-Some
+returns-in-Some c =
+    first_here parts part (λ x xs. refl) c.args.fields.now c.loop-field.field-index c.field-item.result c.in_ok-span.field-0 c.in-Some.span c.loop-field-test.true c.field-item.is
+    (c.in_ok-span.ensures ∙ ap (λ (xs : List Attribute). first_other (map attribute_view xs)) c.as_slice.ensures) c.in-Some.is c.loop-field.invariant
 
 pub loop-field-preserved : goal.loop-field-preserved
 loop-field-preserved c =
-    c.or-found.ensures
-    ∙ first_more (λ (xs : List Field). flat_map (λ (f : FieldItem). f.attrs) (map field_view xs)) (λ (x : Field). map attribute_view x.attrs) (parts_push (λ (f : FieldItem). f.attrs) field_view) c.args.fields.now c.loop-field.field-index c.field-item.result c.loop-field.found c.first_other.result c.loop-field-test.true c.field-item.is c.loop-field.invariant (c.first_other.ensures ∙ ap (λ (xs : List Attribute). first_other (map attribute_view xs)) c.as_slice.ensures)
+    first_later parts part (λ x xs. refl) c.args.fields.now c.loop-field.field-index c.field-item.result c.in_ok-span.field-0 c.loop-field-test.true c.field-item.is
+    (c.in_ok-span.ensures ∙ ap (λ (xs : List Attribute). first_other (map attribute_view xs)) c.as_slice.ensures) c.in_default.is c.loop-field.invariant

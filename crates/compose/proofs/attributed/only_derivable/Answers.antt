@@ -6,4 +6,4 @@ use Rattle.compose.proofs.attributed.only_derivable.Goals as goal
 
 pub returns-in_ok-attributed-in-Some-clause-refused : goal.returns-in_ok-attributed-in-Some-clause-refused
 returns-in_ok-attributed-in-Some-clause-refused c =
-    inr (c.in-Some.span, (ap (λ (ds : List Declaration). first_other (attributes_of (map declaration_view ds))) (sym c.as_slice.ensures) ∙ sym c.first_among.ensures ∙ c.in-Some.is), c.in_ok-attributed-in-Some.ensures)
+    inr (c.in-Some.span, (ap (λ (ds : List Declaration). first_other (attributes_of (map declaration_view ds))) (sym c.as_slice.ensures) ∙ sym c.in_ok-span.ensures ∙ c.in-Some.is), c.in_ok-attributed-in-Some.ensures)
