@@ -1,5 +1,5 @@
 -- The error of a declaration at fault is one of all declarations.
-use Rattle.std.proofs.Common.{ℕ, List, [], ◌∷◌, Option, None, ◌≡◌, refl, ◌⊎◌, inl, inr}
+use Rattle.std.proofs.Common.{List, [], ◌∷◌, None, ◌≡◌, refl, ◌⊎◌, inl, inr}
 use Rattle.diag.specs.Refusal.{IsRefusal}
 use Rattle.diag.specs.declared.error.DeriveError.{DeriveError}
 use Rattle.diag.specs.declared.kind.Kind.TheVariants.{Arity, DuplicateName, Syntax}

@@ -6,7 +6,6 @@ use Rattle.std.proofs.lemmas.Option.{none-some}
 use Rattle.std.specs.List.{AllByRecursion, cons_option}
 use Rattle.diag.specs.declared.rename_rule.RenameRule.{RenameRule}
 use Rattle.diag.specs.declared.rename_row.RenameRow.{RenameRow}
-use Rattle.written_types.specs.declared.written.Ident.{Ident}
 use Rattle.syntax.specs.declared.item.Field.{Field}
 use Rattle.syntax.specs.Items.{FieldItem, field_view}
 use Rattle.resolving.specs.Resolved.{Somewhere}

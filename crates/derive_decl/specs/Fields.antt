@@ -1,5 +1,5 @@
 -- What serde's and Rust's attributes say of the fields of a struct (serde.rs, "Field attributes", "Container attributes").
-use Rattle.std.specs.Prelude.{◌≡◌, ℕ, List, Bool, not, Option, Some, None, option_map, option_and_then, Result, Ok, Err, filter, filter_map, codes}
+use Rattle.std.specs.Prelude.{ℕ, List, Bool, not, Option, Some, None, option_map, option_and_then, Result, Ok, Err, filter, filter_map, codes}
 use Rattle.std.specs.List.{list_any}
 use Rattle.diag.specs.declared.rename_rule.RenameRule.{RenameRule}
 use Rattle.diag.specs.declared.rename_row.RenameRow.{RenameRow}

@@ -1,6 +1,6 @@
 //! Structs with unnamed fields.
 
-ghost use Rattle.std.specs.Prelude.{◌≡◌, ◌⊎◌, pos, map, length, IfOk, IfErr, Some};
+ghost use Rattle.std.specs.Prelude.{◌≡◌, ◌⊎◌, map, IfOk, IfErr, Some};
 ghost use Rattle.attributes.specs.Attributes.{attribute_view};
 ghost use Rattle.std.specs.List.{AllByRecursion};
 ghost use Rattle.diag.specs.Refusal.{IsRefusal};

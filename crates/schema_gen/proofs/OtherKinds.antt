@@ -69,9 +69,7 @@ module _ (ds : List DiangosticsInner) (first : HasFirst ds (λ d. d.kind ≡ Bad
   ruled (Some literal) h = other BadValue _ _ (λ e. cc) h.1
 
   none_of : {A : Type 0} (P : A → Type 0) (xs : List A) → ((x : A) → P x → ⊥) → Any P xs → ⊥
-  none_of P [] none here = here
-  none_of P (x ∷ xs) none (inl here) = none x here
-  none_of P (x ∷ xs) none (inr there) = none_of P xs none there
+  none_of P xs none h = none h.1 h.4
 
   disallowed : (items : List SerdeItem) → IsContainerRefusal items (Refused ds) → ⊥
   disallowed items (inl h) = tagged (representation items) h

@@ -4,6 +4,7 @@ use configuration::Config;
 use diag::DeriveError;
 use serde_json::Value;
 use std::alloc::{AllocError, Global};
+use std::process::Abort;
 use std::test::Fail;
 
 /// The schemas of the source's components, as the document's text has them.

@@ -109,7 +109,7 @@ const REFUSALS: [(&str, &str, &str); 14] = [
     (
         "{}",
         r#"struct S { a: bool, #[serde(rename = "a")] b: bool }"#,
-        r"DuplicateName 46..47 name a is given twice",
+        r"DuplicateName 43..44 name a is given twice",
     ),
     (
         ROWS,

@@ -75,39 +75,6 @@ fn refuses_a_name_given_twice(rt: HostRuntime) -> Result<(), Fail> {
     Ok(())
 }
 
-/// Types as they are written, and how what they stand for reads.
-const TEXTS: [(&str, &str); 8] = [
-    ("::std::string::String", "String"),
-    ("&'static [Value]", "Array<Value>"),
-    ("HashMap<String, Vec<User>>", "HashMap<String, Vec<User>>"),
-    ("SmallVec<[u8; 4]>", "SmallVec<u8>"),
-    ("()", "()"),
-    ("(Page,)", "(Page,)"),
-    ("(Option<i8>, bool, Object)", "(Option<i8>, bool, Object)"),
-    ("BTreeSet<Cow<'a, str>>", "BTreeSet<Cow<str>>"),
-];
-
-#[test]
-fn writes_types(rt: HostRuntime) -> Result<(), Fail> {
-    let alloc = rt.alloc();
-    let declarations = parse_declarations(alloc, SOURCE)?;
-    let places = declared_places(alloc, &declarations)?;
-    assert_eq!(rt; declarations.items.len(), 2);
-    let scope = Scope {
-        declarations: &declarations,
-        places: &places,
-        owner: 0,
-    };
-    for (written, expected) in TEXTS {
-        let ty = parse_type(alloc, written)?;
-        let open = resolve(alloc, &scope, &ty, &Config::new(alloc))?;
-        let closed = substitute(alloc, &open, &[])?;
-        let text = type_text(alloc, &declarations, &closed)?;
-        assert_eq!(rt; text.as_str(), expected);
-    }
-    Ok(())
-}
-
 /// `Page<Vec<User>>`, where these are the first and the second declaration.
 fn page_of_users(alloc: Global) -> Result<OpenType, AllocError>
     ensures { IfOk result (λ t. open_view t ≡ named 0 (more_types (items AnyVec (named 1 no_types)) no_types)) }

@@ -1,4 +1,4 @@
-use Rattle.std.proofs.Common.{◌≡◌, ◌∙◌, List, map, ap, refl}
+use Rattle.std.proofs.Common.{◌∙◌, List, map, ap, refl}
 use Rattle.std.specs.List.{flat_map}
 use Rattle.attributes.specs.declared.attribute.Attribute.{Attribute}
 use Rattle.attributes.specs.Attributes.{AttributeItem, attribute_view}
