@@ -2,7 +2,7 @@
 # Sources of at most 1,000 structs from 64 KiB to 1 MiB, each twice the one before: the time that the program takes for each,
 # its peak memory, the ratio of the time to that of the one before, and declarations per second. By hand; no test rests on it.
 #
-#     bench/derive.sh [ascending|descending|references|wide|documented|containers|inlined]
+#     bench/derive.sh [ascending|descending|references|wide|documented|containers|inlined|attributed]
 set -eu
 here=$(cd "$(dirname "$0")/.." && pwd)
 program=${PROGRAM:-$here/crates/schema_gen_cli/out/schema_gen_cli}
@@ -10,7 +10,7 @@ program=${PROGRAM:-$here/crates/schema_gen_cli/out/schema_gen_cli}
 folder=$(mktemp -d)
 trap 'rm -rf "$folder"' EXIT
 python3 - "$program" "$folder" "${1:-references}" <<'PY'
-import os, resource, subprocess, sys, time
+import json, os, subprocess, sys, time
 
 program, folder, form = sys.argv[1:]
 
@@ -18,7 +18,22 @@ def struct(name, fields):
     if form == "documented":
         lines = "".join("    /// What it is\n    ///   in short.\n    pub(crate) %s: %s, // kept\n" % f for f in fields)
         return "use std::fmt;\n\n/** A thing of the shop. */\npub struct %s {\n%s}\n\n" % (name, lines)
+    if form == "attributed":
+        lines = "".join("    %s\n    pub %s: %s,\n" % ((attributes[at % len(attributes)],) + f) for at, f in enumerate(fields))
+        return "#[derive(Debug, Deserialize, Serialize)]\n#[serde(rename_all = \"camelCase\", deny_unknown_fields)]\npub struct %s {\n%s}\n\n" % (name, lines)
     return "pub struct %s {\n%s}\n\n" % (name, "".join("    pub %s: %s,\n" % f for f in fields))
+
+attributes = [
+    "#[serde(default, skip_serializing_if = \"Option::is_none\")]",
+    "#[validate(length(min = 1))] #[serde(alias = \"other\")]",
+    "#[deprecated(note = \"use another\")]",
+    "#[serde(skip)]",
+]
+
+def configuration():
+    names = ["%s_%d" % (stem, k) for stem in ("id", "name", "tags", "size") for k in range(12)]
+    rows = [{"rule": "camelCase", "place": "field", "from": name, "to": name.replace("_", "")} for name in names]
+    return json.dumps({"renames": rows})
 
 def source(size):
     parts, length, i = [], 0, 0
@@ -52,7 +67,7 @@ def run(path):
     for _ in range(5):
         with open(path, "rb") as text, open(os.devnull, "wb") as nothing:
             start = time.perf_counter()
-            child = subprocess.Popen([program, "derive"], stdin=text, stdout=nothing)
+            child = subprocess.Popen([program, *words], stdin=text, stdout=nothing)
             _, status, usage = os.wait4(child.pid, 0)
             took = time.perf_counter() - start
         if status != 0:
@@ -60,6 +75,12 @@ def run(path):
         best = took if best is None else min(best, took)
         peak = max(peak, usage.ru_maxrss)
     return best, peak / 1024
+
+words = ["derive"]
+if form == "attributed":
+    words += ["--config", os.path.join(folder, "config.json")]
+    with open(words[-1], "w") as file:
+        file.write(configuration())
 
 before = None
 print("%10s %12s %10s %12s %8s %16s" % ("bytes", "declarations", "seconds", "peak MiB", "ratio", "declarations/s"))
