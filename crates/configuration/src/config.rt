@@ -6,7 +6,7 @@ ghost use Rattle.configuration.specs.Form.{KeepsEmpty, IsConfiguration, IsConfig
 use crate::collect::SchemaCollect;
 use crate::members::{collect_at, is_empty_list_at, is_empty_object_at, is_object_of, whole_at};
 use crate::renames::renames_at;
-use diag::{DeriveError, Diagnostics, Kind, RenameTable};
+use diag::{DeriveError, Kind, RenameTable, Span};
 use serde_json::Value;
 use std::alloc::{AllocError, Global};
 use std::marker::Model;
@@ -166,15 +166,13 @@ fn keeps_empty(value: &Value) -> bool
 }
 
 /// The refusal of what is no configuration, or want of memory.
-fn bad_config(alloc: Global) -> DeriveError
+pub fn bad_config(alloc: Global) -> DeriveError
     ensures { (result ≡ DeriveError.Memory) ⊎ IsBadConfig result }
 {
-    match Diagnostics::new(
+    DeriveError::refusal(
         alloc,
         Kind::BadConfig,
+        Span::nowhere(),
         "the configuration is not of the stated form",
-    ) {
-        Ok(diagnostics) => DeriveError::Refused(diagnostics),
-        Err(_) => DeriveError::Memory,
-    }
+    )
 }

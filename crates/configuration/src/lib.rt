@@ -8,5 +8,5 @@ mod members;
 mod renames;
 
 pub use collect::SchemaCollect;
-pub use config::Config;
+pub use config::{Config, bad_config};
 pub use law::configurations_are_one;

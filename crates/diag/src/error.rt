@@ -1,5 +1,10 @@
+ghost use Rattle.std.specs.Prelude.{◌≡◌, ◌⊎◌};
+ghost use Rattle.diag.specs.Refusal.{IsRefusal, IsSyntaxRefusal, IsDepthRefusal};
+
 use crate::diagnostics::Diagnostics;
-use std::alloc::AllocError;
+use crate::kind::Kind;
+use crate::span::Span;
+use std::alloc::{AllocError, Global};
 use thiserror::Error;
 
 /// Why a derivation has no answer: a refusal with its diagnostic, or want of memory.
@@ -9,6 +14,37 @@ pub enum DeriveError {
     Refused(Diagnostics),
     #[error("out of memory")]
     Memory,
+}
+
+impl DeriveError {
+    /// The refusal by one diagnostic, without suggestions and instances, or want of memory.
+    pub fn refusal(alloc: Global, kind: Kind, span: Span, message: &str) -> DeriveError
+        ensures { (result ≡ DeriveError.Memory) ⊎ IsRefusal kind span message.now result }
+    {
+        match Diagnostics::with_span(alloc, kind, span, message) {
+            Ok(diagnostics) => DeriveError::Refused(diagnostics),
+            Err(_) => DeriveError::Memory,
+        }
+    }
+
+    /// The refusal of kind `Syntax` of text that its grammar cannot go on with, or want of memory.
+    pub fn syntax(alloc: Global, span: Span) -> DeriveError
+        ensures { (result ≡ DeriveError.Memory) ⊎ IsSyntaxRefusal span result }
+    {
+        DeriveError::refusal(
+            alloc,
+            Kind::Syntax,
+            span,
+            "unexpected text in a declaration",
+        )
+    }
+
+    /// The refusal of kind `TooDeep` of text that nests deeper than 64 levels, or want of memory.
+    pub fn too_deep(alloc: Global, span: Span) -> DeriveError
+        ensures { (result ≡ DeriveError.Memory) ⊎ IsDepthRefusal span result }
+    {
+        DeriveError::refusal(alloc, Kind::TooDeep, span, "nesting is deeper than 64")
+    }
 }
 
 impl From<AllocError> for DeriveError {

@@ -1,8 +1,7 @@
 -- A source and its token trees.
-use Rattle.std.specs.Prelude.{ℕ, ◌≤◌, List, [], length, chars, codes}
-use Rattle.diag.specs.Refusal.{IsRefusal}
+use Rattle.std.specs.Prelude.{ℕ, ◌≤◌, List, [], length, chars}
+use Rattle.diag.specs.Refusal.{IsSyntaxRefusal, IsDepthRefusal}
 use Rattle.diag.specs.declared.error.DeriveError.{DeriveError}
-use Rattle.diag.specs.declared.kind.Kind.TheVariants as kinds
 use Rattle.diag.specs.declared.span.Span.{Span}
 use Rattle.tokens.specs.Trees.{Trees}
 use Rattle.lexing.specs.declared.piece.LexError.{LexError}
@@ -29,11 +28,11 @@ StopsAt source span = (span.end ≤ length source) × ((trees : Trees) → ¬ (I
 
 -- the error refuses a source at a bracket that opens too deep
 abbrev pub IsDepthError : List ℕ → DeriveError → Type 0
-IsDepthError source e = (span : Span) × IsRefusal kinds.TooDeep span (codes "nesting is deeper than 64") e × OpensTooDeep source span
+IsDepthError source e = (span : Span) × IsDepthRefusal span e × OpensTooDeep source span
 
 -- the error refuses a source that has no token trees, at a span of it
 abbrev pub IsSyntaxError : List ℕ → DeriveError → Type 0
-IsSyntaxError source e = (span : Span) × IsRefusal kinds.Syntax span (codes "unexpected text in a declaration") e × StopsAt source span
+IsSyntaxError source e = (span : Span) × IsSyntaxRefusal span e × StopsAt source span
 
 -- why a source is not read: its span is that of such a bracket, or one of a source without token trees
 abbrev pub IsUnread : List ℕ → LexError → Type 0

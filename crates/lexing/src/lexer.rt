@@ -7,7 +7,7 @@ ghost use Rattle.lexing.specs.Cut.{most_open, IsCut, IsDepthError, IsSyntaxError
 use crate::nest::{self, MAX_DEPTH};
 use crate::piece::LexError;
 use crate::scan;
-use diag::{DeriveError, Diagnostics, Kind, List};
+use diag::{DeriveError, List};
 use std::alloc::Global;
 use tokens::TokenTree;
 
@@ -25,24 +25,8 @@ pub fn lex(alloc: Global, source: &str) -> Result<List<TokenTree>, DeriveError>
     match token_trees(alloc, source) {
         Ok(trees) => Ok(trees),
         Err(LexError::Memory) => Err(DeriveError::Memory),
-        Err(LexError::TooDeep(span)) => {
-            let diagnostics = Diagnostics::with_span(
-                alloc,
-                Kind::TooDeep,
-                span,
-                "nesting is deeper than 64",
-            )?;
-            Err(DeriveError::Refused(diagnostics))
-        }
-        Err(LexError::Stopped(span)) => {
-            let diagnostics = Diagnostics::with_span(
-                alloc,
-                Kind::Syntax,
-                span,
-                "unexpected text in a declaration",
-            )?;
-            Err(DeriveError::Refused(diagnostics))
-        }
+        Err(LexError::TooDeep(span)) => Err(DeriveError::too_deep(alloc, span)),
+        Err(LexError::Stopped(span)) => Err(DeriveError::syntax(alloc, span)),
     }
 }
 

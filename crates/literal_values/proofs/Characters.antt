@@ -1,5 +1,5 @@
 -- Characters before a value.
-use Rattle.std.proofs.Common.{◌≡◌, ℕ, ◌+◌, ◌*◌, ◌<◌, List, [], ◌∷◌, ◌++◌, refl, ap, sym, ◌∙◌, arith, cond, true, false, Option, Some, None, option_map, is_some, append_assoc, ◌&&◌, nat_lt}
+use Rattle.std.proofs.Common.{◌≡◌, ℕ, ◌+◌, ◌*◌, ◌<◌, List, [], ◌∷◌, ◌++◌, refl, ap, sym, ◌∙◌, arith, cond, true, false, Option, Some, None, option_map, append_assoc, ◌&&◌, nat_lt}
 use Rattle.std.proofs.lemmas.Bool.Decides.{nat_tests}
 use Rattle.std.specs.Prelude.{encode_utf8}
 use Rattle.std.specs.Char.{IsScalar, digit_value}
@@ -23,10 +23,6 @@ stays value left now whole e h = ap (option_map (λ bytes. value ++ bytes)) (sym
 pub grows : (value more : List ℕ) (c : ℕ) (left now whole : Option (List ℕ)) → more ≡ value ++ encode_utf8 c → now ≡ put c left → option_map (λ bytes. value ++ bytes) now ≡ whole → option_map (λ bytes. more ++ bytes) left ≡ whole
 grows value more c left now whole g e h =
     ap (λ v. option_map (λ bytes. v ++ bytes) left) g ∙ before_more value c left ∙ ap (option_map (λ bytes. value ++ bytes)) (sym e) ∙ h
-
-pub put_is_some : (c : ℕ) (o : Option (List ℕ)) → is_some (put c o) ≡ is_some o
-put_is_some c None = refl
-put_is_some c (Some bytes) = refl
 
 pub ascii_is_scalar : (high low : ℕ) → high < 8 → low < 16 → IsScalar (high * 16 + low)
 ascii_is_scalar high low h l = grind (arith, nat_tests)

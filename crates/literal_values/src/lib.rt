@@ -7,4 +7,4 @@ mod raw_strings;
 mod strings;
 mod value;
 
-pub use value::{LiteralValue, is_string, literal_value, text_value};
+pub use value::{LiteralValue, literal_value, text_value};

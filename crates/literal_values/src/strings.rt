@@ -1,6 +1,6 @@
 //! Strings, read piece by piece.
 
-ghost use Rattle.std.specs.Prelude.{◌≡◌, [], IfOk, is_some, chars, MatchOption};
+ghost use Rattle.std.specs.Prelude.{◌≡◌, [], IfOk, chars, MatchOption};
 ghost use Rattle.std.specs.Str.{IsUtf8};
 ghost use Rattle.literal_values.specs.Values.{ended, string_value};
 ghost use Rattle.literal_values.specs.Pieces.{quoted, BeginsWith};
@@ -74,16 +74,6 @@ pub fn string_value(alloc: Global, text: &str) -> Result<Option<Text>, AllocErro
     }
 }
 
-/// Whether the text is a string with a value.
-pub fn has_string_value(text: &str) -> bool
-    ensures { result ≡ is_some (string_value (chars text.now)) }
-{
-    match opened(text) {
-        Some((quoting, rest)) => is_quoted(quoting, rest),
-        None => false,
-    }
-}
-
 /// The value of what follows the first quote.
 fn quoted(alloc: Global, quoting: Quoting, text: &str) -> Result<Option<Text>, AllocError>
     ensures { IfOk result (λ value. value ≡ quoted quoting (chars text.now)) }
@@ -99,22 +89,6 @@ fn quoted(alloc: Global, quoting: Quoting, text: &str) -> Result<Option<Text>, A
                 value.push(c)?;
                 rest = after;
             }
-        }
-    }
-}
-
-/// Whether what follows the first quote has a value.
-#[tactic(auto, using(crate::proofs::Characters::put_is_some))]
-fn is_quoted(quoting: Quoting, text: &str) -> bool
-    ensures { result ≡ is_some (quoted quoting (chars text.now)) }
-{
-    let mut rest = text;
-    'pieces: loop {
-        match piece_at(quoting, rest) {
-            None => return false,
-            Some(Piece::End) => return true,
-            Some(Piece::Nothing(after)) => rest = after,
-            Some(Piece::Character(_, after)) => rest = after,
         }
     }
 }

@@ -1,8 +1,8 @@
-ghost use Rattle.std.specs.Prelude.{◌≡◌, IfOk, is_some, option_map, chars};
+ghost use Rattle.std.specs.Prelude.{◌≡◌, IfOk, option_map, chars};
 ghost use Rattle.literal_values.specs.Values.{string_value, truth_value, text_value, value_of};
 
 use crate::numbers::whole_value;
-use crate::strings::{has_string_value, string_value};
+use crate::strings::string_value;
 use diag::Text;
 use std::alloc::{AllocError, Global};
 use tokens::{Token, TokenKind};
@@ -39,13 +39,6 @@ pub fn text_value(alloc: Global, token: &Token) -> Result<Option<Text>, AllocErr
         TokenKind::Literal => string_value(alloc, token.text.as_str()),
         _ => Ok(None),
     }
-}
-
-/// Whether the value of the token is a text.
-pub fn is_string(token: &Token) -> bool
-    ensures { result ≡ is_some (text_value token.now) }
-{
-    token.kind == TokenKind::Literal && has_string_value(token.text.as_str())
 }
 
 fn truth_value(text: &str) -> Option<bool>

@@ -6,7 +6,7 @@ ghost use Rattle.serde_rules.specs.Container.{with_tag, with_content, with_item,
 
 use crate::items::{is_named, literal_for};
 use attributes::{SerdeItem, SerdeText};
-use diag::{DeriveError, Diagnostics, Kind, Text};
+use diag::{DeriveError, Kind, Text};
 use std::alloc::{AllocError, Global};
 
 /// How the values of an enum are represented. The default is what holds without attributes.
@@ -54,10 +54,7 @@ impl SerdeEnumRepr {
 pub fn refusal(alloc: Global, kind: Kind, literal: &SerdeText, message: &str) -> DeriveError
     ensures { (result ≡ DeriveError.Memory) ⊎ IsRefusal kind literal.now.span message.now result }
 {
-    match Diagnostics::with_span(alloc, kind, literal.span, message) {
-        Ok(diagnostics) => DeriveError::Refused(diagnostics),
-        Err(_) => DeriveError::Memory,
-    }
+    DeriveError::refusal(alloc, kind, literal.span, message)
 }
 
 /// The representation after `tag = ..`.

@@ -1,8 +1,7 @@
 -- What the public readers ensure, from what was read.
-use Rattle.std.proofs.Common.{◌≡◌, ◌∙◌, ℕ, ◌<◌, ◌≤◌, arith, ◌⊎◌, inl, inr, List, length, codes, sym, subst, Result, Ok, Err}
+use Rattle.std.proofs.Common.{◌≡◌, ◌∙◌, ℕ, ◌<◌, ◌≤◌, arith, ◌⊎◌, inl, inr, List, length, sym, subst, Result, Ok, Err}
 use Rattle.diag.specs.declared.span.Span.{Span}
-use Rattle.diag.specs.Refusal.{IsRefusal}
-use Rattle.diag.specs.declared.kind.Kind.TheVariants.{Syntax}
+use Rattle.diag.specs.Refusal.{IsSyntaxRefusal}
 use Rattle.diag.specs.declared.error.DeriveError.{DeriveError}
 use Rattle.diag.specs.declared.error.DeriveError.TheVariants as errors
 use Rattle.tokens.specs.Trees.{Trees, depth}
@@ -115,6 +114,6 @@ unread unique source ts (stop.Deep at) e cut f (inl h) = inl h
 unread unique source ts (stop.Deep at) e cut f (inr h) = inr (inl (at, h, inr (ts, cut, source_deep (words_of ts) at f)))
 
 -- an error at a span within the text
-pub placed : (bytes : ℕ) (e : DeriveError) (span : Span) → (e ≡ errors.Memory) ⊎ IsRefusal Syntax span (codes "unexpected text in a declaration") e → span.end ≤ bytes → (e ≡ errors.Memory) ⊎ IsPlaced bytes e
+pub placed : (bytes : ℕ) (e : DeriveError) (span : Span) → (e ≡ errors.Memory) ⊎ IsSyntaxRefusal span e → span.end ≤ bytes → (e ≡ errors.Memory) ⊎ IsPlaced bytes e
 placed bytes e span (inl h) within = inl h
 placed bytes e span (inr h) within = inr (span, h, within)

@@ -1,9 +1,8 @@
 -- Reading items from left to right, as functions. Types are read by ty.
-use Rattle.std.specs.Prelude.{◌≡◌, ◌≤◌, ◌⊎◌, ℕ, zero, suc, List, [], ◌∷◌, length, codes, Bool, true, false, not, cond, ◌&&◌, is_some, Option, Some, None, Result, Ok, Err}
-use Rattle.diag.specs.Refusal.{IsRefusal}
+use Rattle.std.specs.Prelude.{◌≡◌, ◌≤◌, ◌⊎◌, ℕ, zero, suc, List, [], ◌∷◌, length, Bool, true, false, not, cond, ◌&&◌, is_some, Option, Some, None, Result, Ok, Err}
+use Rattle.diag.specs.Refusal.{IsSyntaxRefusal, IsDepthRefusal}
 use Rattle.diag.specs.declared.error.DeriveError.{DeriveError}
 use Rattle.diag.specs.declared.error.DeriveError.TheVariants as errors
-use Rattle.diag.specs.declared.kind.Kind.TheVariants as kinds
 use Rattle.diag.specs.declared.span.Span.{Span}
 use Rattle.tokens.specs.declared.token.Bracket.{Bracket}
 use Rattle.tokens.specs.declared.token.Bracket.TheVariants.{Round, Square, Curly}
@@ -116,11 +115,11 @@ source_at ty ws = items_at ty (after_inner ws)
 
 -- an error of the kind at a span of a text with so many bytes
 abbrev pub IsPlaced : ℕ → DeriveError → Type 0
-IsPlaced bytes e = (span : Span) × IsRefusal kinds.Syntax span (codes "unexpected text in a declaration") e × (span.end ≤ bytes)
+IsPlaced bytes e = (span : Span) × IsSyntaxRefusal span e × (span.end ≤ bytes)
 
 -- the error that tells why reading stopped, in a text of so many bytes
 abbrev pub IsRefusalOf : Stop → ℕ → DeriveError → Type 0
 IsRefusalOf (stop.Unexpected at) bytes e = (e ≡ errors.Memory) ⊎ IsPlaced bytes e
 IsRefusalOf stop.Ended bytes e = (e ≡ errors.Memory) ⊎ IsPlaced bytes e
-IsRefusalOf (stop.Deep at) bytes e = (e ≡ errors.Memory) ⊎ IsRefusal kinds.TooDeep at (codes "nesting is deeper than 64") e
+IsRefusalOf (stop.Deep at) bytes e = (e ≡ errors.Memory) ⊎ IsDepthRefusal at e
 IsRefusalOf stop.Memory bytes e = e ≡ errors.Memory

@@ -1,8 +1,7 @@
 -- A source and its declarations, and the text of a type.
-use Rattle.std.specs.Prelude.{ℕ, ◌≤◌, ◌⊎◌, List, [], length, codes}
-use Rattle.diag.specs.Refusal.{IsRefusal}
+use Rattle.std.specs.Prelude.{ℕ, ◌≤◌, ◌⊎◌, List, [], length}
+use Rattle.diag.specs.Refusal.{IsSyntaxRefusal, IsDepthRefusal}
 use Rattle.diag.specs.declared.error.DeriveError.{DeriveError}
-use Rattle.diag.specs.declared.kind.Kind.TheVariants.{Syntax, TooDeep}
 use Rattle.diag.specs.declared.span.Span.{Span}
 use Rattle.tokens.specs.Trees.{Trees}
 use Rattle.words.specs.Words.{words_of}
@@ -24,11 +23,11 @@ NestsTooDeep source span = OpensTooDeep source span ⊎ ((trees : Trees) × IsCu
 
 -- the error refuses a source that has no reading, at a span of it
 abbrev pub IsUnreadable : List ℕ → DeriveError → Type 0
-IsUnreadable source e = (span : Span) × IsRefusal Syntax span (codes "unexpected text in a declaration") e × (span.end ≤ length source) × ((ds : List DeclaredItem) → ¬ (Reads source ds))
+IsUnreadable source e = (span : Span) × IsSyntaxRefusal span e × (span.end ≤ length source) × ((ds : List DeclaredItem) → ¬ (Reads source ds))
 
 -- the error refuses a source that nests too deep, where it does
 abbrev pub IsTooDeep : List ℕ → DeriveError → Type 0
-IsTooDeep source e = (span : Span) × IsRefusal TooDeep span (codes "nesting is deeper than 64") e × NestsTooDeep source span
+IsTooDeep source e = (span : Span) × IsDepthRefusal span e × NestsTooDeep source span
 
 -- the text is cut into trees, and these are one type
 abbrev pub ReadsType : List ℕ → Written → Type 0
@@ -40,8 +39,8 @@ TypeNestsTooDeep text span = OpensTooDeep text span ⊎ ((trees : Trees) × IsCu
 
 -- the error refuses a text that is no type, at a span of it
 abbrev pub IsNoType : List ℕ → DeriveError → Type 0
-IsNoType text e = (span : Span) × IsRefusal Syntax span (codes "unexpected text in a declaration") e × (span.end ≤ length text) × ((t : Written) → ¬ (ReadsType text t))
+IsNoType text e = (span : Span) × IsSyntaxRefusal span e × (span.end ≤ length text) × ((t : Written) → ¬ (ReadsType text t))
 
 -- the error refuses a text of a type that nests too deep, where it does
 abbrev pub IsDeepType : List ℕ → DeriveError → Type 0
-IsDeepType text e = (span : Span) × IsRefusal TooDeep span (codes "nesting is deeper than 64") e × TypeNestsTooDeep text span
+IsDeepType text e = (span : Span) × IsDepthRefusal span e × TypeNestsTooDeep text span

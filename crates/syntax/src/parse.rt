@@ -1,8 +1,6 @@
 //! From a source to its declarations, and from a text to a type.
 
-ghost use Rattle.std.specs.Prelude.{◌≡◌, ◌≤◌, ◌⊎◌, codes, map, IfOk, IfErr};
-ghost use Rattle.diag.specs.Refusal.{IsRefusal};
-ghost use Rattle.diag.specs.declared.kind.Kind.TheVariants.{Syntax, TooDeep};
+ghost use Rattle.std.specs.Prelude.{◌≡◌, ◌≤◌, ◌⊎◌, map, IfOk, IfErr};
 ghost use Rattle.diag.specs.declared.span.Span.{Span};
 ghost use Rattle.written_types.specs.Written.{written_view};
 ghost use Rattle.words.specs.Words.{words_view};
@@ -16,7 +14,7 @@ ghost use Rattle.syntax.specs.Source.{Reads, NestsTooDeep, IsUnreadable, IsTooDe
 use crate::beginning::after_inner;
 use crate::item::{Declaration, Declarations};
 use crate::items::items_of;
-use diag::{DeriveError, Diagnostics, Kind, List, Span};
+use diag::{DeriveError, List, Span};
 use lexing::{deep_brackets_nest_deep, lex, one_cut};
 use std::alloc::Global;
 use tokens::TokenTree;
@@ -34,38 +32,15 @@ fn within(span: Span, bytes: usize) -> Span
     }
 }
 
-fn unexpected(alloc: Global, span: Span) -> DeriveError
-    ensures { (result ≡ DeriveError.Memory) ⊎ IsRefusal Syntax span (codes "unexpected text in a declaration") result }
-{
-    match Diagnostics::with_span(
-        alloc,
-        Kind::Syntax,
-        span,
-        "unexpected text in a declaration",
-    ) {
-        Ok(diagnostics) => DeriveError::Refused(diagnostics),
-        Err(_) => DeriveError::Memory,
-    }
-}
-
-fn too_deep(alloc: Global, span: Span) -> DeriveError
-    ensures { (result ≡ DeriveError.Memory) ⊎ IsRefusal TooDeep span (codes "nesting is deeper than 64") result }
-{
-    match Diagnostics::with_span(alloc, Kind::TooDeep, span, "nesting is deeper than 64") {
-        Ok(diagnostics) => DeriveError::Refused(diagnostics),
-        Err(_) => DeriveError::Memory,
-    }
-}
-
 /// The error for reading that stopped in a text of that many bytes.
 fn refusal(alloc: Global, stop: Stop, bytes: usize) -> DeriveError
     ensures { IsRefusalOf stop bytes result }
 {
     match stop {
         Stop::Memory => DeriveError::Memory,
-        Stop::Deep(span) => too_deep(alloc, span),
-        Stop::Unexpected(span) => unexpected(alloc, within(span, bytes)),
-        Stop::Ended => unexpected(
+        Stop::Deep(span) => DeriveError::too_deep(alloc, span),
+        Stop::Unexpected(span) => DeriveError::syntax(alloc, within(span, bytes)),
+        Stop::Ended => DeriveError::syntax(
             alloc,
             Span {
                 start: bytes,

@@ -1,12 +1,18 @@
 use Rattle.std.proofs.Common.{inl, inr}
 use Rattle.lexing.proofs.lexer.lex.Goals as goal
 
-pub returns-in_ok-diagnostics-in-Err-TooDeep-clause-refused : goal.returns-in_ok-diagnostics-in-Err-TooDeep-clause-refused
-returns-in_ok-diagnostics-in-Err-TooDeep-clause-refused c =
+pub returns-in-Err-TooDeep-clause-refused : goal.returns-in-Err-TooDeep-clause-refused
+returns-in-Err-TooDeep-clause-refused c =
     let deep = rw c.in-Err-TooDeep.field-0-is at c.in-Err-TooDeep.ensures.refused in
-    inr (inl (c.in-Err-TooDeep.span, c.in_ok-diagnostics-in-Err-TooDeep.ensures, deep))
+    elim c.too_deep.ensures [
+      | inl memory ↦ inl memory
+      | inr refuses ↦ inr (inl (c.in-Err-TooDeep.span, refuses, deep))
+    ]
 
-pub returns-in_ok-diagnostics-in-Err-Stopped-clause-refused : goal.returns-in_ok-diagnostics-in-Err-Stopped-clause-refused
-returns-in_ok-diagnostics-in-Err-Stopped-clause-refused c =
+pub returns-in-Err-Stopped-clause-refused : goal.returns-in-Err-Stopped-clause-refused
+returns-in-Err-Stopped-clause-refused c =
     let stops = rw c.in-Err-Stopped.field-0-is at c.in-Err-Stopped.ensures.refused in
-    inr (inr (c.in-Err-Stopped.span, c.in_ok-diagnostics-in-Err-Stopped.ensures, stops))
+    elim c.syntax.ensures [
+      | inl memory ↦ inl memory
+      | inr refuses ↦ inr (inr (c.in-Err-Stopped.span, refuses, stops))
+    ]
