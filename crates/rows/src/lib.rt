@@ -1,0 +1,12 @@
+//! Rows of tests: what a call is given, and what it must answer.
+//!
+//! A program over rows reads them from its input, makes each call, and prints what differs and how many rows there were.
+#![tactic(auto)]
+
+mod error;
+mod row;
+mod tally;
+
+pub use error::RowError;
+pub use row::Row;
+pub use tally::Tally;
