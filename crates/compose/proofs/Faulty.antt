@@ -1,8 +1,8 @@
 -- The error of a declaration at fault is one of all declarations.
 use Rattle.std.proofs.Common.{List, [], ◌∷◌, None, ◌≡◌, refl, ◌⊎◌, inl, inr}
-use Rattle.diag.specs.Refusal.{IsRefusal}
+use Rattle.diag.specs.Refusal.{IsRefusal, IsSyntaxRefusal}
 use Rattle.diag.specs.declared.error.DeriveError.{DeriveError}
-use Rattle.diag.specs.declared.kind.Kind.TheVariants.{Arity, DuplicateName, Syntax}
+use Rattle.diag.specs.declared.kind.Kind.TheVariants.{Arity, DuplicateName}
 use Rattle.diag.specs.declared.span.Span.{Span}
 use Rattle.diag.specs.declared.rename_row.RenameRow.{RenameRow}
 use Rattle.attributes.specs.AttributeReading.{serde_items}
@@ -15,14 +15,14 @@ use Rattle.scopes.specs.Names.{Repeats, duplicate_message}
 use Rattle.derive_decl.specs.Fields.{FieldRules, field_rules, kept, written_idents}
 use Rattle.derive_decl.specs.Structs.{Around, around_of}
 use Rattle.derive_decl.specs.Faults.{kept_fields, container_items, fieldless_message, IsFaultyName, IsFaultyType, IsFaultyMember, IsFaultyBody, IsFaultyItem}
-use Rattle.compose.specs.Faults.{kept_named, member_idents, IsFaulty, IsRowless, IsDisallowed, nameless_message}
+use Rattle.compose.specs.Faults.{kept_named, member_idents, IsFaulty, IsRowless, IsDisallowed}
 
 module _ (around : Around) (e : DeriveError) where
   abbrev TypesFault : List FieldItem → Type 0
   TypesFault fs = (fault : Fault) × Somewhere (λ f. IsFault around.place_of f.ty fault) fs × IsRefusedFor fault e
 
   abbrev NamelessFault : List FieldItem → Type 0
-  NamelessFault fs = (span : Span) × Somewhere (λ f. (f.ident ≡ None) × (span ≡ f.span)) fs × IsRefusal Syntax span nameless_message e
+  NamelessFault fs = (span : Span) × Somewhere (λ f. (f.ident ≡ None) × (span ≡ f.span)) fs × IsSyntaxRefusal span e
 
   types_fault : (fs : List FieldItem) → Somewhere (λ f. IsFaultyType around f e) fs → TypesFault fs
   types_fault [] h = absurd h
@@ -72,7 +72,7 @@ module _ (around : Around) (e : DeriveError) where
       ((x : Ident) × Somewhere (λ d. Repeats (member_idents around.rows d) x) ds × IsRefusal DuplicateName x.span (duplicate_message x.text) e)
       ⊎ ((fault : Fault) × Somewhere (λ d. Somewhere (λ f. IsFault around.place_of f.ty fault) (kept_fields d.body)) ds × IsRefusedFor fault e)
       ⊎ ((x : Ident) × Somewhere (λ d. (x ≡ d.ident) × (d.body ≡ struct_body (unnamed []))) ds × IsRefusal Arity x.span fieldless_message e)
-      ⊎ ((span : Span) × Somewhere (λ d. Somewhere (λ f. (f.ident ≡ None) × (span ≡ f.span)) (kept_named d.body)) ds × IsRefusal Syntax span nameless_message e)
+      ⊎ ((span : Span) × Somewhere (λ d. Somewhere (λ f. (f.ident ≡ None) × (span ≡ f.span)) (kept_named d.body)) ds × IsSyntaxRefusal span e)
       ⊎ IsRowless around.rows ds e
       ⊎ IsDisallowed ds e
 
@@ -102,8 +102,8 @@ all_fault rows ds e (inl r) = inl (r.0, inr r.1, r.2)
 all_fault rows ds e (inr (inl r)) = inr (inl r)
 all_fault rows ds e (inr (inr (inl r))) = inr (inr (inl r))
 all_fault rows ds e (inr (inr (inr (inl r)))) = inr (inr (inr (inl r)))
-all_fault rows ds e (inr (inr (inr (inr (inl r))))) = inr (inr (inr (inr (inr (inl r)))))
-all_fault rows ds e (inr (inr (inr (inr (inr r))))) = inr (inr (inr (inr (inr (inr r)))))
+all_fault rows ds e (inr (inr (inr (inr (inl r))))) = inr (inr (inr (inr (inl r))))
+all_fault rows ds e (inr (inr (inr (inr (inr r))))) = inr (inr (inr (inr (inr r))))
 
 pub faulty_all : (rows : List RenameRow) (ds : List DeclaredItem) (e : DeriveError) → Somewhere (λ d. IsFaultyItem (around_of rows ds) d e) ds → IsFaulty rows ds e
 faulty_all rows ds e h = all_fault rows ds e (faulty_in (around_of rows ds) e ds h)

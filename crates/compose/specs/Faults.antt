@@ -1,9 +1,9 @@
 -- Why declarations have no components: a name given twice or without its row, a type that stands for nothing or is too large, a form without a field, a field without a name, serde's items that contradict each other, an attribute that nothing is derived from, or what is beyond a bound.
 use Rattle.std.specs.Prelude.{◌≡◌, ◌⊎◌, ◌||◌, ℕ, List, [], ◌∷◌, ◌++◌, Bool, Option, Some, None, cond, codes}
 use Rattle.std.specs.List.{flat_map}
-use Rattle.diag.specs.Refusal.{IsRefusal}
+use Rattle.diag.specs.Refusal.{IsRefusal, IsSyntaxRefusal}
 use Rattle.diag.specs.declared.error.DeriveError.{DeriveError}
-use Rattle.diag.specs.declared.kind.Kind.TheVariants.{Arity, DuplicateName, Syntax}
+use Rattle.diag.specs.declared.kind.Kind.TheVariants.{Arity, DuplicateName}
 use Rattle.diag.specs.declared.span.Span.{Span}
 use Rattle.diag.specs.declared.rename_row.RenameRow.{RenameRow}
 use Rattle.schema_core.specs.Document.{Entry}
@@ -24,7 +24,7 @@ use Rattle.derive_decl.specs.Whole.{structs_of}
 use Rattle.closing.specs.Described.{IsApart, AreComponents}
 use Rattle.instances.specs.Bounds.{AreBounded, IsUnbounded}
 
--- fields that must have names, and those that have none
+-- the fields of a form whose fields have names
 abbrev pub named_in : FieldItems → List FieldItem
 named_in (named fs) = fs
 named_in (unnamed fs) = []
@@ -95,19 +95,23 @@ pub record AreClear (rows : List RenameRow) (ds : List DeclaredItem) : Type 0 wh
 
 -- ---- the answers
 
-abbrev pub nameless_message : List ℕ
-nameless_message = codes "unexpected text in a declaration"
+-- the error refuses an attribute that nothing is derived from, the first of them
+abbrev pub IsUnderivable : List DeclaredItem → DeriveError → Type 0
+IsUnderivable ds e = (span : Span) × IsAttributed ds span × IsSyntaxRefusal span e
 
--- the error refuses the declarations for one of the conditions, at its bytes
+-- the error refuses the declarations for one of the other conditions, at its bytes
 abbrev pub IsFaulty : List RenameRow → List DeclaredItem → DeriveError → Type 0
 IsFaulty rows ds e =
     ((x : Ident) × IsDuplicate rows ds x × IsRefusal DuplicateName x.span (duplicate_message x.text) e)
     ⊎ ((fault : Fault) × IsFaultOf ds fault × IsRefusedFor fault e)
     ⊎ ((x : Ident) × IsFieldless ds x × IsRefusal Arity x.span fieldless_message e)
-    ⊎ ((span : Span) × IsNameless ds span × IsRefusal Syntax span nameless_message e)
-    ⊎ ((span : Span) × IsAttributed ds span × IsRefusal Syntax span nameless_message e)
+    ⊎ ((span : Span) × IsNameless ds span × IsSyntaxRefusal span e)
     ⊎ IsRowless rows ds e
     ⊎ IsDisallowed ds e
+
+-- the error refuses the declarations for an attribute that nothing is derived from, or else for another condition
+abbrev pub AreAtFault : List RenameRow → List DeclaredItem → DeriveError → Type 0
+AreAtFault rows ds e = IsUnderivable ds e ⊎ (((span : Span) → ¬ IsAttributed ds span) × IsFaulty rows ds e)
 
 -- the error refuses declarations of which no condition holds: their instances are beyond a bound
 abbrev pub IsBeyond : Configuration → List DeclaredItem → DeriveError → Type 0
@@ -115,7 +119,7 @@ IsBeyond c ds e = AreClear c.renames ds × ((ss : List StructOf) × (structs_of 
 
 -- the error refuses a source that is read and nests no deeper than it may, whose declarations are at fault or beyond a bound
 abbrev pub IsFaultySource : Configuration → List ℕ → DeriveError → Type 0
-IsFaultySource c source e = (ds : List DeclaredItem) × Reads source ds × ((span : Span) → ¬ (NestsTooDeep source span)) × (IsFaulty c.renames ds e ⊎ IsBeyond c ds e)
+IsFaultySource c source e = (ds : List DeclaredItem) × Reads source ds × ((span : Span) → ¬ (NestsTooDeep source span)) × (AreAtFault c.renames ds e ⊎ IsBeyond c ds e)
 
 -- the error refuses the source: it nests too deep, or it has no reading, or else its declarations are at fault, or else beyond a bound
 abbrev pub IsRefused : Configuration → List ℕ → DeriveError → Type 0

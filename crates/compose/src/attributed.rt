@@ -2,14 +2,13 @@
 
 ghost use Rattle.std.specs.Prelude.{◌≡◌, ◌⊎◌, [], ◌∷◌, map, IfOk, IfErr};
 ghost use Rattle.std.specs.List.{flat_map};
-ghost use Rattle.diag.specs.Refusal.{IsRefusal};
 ghost use Rattle.diag.specs.declared.span.Span.{Span as AnySpan};
 ghost use Rattle.attributes.specs.Attributes.{attribute_view};
 ghost use Rattle.syntax.specs.Items.{field_view, body_view, declaration_view, declarations_view};
 ghost use Rattle.derive_decl.specs.Faults.{body_fields};
-ghost use Rattle.compose.specs.Faults.{attributes_in, attributes_of, is_other, first_other, IsAttributed, nameless_message};
+ghost use Rattle.compose.specs.Faults.{attributes_in, attributes_of, is_other, first_other, IsAttributed, IsUnderivable};
 
-use diag::{DeriveError, Diagnostics, Kind, Span};
+use diag::{DeriveError, Span};
 use serde_rules::has_serde_item;
 use std::alloc::{AllocError, Global};
 use std::slice;
@@ -90,25 +89,13 @@ fn first_among(alloc: Global, declarations: &[Declaration]) -> Result<Option<Spa
     Ok(None)
 }
 
-fn attributed(alloc: Global, span: Span) -> Result<DeriveError, AllocError>
-    ensures { IfOk result (λ e. IsRefusal Kind.Syntax span nameless_message e) }
-{
-    let diagnostics = Diagnostics::with_span(
-        alloc,
-        Kind::Syntax,
-        span,
-        "unexpected text in a declaration",
-    )?;
-    Ok(DeriveError::Refused(diagnostics))
-}
-
 /// Refuses declarations that have an attribute from which nothing is derived, at the first one.
 pub(crate) fn only_derivable(alloc: Global, declarations: &Declarations) -> Result<(), DeriveError>
     ensures derivable { IfOk result (λ _. (span : AnySpan) → ¬ IsAttributed (declarations_view declarations.now) span) }
-    ensures refused { IfErr result (λ e. (e ≡ DeriveError.Memory) ⊎ ((span : AnySpan) × IsAttributed (declarations_view declarations.now) span × IsRefusal Kind.Syntax span nameless_message e)) }
+    ensures refused { IfErr result (λ e. (e ≡ DeriveError.Memory) ⊎ IsUnderivable (declarations_view declarations.now) e) }
 {
     match first_among(alloc, declarations.items.as_slice())? {
-        Some(span) => Err(attributed(alloc, span)?),
+        Some(span) => Err(DeriveError::syntax(alloc, span)),
         None => Ok(()),
     }
 }

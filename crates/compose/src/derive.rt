@@ -6,7 +6,7 @@ ghost use Rattle.syntax.specs.Items.{declaration_view, declarations_view};
 ghost use Rattle.derive_decl.specs.Views.{struct_view};
 ghost use Rattle.closing.specs.Described.{AreComponents, Describes};
 ghost use Rattle.instances.specs.Bounds.{AreBounded, IsUnbounded};
-ghost use Rattle.compose.specs.Faults.{IsFaulty, IsDerived, IsRefused};
+ghost use Rattle.compose.specs.Faults.{AreAtFault, IsDerived, IsRefused};
 ghost use Rattle.compose.specs.Settled.{IsSettled};
 
 use crate::attributed::only_derivable;
@@ -35,7 +35,7 @@ fn settle(
     config: &Config,
 ) -> Result<List<Struct>, DeriveError>
     ensures settled { IfOk result (λ ss. IsSettled config.now.renames (declarations_view declarations.now) (map struct_view ss)) }
-    ensures refused { IfErr result (λ e. (e ≡ DeriveError.Memory) ⊎ IsFaulty config.now.renames (declarations_view declarations.now) e) }
+    ensures refused { IfErr result (λ e. (e ≡ DeriveError.Memory) ⊎ AreAtFault config.now.renames (declarations_view declarations.now) e) }
 {
     only_derivable(alloc, declarations)?;
     let places = declared_places(alloc, declarations)?;

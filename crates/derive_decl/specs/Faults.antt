@@ -1,9 +1,9 @@
--- Why a declaration has no schema: serde's items that contradict each other, a name that has no row or that two fields have, a type that stands for nothing or is too large, a form of unnamed fields without a field.
+-- Why a declaration has no schema: serde's items that contradict each other or name a rename rule that there is not, a name that has no row or that two fields have, a type that stands for nothing or is too large, a form of unnamed fields without a field, a field without a name among named ones.
 use Rattle.std.specs.Prelude.{◌≡◌, ◌≤◌, ◌⊎◌, ℕ, List, [], ◌++◌, Option, Some, None, codes}
 use Rattle.std.specs.List.{AllByRecursion}
-use Rattle.diag.specs.Refusal.{IsRefusal}
+use Rattle.diag.specs.Refusal.{IsRefusal, IsSyntaxRefusal}
 use Rattle.diag.specs.declared.error.DeriveError.{DeriveError}
-use Rattle.diag.specs.declared.kind.Kind.TheVariants.{DuplicateName, MissingRow, Arity, Syntax}
+use Rattle.diag.specs.declared.kind.Kind.TheVariants.{DuplicateName, MissingRow, Arity}
 use Rattle.diag.specs.declared.rename_rule.RenameRule.{RenameRule}
 use Rattle.diag.specs.declared.rename_row.RenameRow.{RenameRow}
 use Rattle.diag.specs.RenameRules.{name_of}
@@ -28,7 +28,7 @@ fields_in unit = []
 abbrev pub body_fields : BodyItem → List FieldItem
 body_fields (struct_body fs) = fields_in fs
 
--- the fields whose types stand in a schema: of unnamed fields all
+-- the fields whose types stand in a schema: of named fields those that serde does not skip, of unnamed fields all
 abbrev pub kept_in : FieldItems → List FieldItem
 kept_in (named fs) = kept fs
 kept_in (unnamed fs) = fs
@@ -57,9 +57,6 @@ HasSmall b = AllByRecursion IsSmall (kept_fields b)
 pub record AreAllowed (items : List SerdeItem) : Type 0 where
   pub none : (e : DeriveError) → ¬ IsContainerRefusal items e
 
-abbrev pub nameless_message : List ℕ
-nameless_message = codes "unexpected text in a declaration"
-
 abbrev pub fieldless_message : List ℕ
 fieldless_message = codes "a tuple form without a field"
 
@@ -84,7 +81,7 @@ IsFaultyName rows rule f e = (x : Ident) × (f.ident ≡ Some x) × IsUnwritten 
 -- the error refuses the field among named ones: for its type, its name, or since it has none
 abbrev pub IsFaultyMember : Around → FieldRules → FieldItem → DeriveError → Type 0
 IsFaultyMember around rules f e =
-    IsFaultyType around f e ⊎ IsFaultyName around.rows rules.rule f e ⊎ ((f.ident ≡ None) × IsRefusal Syntax f.span nameless_message e)
+    IsFaultyType around f e ⊎ IsFaultyName around.rows rules.rule f e ⊎ ((f.ident ≡ None) × IsSyntaxRefusal f.span e)
 
 -- the error refuses the named fields: one of them, or a name that two have
 abbrev pub AreFaultyMembers : Around → FieldRules → List FieldItem → DeriveError → Type 0

@@ -1,4 +1,4 @@
--- Declarations whose shape is what serde reads for them, and whose schema can say it: what stands in the places that they reach.
+-- Declarations whose schema can say their whole shape: what stands in the places that they reach.
 use Rattle.std.specs.Prelude.{◌≡◌, ◌≢◌, ◌⊎◌, ℕ, List, [], ◌∷◌, IsTrue}
 use Rattle.leaves.specs.Leaves.{kind_of}
 use Rattle.leaves.specs.declared.leaf.LeafKind.TheVariants as kinds

@@ -1,4 +1,4 @@
--- When a JSON value has the shape of a type or of a declaration: what serde reads for it, with whole numbers of any size. No schema is known here.
+-- When a JSON value has the shape of a type or of a declaration (the serde data model, in JSON with whole numbers of any size; docs/SERDE.md says where this is wider or narrower than what serde reads). No schema is known here.
 use Rattle.std.specs.Prelude.{ℕ, zero, suc, ◌≤◌, ℤ, pos, List, [], ◌∷◌, Bool, true, false, not, ◌&&◌, ◌||◌, int_le, IsTrue}
 use Rattle.std.specs.List.{list_all}
 use Rattle.acceptance.specs.Json.{Json, null, boolean, number, text, list, map, elements, entries, names, is_in, look, distinct, if_there}

@@ -9,13 +9,13 @@ ghost use Rattle.scopes.specs.Scopes.{IsScope};
 ghost use Rattle.syntax.specs.Items.{field_view};
 ghost use Rattle.derive_decl.specs.Fields.{kept, name_by, named_at, rules_view, value_of, written_ident, written_idents};
 ghost use Rattle.derive_decl.specs.Structs.{all_of, is_option, member_of, member_from};
-ghost use Rattle.derive_decl.specs.Faults.{IsUnwritten, IsFaultyMember, IsSmall, nameless_message, row_message};
+ghost use Rattle.derive_decl.specs.Faults.{IsUnwritten, IsFaultyMember, IsSmall, row_message};
 ghost use Rattle.derive_decl.specs.Views.{known, member_view};
 
 use crate::remarks::{description_of, is_deprecated};
 use component::Container;
 use configuration::Config;
-use diag::{DeriveError, Diagnostics, Kind, RenameRule, Span, Text};
+use diag::{DeriveError, Diagnostics, Kind, RenameRule, Text};
 use open_types::OpenType;
 use scopes::{Named, resolve};
 use serde_rules::names::rename;
@@ -52,19 +52,6 @@ fn is_option(ty: &OpenType) -> bool
         OpenType::Option(_) => true,
         _ => false,
     }
-}
-
-/// The refusal of a named field without a name.
-fn nameless(alloc: Global, span: Span) -> Result<DeriveError, AllocError>
-    ensures { IfOk result (λ e. IsRefusal Kind.Syntax span nameless_message e) }
-{
-    let diagnostics = Diagnostics::with_span(
-        alloc,
-        Kind::Syntax,
-        span,
-        "unexpected text in a declaration",
-    )?;
-    Ok(DeriveError::Refused(diagnostics))
 }
 
 /// The refusal of an identifier that needs a row of the rule.
@@ -149,7 +136,7 @@ fn kept_member(
     ensures refused { IfErr result (λ e. (e ≡ DeriveError.Memory) ⊎ IsFaultyMember (known container.now) (rules_view rules.now) (field_view field.now) e) }
 {
     let Some(ident) = &field.ident else {
-        return Err(nameless(alloc, field.span)?);
+        return Err(DeriveError::syntax(alloc, field.span));
     };
     let name = written_ident(alloc, container.config, rules.rename_all, value, ident)?;
     let ty = resolve(alloc, container.scope, &field.ty, container.config)?;

@@ -1,12 +1,15 @@
+ghost use Rattle.std.specs.Prelude.{◌≡◌, ◌↔◌, ◌+◌, ◌<◌, ◌≢◌, IfOk, IsSome};
+ghost use Rattle.std.specs.String.{string_bytes};
+
 use crate::row::Row;
 use std::alloc::{AllocError, Global};
 use std::fmt;
 
-/// How many rows were compared, and how many differed.
+/// How many rows were compared, and how many of them differed.
 #[derive(Debug, Default, Drop)]
 pub struct Tally {
-    rows: u64,
-    differing: u64,
+    pub rows: u64,
+    pub differing: u64,
 }
 
 impl Tally {
@@ -16,7 +19,9 @@ impl Tally {
         alloc: Global,
         row: &Row,
         told: &str,
-    ) -> Result<Option<String>, AllocError> {
+    ) -> Result<Option<String>, AllocError>
+        ensures { IfOk result (λ line. IsSome line ↔ (told.now ≢ string_bytes row.now.answer)) }
+    {
         self.rows = self.rows.saturating_add(1);
         if told == row.answer.as_str() {
             return Ok(None);

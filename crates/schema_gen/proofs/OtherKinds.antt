@@ -23,7 +23,7 @@ use Rattle.configuration.specs.Form.{IsBadConfig}
 use Rattle.derive_decl.specs.Structs.{StructOf}
 use Rattle.derive_decl.specs.Faults.{container_items, IsFaultyName}
 use Rattle.instances.specs.Bounds.{IsRefusalOf, IsUnbounded}
-use Rattle.compose.specs.Faults.{kept_named, IsFaulty, IsBeyond, IsRefused}
+use Rattle.compose.specs.Faults.{kept_named, IsFaulty, AreAtFault, IsBeyond, IsRefused}
 use Rattle.schema_gen.specs.Refusals.{IsRefusedSource}
 
 -- the refusal of a configuration has its kind
@@ -80,13 +80,13 @@ module _ (ds : List DiangosticsInner) (first : HasFirst ds (λ d. d.kind ≡ Bad
   faulty rows items (inr (inl (fault, found, is))) = other_for fault is
   faulty rows items (inr (inr (inl (x, fieldless, is)))) = other Arity _ _ (λ e. cc) is
   faulty rows items (inr (inr (inr (inl (span, nameless, is))))) = other Syntax _ _ (λ e. cc) is
-  faulty rows items (inr (inr (inr (inr (inl (span, attributed, is)))))) = other Syntax _ _ (λ e. cc) is
-  faulty rows items (inr (inr (inr (inr (inr (inl h)))))) =
+  faulty rows items (inr (inr (inr (inr (inl h))))) =
       nowhere _ items (λ d. nowhere (λ f. IsFaultyName rows (rename_rule (serde_items d.attrs)) f (Refused ds)) (kept_named d.body) (rowless rows (rename_rule (serde_items d.attrs)))) h
-  faulty rows items (inr (inr (inr (inr (inr (inr h)))))) = nowhere _ items (λ d. disallowed (container_items d.attrs d.body)) h
+  faulty rows items (inr (inr (inr (inr (inr h))))) = nowhere _ items (λ d. disallowed (container_items d.attrs d.body)) h
 
-  declared : (c : Configuration) (items : List DeclaredItem) → IsFaulty c.renames items (Refused ds) ⊎ IsBeyond c items (Refused ds) → ⊥
-  declared c items (inl fault) = faulty c.renames items fault
+  declared : (c : Configuration) (items : List DeclaredItem) → AreAtFault c.renames items (Refused ds) ⊎ IsBeyond c items (Refused ds) → ⊥
+  declared c items (inl (inl (span, attributed, is))) = other Syntax _ _ (λ e. cc) is
+  declared c items (inl (inr (derivable, fault))) = faulty c.renames items fault
   declared c items (inr (clear, (structs, resolved, beyond))) = unbounded c items structs beyond
 
   refused : (c : Configuration) (source : List ℕ) → IsRefused c source (Refused ds) → ⊥

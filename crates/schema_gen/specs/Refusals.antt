@@ -4,13 +4,13 @@ use Rattle.std.specs.Fmt.{decimal}
 use Rattle.std.specs.Str.{IsUtf8, IsValidUpTo}
 use Rattle.diag.specs.Diagnostics.{text_of, HasFirst}
 use Rattle.diag.specs.Kind.{name_of}
-use Rattle.diag.specs.Refusal.{IsRefusal}
+use Rattle.diag.specs.Refusal.{IsRefusal, IsSyntaxRefusal}
 use Rattle.diag.specs.Span.{no_span}
 use Rattle.diag.specs.declared.diagnostics.DiangosticsInner.{DiangosticsInner}
 use Rattle.diag.specs.declared.error.DeriveError.{DeriveError}
 use Rattle.diag.specs.declared.error.DeriveError.TheVariants as error
 use Rattle.diag.specs.declared.kind.Kind.{Kind}
-use Rattle.diag.specs.declared.kind.Kind.TheVariants.{TooLong, Syntax}
+use Rattle.diag.specs.declared.kind.Kind.TheVariants.{TooLong}
 use Rattle.diag.specs.declared.span.Span.{Span}
 use Rattle.syntax.specs.Items.{DeclaredItem}
 use Rattle.syntax.specs.Source.{Reads, NestsTooDeep}
@@ -46,7 +46,7 @@ abbrev pub IsTooLong : List ℕ → DeriveError → Type 0
 IsTooLong bytes e = (most_bytes < length bytes) × IsRefusal TooLong no_span (codes "the source is longer than 1048576 bytes") e
 
 abbrev pub IsNoText : List ℕ → DeriveError → Type 0
-IsNoText bytes e = (length bytes ≤ most_bytes) × ((span : Span) × IsBroken bytes span × IsRefusal Syntax span (codes "unexpected text in a declaration") e)
+IsNoText bytes e = (length bytes ≤ most_bytes) × ((span : Span) × IsBroken bytes span × IsSyntaxRefusal span e)
 
 -- the error refuses the bytes: they are too many, or else no UTF-8, or else the source that they are is refused
 abbrev pub IsRefusedSource : Configuration → List ℕ → DeriveError → Type 0

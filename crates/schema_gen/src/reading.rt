@@ -18,10 +18,10 @@ ghost use Rattle.schema_gen.specs.Words.{IsDerive};
 
 use crate::command::Words;
 use crate::ending::Ending;
-use crate::refusal::{MAX_BYTES, bad_config, refusal_line, source_text, too_long};
+use crate::refusal::{MAX_BYTES, refusal_line, source_text, too_long};
 use crate::status::Status;
 use compose::derive_components;
-use configuration::Config;
+use configuration::{Config, bad_config};
 use diag::{DeriveError, Diagnostics, Kind, Text};
 use files::{FileAnswer, Files};
 use std::alloc::{AllocError, Global};
@@ -82,8 +82,8 @@ fn end_of_longer(alloc: Global) -> Ending
     ensures no_bad_config { status_of result ≢ Status.Refused Kind.BadConfig }
 {
     match too_long(alloc) {
-        Ok(refusal) => refused(alloc, &refusal),
-        Err(AllocError) => Ending::Memory,
+        DeriveError::Refused(refusal) => refused(alloc, &refusal),
+        DeriveError::Memory => Ending::Memory,
     }
 }
 
@@ -116,8 +116,8 @@ fn end_of_longer_file(alloc: Global) -> Ending
     ensures no_file_fault { status_of result ≢ Status.FileFault }
 {
     match bad_config(alloc) {
-        Ok(refusal) => refused(alloc, &refusal),
-        Err(AllocError) => Ending::Memory,
+        DeriveError::Refused(refusal) => refused(alloc, &refusal),
+        DeriveError::Memory => Ending::Memory,
     }
 }
 

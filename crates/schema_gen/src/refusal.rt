@@ -2,9 +2,8 @@
 
 ghost use Rattle.std.specs.Prelude.{◌≡◌, ◌≤◌, ◌⊎◌, [], ◌∷◌, length, codes, IfOk, IfErr};
 ghost use Rattle.std.specs.Str.{IsUtf8, IsValidUpTo, IsErrorLen, valid_up_to, error_len};
-ghost use Rattle.diag.specs.Diagnostics.{diagnostic};
+ghost use Rattle.diag.specs.Refusal.{IsRefusal};
 ghost use Rattle.diag.specs.Span.{no_span};
-ghost use Rattle.configuration.specs.Form.{IsBadConfig};
 ghost use Rattle.schema_gen.specs.Refusals.{most_bytes, IsBroken, IsNoText, refusal_line};
 
 use diag::{DeriveError, Diagnostics, Kind, Span, Text};
@@ -14,25 +13,15 @@ use std::str::Utf8Error;
 /// The most bytes of a source, and of a configuration's file.
 pub(crate) const MAX_BYTES: usize = 1_048_576;
 
-/// The refusal of a source of too many bytes.
-pub(crate) fn too_long(alloc: Global) -> Result<Diagnostics, AllocError>
-    ensures { IfOk result (λ d. d ≡ diagnostic Kind.TooLong no_span (codes "the source is longer than 1048576 bytes") ∷ []) }
+/// The refusal of a source of too many bytes, or want of memory.
+pub(crate) fn too_long(alloc: Global) -> DeriveError
+    ensures { (result ≡ DeriveError.Memory) ⊎ IsRefusal Kind.TooLong no_span (codes "the source is longer than 1048576 bytes") result }
 {
-    Diagnostics::new(
+    DeriveError::refusal(
         alloc,
         Kind::TooLong,
+        Span::nowhere(),
         "the source is longer than 1048576 bytes",
-    )
-}
-
-/// The refusal of a file of too many bytes for a configuration.
-pub(crate) fn bad_config(alloc: Global) -> Result<Diagnostics, AllocError>
-    ensures { IfOk result (λ d. IsBadConfig (DeriveError.Refused d)) }
-{
-    Diagnostics::new(
-        alloc,
-        Kind::BadConfig,
-        "the configuration is not of the stated form",
     )
 }
 
@@ -60,14 +49,7 @@ pub(crate) fn source_text(alloc: Global, bytes: &[u8]) -> Result<&str, DeriveErr
         Ok(text) => return Ok(text),
         Err(fault) => fault,
     };
-    let span = broken_span(bytes, &fault);
-    let refusal = Diagnostics::with_span(
-        alloc,
-        Kind::Syntax,
-        span,
-        "unexpected text in a declaration",
-    )?;
-    Err(DeriveError::Refused(refusal))
+    Err(DeriveError::syntax(alloc, broken_span(bytes, &fault)))
 }
 
 /// The line that reports the refusal.

@@ -23,6 +23,6 @@ value_rules items = record {
   double_option = option_map_or is_double_option (last_text (codes "with") items) false;
 }
 
--- the member of a field of these rules is always there, in a container whose fields may all be absent or not
+-- serde's items let no member of a field of these rules be absent, in a container whose fields may all be absent or not; that of an option still may be
 abbrev pub is_required : SerdeValue → Bool → Bool
 is_required field all_default = not (field.skip_serializing_if || field.double_option || field.default || all_default)

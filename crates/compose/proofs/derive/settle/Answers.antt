@@ -12,7 +12,7 @@ returns-in_err-only_derivable-clause-refused c =
     rw (p.1, p.2)
     (elim c.in_err-only_derivable.ensures.refused [
       | inl memory ↦ inl memory
-      | inr fault ↦ inr (inr (inr (inr (inr (inl fault)))))
+      | inr fault ↦ inr (inl fault)
     ])
 
 pub returns-in_err-places-clause-refused : goal.returns-in_err-places-clause-refused
@@ -21,7 +21,7 @@ returns-in_err-places-clause-refused c =
     rw (p.1, p.2)
     (elim c.in_err-places.ensures.refused [
       | inl memory ↦ inl memory
-      | inr fault ↦ inr (inl (fault.0, inl fault.1, fault.2))
+      | inr fault ↦ inr (inr (c.in_ok-only_derivable.ensures.derivable, inl (fault.0, inl fault.1, fault.2)))
     ])
 
 pub returns-in_err-structs-clause-refused : goal.returns-in_err-structs-clause-refused
@@ -30,7 +30,7 @@ returns-in_err-structs-clause-refused c =
     rw (p.1, p.2)
     (elim c.in_err-structs.ensures.refused [
       | inl memory ↦ inl memory
-      | inr fault ↦ inr (faulty_all c.args.config.now.renames (declarations_view c.args.declarations.now) c.in_err-structs.field-0.0 fault)
+      | inr fault ↦ inr (inr (c.in_ok-only_derivable.ensures.derivable, faulty_all c.args.config.now.renames (declarations_view c.args.declarations.now) c.in_err-structs.field-0.0 fault))
     ])
 
 pub returns-clause-settled : goal.returns-clause-settled

@@ -6,7 +6,7 @@ use Rattle.configuration.specs.Configuration.{Configuration}
 use Rattle.derive_decl.specs.Structs.{StructOf}
 use Rattle.derive_decl.specs.Whole.{structs_of}
 use Rattle.instances.specs.Bounds.{AreBounded, BoundedAreNotRefused}
-use Rattle.compose.specs.Faults.{IsFaulty, IsBeyond, IsRefused, AreClear}
+use Rattle.compose.specs.Faults.{AreAtFault, IsBeyond, IsRefused, AreClear}
 use Rattle.schema_gen.specs.Refusals.{most_bytes, IsSound, IsRefusedSource}
 use Rattle.schema_gen.proofs.law.sound_is_not_refused.Goals as goal
 
@@ -23,14 +23,14 @@ clear_text one bounded c source e sound (inr (inr (ds, read, shallow, fault))) =
     IsFine : List DeclaredItem → Type 0
     IsFine ds = AreClear c.renames ds × ((structs : List StructOf) → structs_of c.renames ds ≡ Some structs → AreBounded c ds structs)
 
-    by : IsFine ds → IsFaulty c.renames ds e ⊎ IsBeyond c ds e → ⊥
-    by fine (inl (inl (x, duplicate, is))) = fine.0.distinct x duplicate
-    by fine (inl (inr (inl (fault, found, is)))) = fine.0.resolved fault found
-    by fine (inl (inr (inr (inl (x, fieldless, is))))) = fine.0.fielded x fieldless
-    by fine (inl (inr (inr (inr (inl (span, nameless, is)))))) = fine.0.named span nameless
-    by fine (inl (inr (inr (inr (inr (inl (span, attributed, is))))))) = fine.0.derivable span attributed
-    by fine (inl (inr (inr (inr (inr (inr (inl rowless))))))) = fine.0.written e rowless
-    by fine (inl (inr (inr (inr (inr (inr (inr disallowed))))))) = fine.0.allowed e disallowed
+    by : IsFine ds → AreAtFault c.renames ds e ⊎ IsBeyond c ds e → ⊥
+    by fine (inl (inl (span, attributed, is))) = fine.0.derivable span attributed
+    by fine (inl (inr (derivable, inl (x, duplicate, is)))) = fine.0.distinct x duplicate
+    by fine (inl (inr (derivable, inr (inl (fault, found, is))))) = fine.0.resolved fault found
+    by fine (inl (inr (derivable, inr (inr (inl (x, fieldless, is)))))) = fine.0.fielded x fieldless
+    by fine (inl (inr (derivable, inr (inr (inr (inl (span, nameless, is))))))) = fine.0.named span nameless
+    by fine (inl (inr (derivable, inr (inr (inr (inr (inl rowless))))))) = fine.0.written e rowless
+    by fine (inl (inr (derivable, inr (inr (inr (inr (inr disallowed))))))) = fine.0.allowed e disallowed
     by fine (inr (clear, (structs, resolved, unbounded))) = bounded c ds structs e (fine.1 structs resolved) unbounded
 
 long_and_short : (n : ℕ) → most_bytes < n → n ≤ most_bytes → ⊥
