@@ -7,7 +7,7 @@ use Rattle.std.specs.List.Sorted.{IsStrictlySortedBy}
 use Rattle.std.proofs.lemmas.Bool.{false≢true, cases_lt}
 use Rattle.std.proofs.lemmas.Cmp.{nat_list_cmp_total}
 use Rattle.std.proofs.lemmas.Map.Text.{is_eq-slice_cmp}
-use Rattle.std.proofs.lemmas.Option.{none-some}
+use Rattle.std.proofs.lemmas.Option.{none-some, same_Some}
 use Rattle.std.proofs.lemmas.Slice.Eq.{bytes_eq-Decides}
 use Rattle.schema_core.specs.declared.tree.RefLeaf.{RefLeaf}
 use Rattle.schema_core.specs.Schema.{SchemaOf}
@@ -21,9 +21,6 @@ use Rattle.closing.specs.Closed.{struct_schema}
 use Rattle.closing.specs.Described.{AreComponents}
 use Rattle.acceptance.specs.Json.{is_in}
 use Rattle.schema_core.specs.Meaning.{IsDistinct}
-
-some_same : {A : Type 0} (a b : A) → Some a ≡ Some b → a ≡ b
-some_same a b e = grind arith
 
 pub struct_at-view : (structs : List Struct) (d : ℕ) (x : Struct) → d < length structs → struct_at (map struct_view structs) d ≡ struct_view (get_or structs d x)
 struct_at-view [] d x l = absurd (omega arith)
@@ -149,7 +146,7 @@ known_more ss d name s true components after l n e new is h = subst (AreKnown ss
   where
     by : (k : List ℕ) (t : SchemaOf RefLeaf) (b : Bool) → bytes_eq k name ≡ b → cond b (Some s) (find k components) ≡ Some t →
         (q : ℕ) × (q < length ss) × (k ≡ (struct_at ss q).name) × (t ≡ struct_schema ss q)
-    by k t true u f = (d, l, (bytes_eq-Decides k name).0 u ∙ n, sym (some_same s t f) ∙ e)
+    by k t true u f = (d, l, (bytes_eq-Decides k name).0 u ∙ n, sym (same_Some s t f) ∙ e)
     by k t false u f = h.known k t f
 
 cond-some : {A : Type 0} (b : Bool) (x : A) (o : Option A) → IsTrue (is_some o) → IsTrue (is_some (cond b (Some x) o))
@@ -200,5 +197,5 @@ all_entered ss components distinct h all = record { roots = roots; only = only; 
         let name = (struct_at ss d).name in
         let s = found (find name components) (all d (omega arith) l) in
         let k = h.known name s.0 s.1 in
-        let same : k.0 ≡ d = some_same k.0 d (sym (root_place ss k.0 distinct k.1) ∙ sym (ap (λ n. place_in n (struct_names ss)) k.2) ∙ root_place ss d distinct l) in
+        let same : k.0 ≡ d = same_Some k.0 d (sym (root_place ss k.0 distinct k.1) ∙ sym (ap (λ n. place_in n (struct_names ss)) k.2) ∙ root_place ss d distinct l) in
         s.1 ∙ ap Some k.3 ∙ ap (λ q. Some (struct_schema ss q)) same

@@ -2,7 +2,7 @@
 use Rattle.std.proofs.Common.{ℕ, suc, ◌<◌, List, [], ◌∷◌, ◌++◌, Option, Some, None, option_map, option_and_then, Bool, true, false, cond, ◌||◌, bytes_eq, length, ◌≡◌, refl, ap, sym, subst, ◌∙◌, inl, inr, IsTrue, arith}
 use Rattle.std.specs.List.{AllByRecursion, cons_option}
 use Rattle.std.proofs.lemmas.Bool.{false≢true}
-use Rattle.std.proofs.lemmas.Option.{none-some}
+use Rattle.std.proofs.lemmas.Option.{none-some, same_Some}
 use Rattle.std.proofs.lemmas.Slice.Eq.{bytes_eq-Decides}
 use Rattle.acceptance.specs.Json.{is_in}
 use Rattle.diag.specs.declared.error.DeriveError.{DeriveError}
@@ -25,7 +25,7 @@ use Rattle.derive_decl.specs.Whole.{structs_of, MembersDiffer, IsSmallItem, IsAl
 use Rattle.closing.specs.Described.{TypesWithin, AreWithin}
 use Rattle.compose.specs.Faults.{named_in, kept_named, member_idents, IsAttributed, IsRowless, IsDisallowed}
 use Rattle.compose.specs.Settled.{IsSettled}
-use Rattle.compose.proofs.Parts.{some_same, mapped, joined}
+use Rattle.compose.proofs.Parts.{mapped, joined}
 
 -- ---- names
 
@@ -39,9 +39,9 @@ below_names k [] p e = absurd (none-some p e)
 below_names k (n ∷ ns) p e = by (bytes_eq k n) (place_in k ns) e (below_names k ns)
   where
     by : (b : Bool) (o : Option ℕ) → cond b (Some 0) (option_map suc o) ≡ Some p → ((r : ℕ) → o ≡ Some r → r < length ns) → p < suc (length ns)
-    by true o h later = subst (λ q. q < suc (length ns)) (some_same 0 p h) (omega arith)
+    by true o h later = subst (λ q. q < suc (length ns)) (same_Some 0 p h) (omega arith)
     by false None h later = absurd (none-some p h)
-    by false (Some r) h later = let l = later r refl in subst (λ q. q < suc (length ns)) (some_same (suc r) p h) (omega (arith, l))
+    by false (Some r) h later = let l = later r refl in subst (λ q. q < suc (length ns)) (same_Some (suc r) p h) (omega (arith, l))
 
 many_names : (ss : List StructOf) → length (struct_names ss) ≡ length ss
 many_names [] = refl
@@ -77,7 +77,7 @@ member_parts around rules f m e = by f.ident refl e
     from x None t i p q h = absurd (none-some m h)
     from x (Some n) None i p q h = absurd (none-some m h)
     from x (Some n) (Some t) i p q h =
-        let same = some_same (member_from rules f n t) m h in
+        let same = same_Some (member_from rules f n t) m h in
         record { ident = x; is = i; named = p ∙ ap (λ (o : MemberOf). Some o.name) same; typed = q ∙ ap (λ (o : MemberOf). Some o.of) same }
 
     by : (o : Option Ident) → f.ident ≡ o → member_as around rules f o ≡ Some m → IsMember around rules f m
@@ -97,11 +97,11 @@ unwritten rows (Some rule) value x e h = h.0
 named_member : (around : Around) (rules : FieldRules) (e : DeriveError) (f : FieldItem) (m : MemberOf) → member_of around rules f ≡ Some m → IsFaultyName around.rows rules.rule f e → ⊥
 named_member around rules e f m g (x, is, h) =
     let p = member_parts around rules f m g in
-    let same : p.ident ≡ x = some_same p.ident x (sym p.is ∙ is) in
+    let same : p.ident ≡ x = same_Some p.ident x (sym p.is ∙ is) in
     none-some m.name (sym (unwritten around.rows rules.rule (value_of f) x e h) ∙ ap (written_name around.rows rules.rule f) (sym same) ∙ p.named)
 
 members-are : (around : Around) (rules : FieldRules) (fs : List FieldItem) (ms : List MemberOf) → all_of (member_of around rules) fs ≡ Some ms → member_names ms ≡ texts (written_idents around.rows rules.rule fs)
-members-are around rules [] ms e = ap member_names (sym (some_same [] ms e))
+members-are around rules [] ms e = ap member_names (sym (same_Some [] ms e))
 members-are around rules (f ∷ fs) ms e =
     let j = joined (member_of around rules f) (all_of (member_of around rules) fs) ms e in
     let m = member_parts around rules f j.0 j.2 in
@@ -119,7 +119,7 @@ struct_parts around d s e =
 module _ (around : Around) where
   -- the structs have the names of the declarations
   pub struct_names-are : (ds : List DeclaredItem) (ss : List StructOf) → all_of (struct_of around) ds ≡ Some ss → struct_names ss ≡ declared_names ds
-  struct_names-are [] ss e = ap struct_names (sym (some_same [] ss e))
+  struct_names-are [] ss e = ap struct_names (sym (same_Some [] ss e))
   struct_names-are (d ∷ ds) ss e =
       let j = joined (struct_of around d) (all_of (struct_of around) ds) ss e in
       sym (ap struct_names j.4) ∙ ap (λ n. n ∷ struct_names j.1) (struct_parts around d j.0 j.2).0 ∙ ap (λ ns. d.ident.text ∷ ns) (struct_names-are ds j.1 j.3)
@@ -129,7 +129,7 @@ module _ (around : Around) where
     form_names (named fs) form e = let m = mapped (named_fields rules.denies) (all_of (member_of around rules) (kept fs)) form e in sym (ap names_of m.2) ∙ members-are around rules (kept fs) m.0 m.1
     form_names (unnamed []) form e = absurd (none-some form e)
     form_names (unnamed (f ∷ fs)) form e = let m = mapped unnamed_fields (all_of (λ (g : FieldItem). type_of around.place_of g.ty) (f ∷ fs)) form e in sym (ap names_of m.2)
-    form_names unit form e = sym (ap names_of (some_same no_fields form e))
+    form_names unit form e = sym (ap names_of (same_Some no_fields form e))
 
     body_names : (b : BodyItem) (form : FormOf) → body_form around rules b ≡ Some form → names_of form ≡ texts (written_idents around.rows rules.rule (kept_named b))
     body_names (struct_body fs) form e = form_names fs form e
@@ -147,14 +147,14 @@ module _ (around : Around) where
 
   module _ (within : ResolvedAreWithin) (n : ℕ) (below : (k : List ℕ) (d : ℕ) → around.place_of k ≡ Some d → d < n) where
     members_within : (rules : FieldRules) (fs : List FieldItem) (ms : List MemberOf) → all_of (member_of around rules) fs ≡ Some ms → TypesWithin n (member_types ms)
-    members_within rules [] ms e = subst (λ xs. TypesWithin n (member_types xs)) (some_same [] ms e) tt
+    members_within rules [] ms e = subst (λ xs. TypesWithin n (member_types xs)) (same_Some [] ms e) tt
     members_within rules (f ∷ fs) ms e =
         let j = joined (member_of around rules f) (all_of (member_of around rules) fs) ms e in
         let m = member_parts around rules f j.0 j.2 in
         subst (λ xs. TypesWithin n (member_types xs)) j.4 (within around.place_of n below f.ty j.0.of m.typed, members_within rules fs j.1 j.3)
 
     types_within : (fs : List FieldItem) (ts : List Open) → all_of (λ (f : FieldItem). type_of around.place_of f.ty) fs ≡ Some ts → TypesWithin n ts
-    types_within [] ts e = subst (TypesWithin n) (some_same [] ts e) tt
+    types_within [] ts e = subst (TypesWithin n) (same_Some [] ts e) tt
     types_within (f ∷ fs) ts e =
         let j = joined (type_of around.place_of f.ty) (all_of (λ (g : FieldItem). type_of around.place_of g.ty) fs) ts e in
         subst (TypesWithin n) j.4 (within around.place_of n below f.ty j.0 j.2, types_within fs j.1 j.3)
@@ -165,13 +165,13 @@ module _ (around : Around) where
     form_within rules (unnamed []) form e = absurd (none-some form e)
     form_within rules (unnamed (f ∷ fs)) form e =
         let m = mapped unnamed_fields (all_of (λ (g : FieldItem). type_of around.place_of g.ty) (f ∷ fs)) form e in subst (λ x. TypesWithin n (types_of x)) m.2 (types_within (f ∷ fs) m.0 m.1)
-    form_within rules unit form e = subst (λ f. TypesWithin n (types_of f)) (some_same no_fields form e) tt
+    form_within rules unit form e = subst (λ f. TypesWithin n (types_of f)) (same_Some no_fields form e) tt
 
     body_within : (rules : FieldRules) (b : BodyItem) (form : FormOf) → body_form around rules b ≡ Some form → TypesWithin n (types_of form)
     body_within rules (struct_body fs) form e = form_within rules fs form e
 
     pub are_within : (ds : List DeclaredItem) (ss : List StructOf) → all_of (struct_of around) ds ≡ Some ss → AreWithin n ss
-    are_within [] ss e = subst (AreWithin n) (some_same [] ss e) tt
+    are_within [] ss e = subst (AreWithin n) (same_Some [] ss e) tt
     are_within (d ∷ ds) ss e =
         let j = joined (struct_of around d) (all_of (struct_of around) ds) ss e in
         subst (AreWithin n) j.4 (body_within (field_rules (serde_items d.attrs)) d.body j.0.form (struct_parts around d j.0 j.2).1, are_within ds j.1 j.3)

@@ -2,7 +2,7 @@
 use Rattle.std.proofs.Common.{ℕ, zero, suc, ◌+◌, ◌<◌, List, [], ◌∷◌, ◌++◌, Bool, true, false, cond, Option, Some, None, option_map, option_and_then, length, take, get_or, map, ◌≡◌, refl, ap, sym, subst, ◌∙◌, arith, inl, inr}
 use Rattle.std.proofs.lemmas.List.{take_more, map_push, map-append}
 use Rattle.std.proofs.lemmas.List.Elements.{filter-append, filter_map-append}
-use Rattle.std.proofs.lemmas.Option.{none-some}
+use Rattle.std.proofs.lemmas.Option.{none-some, same_Some}
 use Rattle.std.specs.List.{AllByRecursion, cons_option}
 use Rattle.diag.specs.declared.rename_rule.RenameRule.{RenameRule}
 use Rattle.diag.specs.declared.rename_row.RenameRow.{RenameRow}
@@ -19,28 +19,25 @@ use Rattle.derive_decl.specs.Whole.{MembersDiffer}
 
 -- ---- one more
 
-pub some_same : {A : Type 0} (a b : A) → Some a ≡ Some b → a ≡ b
-some_same a b e = grind arith
-
 grown : {B : Type 0} (y : B) (ys : List B) (o : Option B) (p q : Option (List B)) → ((ws : List B) → p ≡ Some ws → q ≡ Some (ws ++ y ∷ [])) →
     option_and_then (λ w. option_map (λ ws. w ∷ ws) p) o ≡ Some ys → option_and_then (λ w. option_map (λ ws. w ∷ ws) q) o ≡ Some (ys ++ y ∷ [])
 grown y ys None p q h e = absurd (none-some ys e)
 grown y ys (Some w) None q h e = absurd (none-some ys e)
-grown y ys (Some w) (Some ws) q h e = ap (option_map (λ vs. w ∷ vs)) (h ws refl) ∙ ap (λ vs. Some (vs ++ y ∷ [])) (some_same (w ∷ ws) ys e)
+grown y ys (Some w) (Some ws) q h e = ap (option_map (λ vs. w ∷ vs)) (h ws refl) ∙ ap (λ vs. Some (vs ++ y ∷ [])) (same_Some (w ∷ ws) ys e)
 
 pub all_of-push : {A B : Type 0} (f : A → Option B) (xs : List A) (ys : List B) (x : A) (y : B) → all_of f xs ≡ Some ys → f x ≡ Some y → all_of f (xs ++ x ∷ []) ≡ Some (ys ++ y ∷ [])
-all_of-push f [] ys x y e g = ap (option_and_then (λ z. Some (z ∷ []))) g ∙ ap (λ zs. Some (zs ++ y ∷ [])) (some_same [] ys e)
+all_of-push f [] ys x y e g = ap (option_and_then (λ z. Some (z ∷ []))) g ∙ ap (λ zs. Some (zs ++ y ∷ [])) (same_Some [] ys e)
 all_of-push f (z ∷ zs) ys x y e g = grown y ys (f z) (all_of f zs) (all_of f (zs ++ x ∷ [])) (λ ws h. all_of-push f zs ws x y h g) e
 
 both-grown : {B : Type 0} (ys zs : List B) (o : Option B) (p q : Option (List B)) → ((ws : List B) → p ≡ Some ws → q ≡ Some (ws ++ zs)) →
     option_and_then (λ w. option_map (λ ws. w ∷ ws) p) o ≡ Some ys → option_and_then (λ w. option_map (λ ws. w ∷ ws) q) o ≡ Some (ys ++ zs)
 both-grown ys zs None p q h e = absurd (none-some ys e)
 both-grown ys zs (Some w) None q h e = absurd (none-some ys e)
-both-grown ys zs (Some w) (Some ws) q h e = ap (option_map (λ vs. w ∷ vs)) (h ws refl) ∙ ap (λ vs. Some (vs ++ zs)) (some_same (w ∷ ws) ys e)
+both-grown ys zs (Some w) (Some ws) q h e = ap (option_map (λ vs. w ∷ vs)) (h ws refl) ∙ ap (λ vs. Some (vs ++ zs)) (same_Some (w ∷ ws) ys e)
 
 -- the results of a list, and of another behind it
 all_of-append : {A B : Type 0} (f : A → Option B) (xs more : List A) (ys zs : List B) → all_of f xs ≡ Some ys → all_of f more ≡ Some zs → all_of f (xs ++ more) ≡ Some (ys ++ zs)
-all_of-append f [] more ys zs e g = g ∙ ap (λ vs. Some (vs ++ zs)) (some_same [] ys e)
+all_of-append f [] more ys zs e g = g ∙ ap (λ vs. Some (vs ++ zs)) (same_Some [] ys e)
 all_of-append f (x ∷ xs) more ys zs e g = both-grown ys zs (f x) (all_of f xs) (all_of f (xs ++ more)) (λ ws h. all_of-append f xs more ws zs h g) e
 
 -- the results so far, and one more

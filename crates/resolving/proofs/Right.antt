@@ -1,7 +1,7 @@
 -- What has a meaning with its arguments has right ones.
 use Rattle.std.proofs.Common.{◌≡◌, ℕ, List, [], ◌∷◌, Bool, true, false, not, ◌&&◌, cond, Option, Some, None, option_and_then, bytes_eq, codes, refl, ap, sym, ◌∙◌}
 use Rattle.std.specs.List.{list_all}
-use Rattle.std.proofs.lemmas.Option.{none-some}
+use Rattle.std.proofs.lemmas.Option.{none-some, same_Some}
 use Rattle.std.proofs.lemmas.Bool.{false≢true}
 use Rattle.leaves.specs.declared.leaf.Leaf.{Leaf}
 use Rattle.leaves.specs.Leaves.{leaf_of}
@@ -16,7 +16,7 @@ use Rattle.resolving.specs.declared.meaning.Meaning.{Meaning}
 use Rattle.resolving.specs.declared.meaning.Meaning.TheVariants as meanings
 use Rattle.resolving.specs.Names.{nameless, where_none, is_array, containers, container_among, declared_or_unknown, other_meaning, leaf_or, container_or, name_meaning, meaning}
 use Rattle.resolving.specs.Resolved.{small_list, list_of, of_one, of_two, contained, alone, meant, tuple_of, type_of, path_type, last_type, segment_type, argument_types, all_types, is_wrong_item, is_wrong_one, is_no_map, are_wrong_in, are_any, are_wrong}
-use Rattle.resolving.proofs.Stands.{some_same, Stand, mapped}
+use Rattle.resolving.proofs.Stands.{Stand, mapped}
 
 -- ---- no name stands for an array
 
@@ -65,7 +65,7 @@ meaning-named p (applied x args) = container-named x.text containers (name_meani
 
 -- what is an array is seen from what it equals
 seen : (a b : Open) → Some a ≡ Some b → is_array_type a ≡ false → is_array_type b ≡ false
-seen a b e f = sym (ap is_array_type (some_same a b e)) ∙ f
+seen a b e f = sym (ap is_array_type (same_Some a b e)) ∙ f
 
 small-not : (t u : Open) → small_list t ≡ Some u → (is_array_type t ≡ true) × (is_array_type u ≡ false)
 small-not (types.items lists.Array t) u e = (refl, seen (types.items lists.SmallVec t) u e refl)

@@ -1,6 +1,6 @@
 -- Type arguments and what they stand for.
 use Rattle.std.proofs.Common.{◌≡◌, ◌≢◌, ℕ, List, [], ◌∷◌, subst, true, not, Option, Some, None, option_map, option_and_then, refl, ap, sym, ◌∙◌, arith}
-use Rattle.std.proofs.lemmas.Option.{none-some}
+use Rattle.std.proofs.lemmas.Option.{none-some, same_Some}
 use Rattle.written_types.specs.Written.{Written, Segment, Arguments, path, reference, tuple, slice, array, trait_object, plain, applied, no_arguments, more_arguments, lifetime_argument, constant_argument, type_argument}
 use Rattle.open_types.specs.declared.open_type.ListHead.{ListHead}
 use Rattle.open_types.specs.declared.open_type.ListHead.TheVariants as lists
@@ -14,9 +14,6 @@ use Rattle.resolving.specs.Names.{types_of, arguments_of, is_array}
 use Rattle.resolving.specs.Resolved.{small_list, list_of, of_one, of_two, contained, alone, meant, type_of, argument_types, is_wrong_item, is_wrong_one, is_no_map, are_wrong_in, are_any, are_wrong}
 use Rattle.resolving.specs.Reading.{segment_arguments}
 
-pub some_same : {A : Type 0} (a b : A) → Some a ≡ Some b → a ≡ b
-some_same a b e = grind arith
-
 -- the types stand for these, one by one
 abbrev pub Stand : (List ℕ → Option ℕ) → List Written → Opens → Type 0
 Stand p [] types.no_types = Unit {0}
@@ -28,23 +25,23 @@ stand-more : (p : List ℕ → Option ℕ) (w : Written) (ws : List Written) (o 
     → option_and_then (λ u. option_map (types.more_types u) rest) o ≡ Some ts → Stand p (w ∷ ws) ts
 stand-more p w ws None rest ts e h q = absurd (none-some ts q)
 stand-more p w ws (Some t) None ts e h q = absurd (none-some ts q)
-stand-more p w ws (Some t) (Some us) ts e h q = subst (Stand p (w ∷ ws)) (some_same (types.more_types t us) ts q) (e, h us refl)
+stand-more p w ws (Some t) (Some us) ts e h q = subst (Stand p (w ∷ ws)) (same_Some (types.more_types t us) ts q) (e, h us refl)
 
 pub stand-arguments : (p : List ℕ → Option ℕ) (args : Arguments) (ts : Opens) → argument_types p args ≡ Some ts → Stand p (types_of args) ts
-stand-arguments p no_arguments ts e = subst (Stand p []) (some_same types.no_types ts e) tt
+stand-arguments p no_arguments ts e = subst (Stand p []) (same_Some types.no_types ts e) tt
 stand-arguments p (more_arguments (lifetime_argument x) rest) ts e = stand-arguments p rest ts e
 stand-arguments p (more_arguments (constant_argument c) rest) ts e = stand-arguments p rest ts e
 stand-arguments p (more_arguments (type_argument w) rest) ts e = stand-more p w (types_of rest) (type_of p w) (argument_types p rest) ts refl (stand-arguments p rest) e
 
 pub stand-segment : (p : List ℕ → Option ℕ) (s : Segment) (ts : Opens) → segment_arguments p s ≡ Some ts → Stand p (types_of (arguments_of s)) ts
-stand-segment p (plain x) ts e = subst (Stand p []) (some_same types.no_types ts e) tt
+stand-segment p (plain x) ts e = subst (Stand p []) (same_Some types.no_types ts e) tt
 stand-segment p (applied x args) ts e = stand-arguments p args ts e
 
 -- ---- what has no meaning with its arguments has wrong ones
 
 pub mapped : {A B : Type 0} (f : A → B) (o : Option A) (y : B) → option_map f o ≡ Some y → (x : A) × (o ≡ Some x) × (f x ≡ y)
 mapped f None y e = absurd (none-some y e)
-mapped f (Some x) y e = (x, refl, some_same (f x) y e)
+mapped f (Some x) y e = (x, refl, same_Some (f x) y e)
 
 small-some : (t u : Open) → types.items lists.Array u ≡ t → small_list t ≡ None → ⊥
 small-some t u e n = none-some (types.items lists.SmallVec u) (sym n ∙ sym (ap small_list e))

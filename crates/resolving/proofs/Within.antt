@@ -1,6 +1,6 @@
 -- The declarations that stand in a resolved type.
 use Rattle.std.proofs.Common.{◌≡◌, ◌<◌, ℕ, List, Bool, true, false, cond, Option, Some, None, option_map, option_and_then, bytes_eq, codes, refl, subst}
-use Rattle.std.proofs.lemmas.Option.{none-some}
+use Rattle.std.proofs.lemmas.Option.{none-some, same_Some}
 use Rattle.leaves.specs.declared.leaf.Leaf.{Leaf}
 use Rattle.leaves.specs.Leaves.{leaf_of}
 use Rattle.diag.specs.declared.span.Span.{Span}
@@ -14,14 +14,14 @@ use Rattle.resolving.specs.declared.meaning.Meaning.{Meaning}
 use Rattle.resolving.specs.declared.meaning.Meaning.TheVariants as meanings
 use Rattle.resolving.specs.Names.{nameless, where_none, container_of, declared_or_unknown, other_meaning, leaf_or, container_or, name_meaning, meaning}
 use Rattle.resolving.specs.Resolved.{small_list, of_one, of_two, contained, alone, meant, tuple_of, type_of, path_type, last_type, segment_type, argument_types, all_types, IsWithin, AreWithin}
-use Rattle.resolving.proofs.Stands.{some_same, mapped}
+use Rattle.resolving.proofs.Stands.{mapped}
 use Rattle.resolving.proofs.Right.{and_some}
 
 module _ (n : ℕ) where
   -- ---- with arguments that are within
 
   small-within : (t u : Open) → IsWithin n t → small_list t ≡ Some u → IsWithin n u
-  small-within (types.items lists.Array t) u w e = subst (IsWithin n) (some_same (types.items lists.SmallVec t) u e) w
+  small-within (types.items lists.Array t) u w e = subst (IsWithin n) (same_Some (types.items lists.SmallVec t) u e) w
   small-within (types.items lists.Vec t) u w e = absurd (none-some u e)
   small-within (types.items lists.LinkedList t) u w e = absurd (none-some u e)
   small-within (types.items lists.SmallVec t) u w e = absurd (none-some u e)
@@ -38,19 +38,19 @@ module _ (n : ℕ) where
   small-within (types.named d ts) u w e = absurd (none-some u e)
 
   one-within : (h : Head) (t u : Open) → IsWithin n t → of_one h t ≡ Some u → IsWithin n u
-  one-within (heads.List lists.Vec) t u w e = subst (IsWithin n) (some_same (types.items lists.Vec t) u e) w
-  one-within (heads.List lists.LinkedList) t u w e = subst (IsWithin n) (some_same (types.items lists.LinkedList t) u e) w
+  one-within (heads.List lists.Vec) t u w e = subst (IsWithin n) (same_Some (types.items lists.Vec t) u e) w
+  one-within (heads.List lists.LinkedList) t u w e = subst (IsWithin n) (same_Some (types.items lists.LinkedList t) u e) w
   one-within (heads.List lists.SmallVec) t u w e = small-within t u w e
-  one-within (heads.List lists.Array) t u w e = subst (IsWithin n) (some_same (types.items lists.Array t) u e) w
-  one-within (heads.Set h) t u w e = subst (IsWithin n) (some_same (types.set h t) u e) w
+  one-within (heads.List lists.Array) t u w e = subst (IsWithin n) (same_Some (types.items lists.Array t) u e) w
+  one-within (heads.Set h) t u w e = subst (IsWithin n) (same_Some (types.set h t) u e) w
   one-within (heads.Map h) t u w e = absurd (none-some u e)
-  one-within heads.Option t u w e = subst (IsWithin n) (some_same (types.option t) u e) w
-  one-within (heads.Through h) t u w e = subst (IsWithin n) (some_same (types.through h t) u e) w
+  one-within heads.Option t u w e = subst (IsWithin n) (same_Some (types.option t) u e) w
+  one-within (heads.Through h) t u w e = subst (IsWithin n) (same_Some (types.through h t) u e) w
 
   two-within : (h : Head) (k t u : Open) → IsWithin n k → IsWithin n t → of_two h k t ≡ Some u → IsWithin n u
   two-within (heads.List h) k t u v w e = absurd (none-some u e)
   two-within (heads.Set h) k t u v w e = absurd (none-some u e)
-  two-within (heads.Map h) k t u v w e = subst (IsWithin n) (some_same (types.map_of h k t) u e) (v, w)
+  two-within (heads.Map h) k t u v w e = subst (IsWithin n) (same_Some (types.map_of h k t) u e) (v, w)
   two-within heads.Option k t u v w e = absurd (none-some u e)
   two-within (heads.Through h) k t u v w e = absurd (none-some u e)
 
@@ -61,7 +61,7 @@ module _ (n : ℕ) where
   contained-within h (types.more_types k (types.more_types t (types.more_types v vs))) u w e = absurd (none-some u e)
 
   alone-within : (a : Open) (ts : Opens) (u : Open) → IsWithin n a → alone a ts ≡ Some u → IsWithin n u
-  alone-within a types.no_types u w e = subst (IsWithin n) (some_same a u e) w
+  alone-within a types.no_types u w e = subst (IsWithin n) (same_Some a u e) w
   alone-within a (types.more_types t ts) u w e = absurd (none-some u e)
 
   abbrev IsBelow : Meaning → Type 0
@@ -113,7 +113,7 @@ module _ (n : ℕ) where
     cons-within : (o : Option Open) (r : Option Opens) (ts : Opens) → option_and_then (λ u. option_map (types.more_types u) r) o ≡ Some ts → ((u : Open) → o ≡ Some u → IsWithin n u) → ((us : Opens) → r ≡ Some us → AreWithin n us) → AreWithin n ts
     cons-within None r ts e f g = absurd (none-some ts e)
     cons-within (Some u) None ts e f g = absurd (none-some ts e)
-    cons-within (Some u) (Some us) ts e f g = subst (AreWithin n) (some_same (types.more_types u us) ts e) (f u refl, g us refl)
+    cons-within (Some u) (Some us) ts e f g = subst (AreWithin n) (same_Some (types.more_types u us) ts e) (f u refl, g us refl)
 
     tuple-within : (ts : Opens) → AreWithin n ts → IsWithin n (tuple_of ts)
     tuple-within types.no_types w = tt
@@ -150,11 +150,11 @@ module _ (n : ℕ) where
           meant-within (meaning p (applied x args)) found.0 u (meaning-below (applied x args)) (arguments_within args found.0 found.1) found.2
 
       arguments_within : (args : Arguments) (ts : Opens) → argument_types p args ≡ Some ts → AreWithin n ts
-      arguments_within no_arguments ts e = subst (AreWithin n) (some_same types.no_types ts e) tt
+      arguments_within no_arguments ts e = subst (AreWithin n) (same_Some types.no_types ts e) tt
       arguments_within (more_arguments (lifetime_argument x) rest) ts e = arguments_within rest ts e
       arguments_within (more_arguments (constant_argument c) rest) ts e = arguments_within rest ts e
       arguments_within (more_arguments (type_argument w) rest) ts e = cons-within (type_of p w) (argument_types p rest) ts e (type_within w) (arguments_within rest)
 
       types_within : (ws : Writtens) (ts : Opens) → all_types p ws ≡ Some ts → AreWithin n ts
-      types_within no_types ts e = subst (AreWithin n) (some_same types.no_types ts e) tt
+      types_within no_types ts e = subst (AreWithin n) (same_Some types.no_types ts e) tt
       types_within (more_types w ws) ts e = cons-within (type_of p w) (all_types p ws) ts e (type_within w) (types_within ws)

@@ -5,7 +5,7 @@ use Rattle.derive_decl.proofs.member.kept_member.Goals as goal
 
 pub returns-in_err-name-clause-refused : goal.returns-in_err-name-clause-refused
 returns-in_err-name-clause-refused c =
-    let p = err_from_is_err_and c.from_residual-in_err-name.result c.from_residual-in_err-name.ensures.1 in
+    let p = err_from_is_err_and c.from_residual.result c.from_residual.ensures.1 in
     let rows = c.args.container.now.config.now.renames in
     rw (p.1, p.2)
     (elim c.in_err-name.ensures.refused [
