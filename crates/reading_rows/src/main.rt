@@ -1,20 +1,19 @@
 //! Rows of the calls that read a source: what each is given, and what it must answer.
 #![tactic(auto)]
 
-mod refusals;
+mod answers;
+mod attribute_lists;
+mod calls;
+mod declared;
+mod inputs;
+mod laws;
+mod literal_texts;
+mod readers;
+mod token_values;
 mod trees;
+mod types;
 
-use anyhow::bail;
 use rows::{Row, Tally};
-use std::alloc::Global;
-
-/// What the call of the row answers.
-fn told(alloc: Global, row: &Row) -> anyhow::Result<String> {
-    match row.call.as_str() {
-        "lex" => trees::lexed(alloc, &row.given),
-        other => bail!("no call {other}"),
-    }
-}
 
 fn main(rt: HostRuntime) -> anyhow::Result<()> {
     let mut tally = Tally::default();
@@ -22,7 +21,7 @@ fn main(rt: HostRuntime) -> anyhow::Result<()> {
         let Some(row) = Row::from_line(rt.alloc(), line?.as_str())? else {
             continue;
         };
-        let told = told(rt.alloc(), &row)?;
+        let told = calls::told(rt.alloc(), &row)?;
         if let Some(difference) = tally.compare(rt.alloc(), &row, told.as_str())? {
             println!(rt; "{difference}")?;
         }

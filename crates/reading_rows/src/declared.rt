@@ -1,0 +1,107 @@
+//! Declarations.
+
+use crate::answers::{equality, refused};
+use crate::attribute_lists::first_word;
+use crate::inputs::{source, two};
+use serde_json::Value;
+use std::alloc::{AllocError, Global};
+use syntax::{Attribute, Body, Declaration, Declarations, Field, Fields, Meta, parse_declarations};
+
+/// The texts of doc comments and the first words of other attributes, each in brackets.
+fn attributes_text(alloc: Global, attributes: &[Attribute]) -> Result<String, AllocError> {
+    let texts: Vec<String> = attributes
+        .iter()
+        .map(|attribute| attribute_text(alloc, attribute))
+        .try_collect(alloc)?;
+    texts.join(alloc, "")
+}
+
+fn attribute_text(alloc: Global, attribute: &Attribute) -> Result<String, AllocError> {
+    let text = match &attribute.meta {
+        Meta::Doc(text) => text.as_str(),
+        _ => first_word(attribute),
+    };
+    format!(in alloc; "[{text}] ")
+}
+
+/// The attributes, the name or `_`, and the span.
+fn field_text(alloc: Global, field: &Field) -> Result<String, AllocError> {
+    let name = match &field.ident {
+        Some(ident) => ident.text.as_str(),
+        None => "_",
+    };
+    let attributes = attributes_text(alloc, field.attrs.as_slice())?;
+    let span = field.span;
+    format!(in alloc;
+        "{}{name} {}..{}",
+        attributes.as_str(),
+        span.start,
+        span.end
+    )
+}
+
+fn fields_text(alloc: Global, fields: &[Field]) -> Result<String, AllocError> {
+    let texts: Vec<String> = fields
+        .iter()
+        .map(|field| field_text(alloc, field))
+        .try_collect(alloc)?;
+    texts.join(alloc, ", ")
+}
+
+/// The fields in the brackets of their form.
+fn body_text(alloc: Global, body: &Body) -> Result<String, AllocError> {
+    let Body::Struct(fields) = body;
+    match fields {
+        Fields::Named(fields) => {
+            format!(in alloc; " {{{}}}", fields_text(alloc, fields.as_slice())?)
+        }
+        Fields::Unnamed(fields) => {
+            format!(in alloc; " ({})", fields_text(alloc, fields.as_slice())?)
+        }
+        Fields::Unit => Ok(String::new(alloc)),
+    }
+}
+
+/// The attributes, the name, the span and the fields.
+fn declaration_text(alloc: Global, declaration: &Declaration) -> Result<String, AllocError> {
+    let attributes = attributes_text(alloc, declaration.attrs.as_slice())?;
+    let body = body_text(alloc, &declaration.body)?;
+    let (name, span) = (declaration.ident.text.as_str(), declaration.span);
+    format!(in alloc;
+        "{}{name} {}..{}{}",
+        attributes.as_str(),
+        span.start,
+        span.end,
+        body.as_str()
+    )
+}
+
+fn declarations_text(alloc: Global, declarations: &[Declaration]) -> Result<String, AllocError> {
+    let texts: Vec<String> = declarations
+        .iter()
+        .map(|declaration| declaration_text(alloc, declaration))
+        .try_collect(alloc)?;
+    texts.join(alloc, "; ")
+}
+
+/// The declarations of the source.
+pub(crate) fn parsed(alloc: Global, given: &Value) -> anyhow::Result<String> {
+    let source = source(alloc, given)?;
+    match parse_declarations(alloc, source.as_str()) {
+        Ok(declarations) => Ok(declarations_text(alloc, declarations.items.as_slice())?),
+        Err(error) => Ok(refused(alloc, &error)?),
+    }
+}
+
+/// The declarations of a source that is of the grammar.
+fn given_declarations(alloc: Global, given: &Value) -> anyhow::Result<Declarations> {
+    let source = source(alloc, given)?;
+    Ok(parse_declarations(alloc, source.as_str())?)
+}
+
+/// Whether the declarations of two sources are equal.
+pub(crate) fn compared(alloc: Global, given: &Value) -> anyhow::Result<String> {
+    let (one, other) = two(given)?;
+    let are_equal = given_declarations(alloc, one)? == given_declarations(alloc, other)?;
+    Ok(equality(are_equal).to_string(alloc)?)
+}
