@@ -1,5 +1,5 @@
 -- What stands behind results that may be missing.
-use Rattle.std.proofs.Common.{List, ◌∷◌, Option, Some, None, option_map, option_and_then, ◌≡◌, refl, arith}
+use Rattle.std.proofs.Common.{List, ◌∷◌, Option, Some, None, option_map, option_and_then, ◌≡◌, refl}
 use Rattle.std.proofs.lemmas.Option.{none-some, same_Some}
 
 -- what stands behind a `Some`

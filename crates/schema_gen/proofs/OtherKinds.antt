@@ -1,10 +1,11 @@
 -- Refusals of a source have another kind than those of a configuration.
-use Rattle.std.proofs.Common.{◌≡◌, ◌⊎◌, ℕ, List, [], ◌∷◌, inl, inr, subst, codes, Option, Some, None, Result, Ok, Err, IsSomeAnd, Any}
+use Rattle.std.proofs.Common.{◌≡◌, ◌∙◌, ◌⊎◌, ℕ, List, [], ◌∷◌, inl, inr, sym, subst, codes, Option, Some, None, Result, Ok, Err, IsSomeAnd, Any}
 use Rattle.diag.specs.Diagnostics.{HasFirst, diagnostic}
 use Rattle.diag.specs.Refusal.{IsRefusal}
 use Rattle.diag.specs.Span.{no_span}
 use Rattle.diag.specs.declared.diagnostics.DiangosticsInner.{DiangosticsInner}
-use Rattle.diag.specs.declared.error.DeriveError.TheVariants.{Refused}
+use Rattle.diag.specs.declared.error.DeriveError.{DeriveError}
+use Rattle.diag.specs.declared.error.DeriveError.TheVariants.{Refused, Memory}
 use Rattle.diag.specs.declared.kind.Kind.{Kind}
 use Rattle.diag.specs.declared.kind.Kind.TheVariants.{BadConfig, TooLong, TooDeep, Syntax, DuplicateName, UnknownType, Arity, TypeSize, TooManyInstances, InlineDepth, TooManyCopies, MissingRow, SerdeTag, BadValue}
 use Rattle.diag.specs.declared.span.Span.{Span}
@@ -25,6 +26,11 @@ use Rattle.derive_decl.specs.Faults.{container_items, IsFaultyName}
 use Rattle.instances.specs.Bounds.{IsRefusalOf, IsUnbounded}
 use Rattle.compose.specs.Faults.{kept_named, IsFaulty, AreAtFault, IsBeyond, IsRefused}
 use Rattle.schema_gen.specs.Refusals.{IsRefusedSource}
+
+-- an error that refuses is no want of memory
+pub refuses : (P : DeriveError → Type 0) (e : DeriveError) (ds : List DiangosticsInner) → (e ≡ Memory) ⊎ P e → e ≡ Refused ds → P (Refused ds)
+refuses P e ds (inl memory) is = absurd (let both : ◌≡◌ {A = DeriveError} Memory (Refused ds) = sym memory ∙ is in cc)
+refuses P e ds (inr holds) is = subst P is holds
 
 -- the refusal of a configuration has its kind
 pub config_kind : (kind : Kind) (ds : List DiangosticsInner) → IsBadConfig (Refused ds) → HasFirst ds (λ d. d.kind ≡ kind) → BadConfig ≡ kind

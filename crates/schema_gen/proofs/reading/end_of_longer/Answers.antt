@@ -1,16 +1,20 @@
-use Rattle.std.proofs.Common.{inl, inr, refl}
-use Rattle.diag.specs.declared.kind.Kind.TheVariants.{BadConfig}
+use Rattle.std.proofs.Common.{codes, inl, inr, refl}
+use Rattle.diag.specs.Refusal.{IsRefusal}
+use Rattle.diag.specs.Span.{no_span}
+use Rattle.diag.specs.declared.kind.Kind.TheVariants.{BadConfig, TooLong}
 use Rattle.schema_gen.specs.Owed.{Owed}
-use Rattle.schema_gen.proofs.OtherKinds.{long_kind}
+use Rattle.schema_gen.proofs.OtherKinds.{long_kind, refuses}
 use Rattle.schema_gen.proofs.reading.end_of_longer.Goals as goal
 
-pub returns-in-Ok-clause-owed : goal.returns-in-Ok-clause-owed
-returns-in-Ok-clause-owed c = λ words tells held left config source configured all long.
-    c.refused.ensures.owed words tells held left (inr (record { config = config; text = source }, record { config = configured; text = all }, inl (long, c.in-Ok.ensures)))
+pub returns-in-Refused-clause-owed : goal.returns-in-Refused-clause-owed
+returns-in-Refused-clause-owed c = λ words tells held left config source configured all long.
+    let is = refuses (IsRefusal TooLong no_span (codes "the source is longer than 1048576 bytes")) c.too_long.result _ c.too_long.ensures c.in-Refused.is in
+    c.refused.ensures.owed words tells held left (inr (record { config = config; text = source }, record { config = configured; text = all }, inl (long, is)))
 
-pub returns-in-Ok-clause-no_bad_config : goal.returns-in-Ok-clause-no_bad_config
-returns-in-Ok-clause-no_bad_config c = λ is. long_kind _ c.in-Ok.ensures (c.refused.ensures.kind BadConfig is)
+pub returns-in-Refused-clause-no_bad_config : goal.returns-in-Refused-clause-no_bad_config
+returns-in-Refused-clause-no_bad_config c = λ is.
+    long_kind _ (refuses (IsRefusal TooLong no_span (codes "the source is longer than 1048576 bytes")) c.too_long.result _ c.too_long.ensures c.in-Refused.is) (c.refused.ensures.kind BadConfig is)
 
-pub returns-in-Err-clause-owed : goal.returns-in-Err-clause-owed
+pub returns-in-Memory-clause-owed : goal.returns-in-Memory-clause-owed
 unfolding Owed
-returns-in-Err-clause-owed c = λ words tells held left config source configured all long. ((configured.0, configured.1), refl, refl)
+returns-in-Memory-clause-owed c = λ words tells held left config source configured all long. ((configured.0, configured.1), refl, refl)

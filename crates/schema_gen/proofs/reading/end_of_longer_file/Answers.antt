@@ -2,6 +2,6 @@ use Rattle.std.proofs.Common.{Some, refl}
 use Rattle.schema_gen.specs.Owed.{Owed}
 use Rattle.schema_gen.proofs.reading.end_of_longer_file.Goals as goal
 
-pub returns-in-Err-clause-owed : goal.returns-in-Err-clause-owed
+pub returns-in-Memory-clause-owed : goal.returns-in-Memory-clause-owed
 unfolding Owed
-returns-in-Err-clause-owed c = λ words tells held left path form none. ((Some path, form), refl, refl)
+returns-in-Memory-clause-owed c = λ words tells held left path form none. ((Some path, form), refl, refl)

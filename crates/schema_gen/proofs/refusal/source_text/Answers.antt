@@ -1,5 +1,9 @@
-use Rattle.std.proofs.Common.{inr}
+use Rattle.std.proofs.Common.{inl, inr}
 use Rattle.schema_gen.proofs.refusal.source_text.Goals as goal
 
 pub returns-clause-refused : goal.returns-clause-refused
-returns-clause-refused c = inr (c.requires, (c.broken_span-span.result, c.broken_span-span.ensures, c.in_ok-refusal.ensures))
+returns-clause-refused c =
+    elim c.syntax.ensures [
+      | inl memory ↦ inl memory
+      | inr refuses ↦ inr (c.requires, (c.broken_span.result, c.broken_span.ensures, refuses))
+    ]
