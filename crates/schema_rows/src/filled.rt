@@ -1,0 +1,60 @@
+//! Schemas put at the leaves of a schema.
+
+use crate::forms::form_text;
+use crate::written::schema;
+use diag::List;
+use filling::{CopyLeaf, Fill, filled};
+use schema_core::{Additional, Notes, Object, RefLeaf, Schema, SchemaTypeInner, Tree, TypeWord};
+use serde_json::Value;
+use std::alloc::{AllocError, Global};
+
+/// In the place of each reference an object with that reference under its name.
+struct Objects;
+
+impl Fill for Objects {
+    ghost use Rattle.std.specs.Prelude.{None, []};
+    ghost use Rattle.schema_core.specs.Notes.{no_notes};
+    ghost use Rattle.schema_core.specs.Schema as tree;
+    ghost use Rattle.schema_core.specs.declared.tree.RefLeaf.{RefLeaf as Reference};
+    ghost use Rattle.schema_core.specs.declared.tree.TypeWord.TheVariants.{One};
+    ghost use Rattle.schema_core.specs.declared.tree.SchemaTypeInner.TheVariants as words;
+
+    type Hole = RefLeaf;
+
+    type Leaf = RefLeaf;
+
+    ghost Origin = { Reference };
+
+    ghost origin = { λ l. l };
+
+    ghost Meaning = { Reference };
+
+    ghost meaning = { λ l. l };
+
+    ghost put = { λ _ l. tree.object (record { type_word = One words.Object; format = None; enum_values = None; required = []; minimum = None; notes = no_notes }) (tree.property l.name (tree.leaf l) tree.no_properties) tree.no_part tree.no_part };
+
+    fn fill(&self, alloc: Global, leaf: &RefLeaf) -> Result<Schema, AllocError> {
+        let name = leaf.name.copy(alloc)?;
+        let leaf = leaf.copy_leaf(alloc)?;
+        let mut properties = List::new(alloc);
+        properties.push((name, Tree::Leaf(leaf)))?;
+        let object = Object {
+            ty: TypeWord::One(SchemaTypeInner::Object),
+            format: None,
+            enum_values: None,
+            properties,
+            required: List::new(alloc),
+            additional: Additional::Absent,
+            property_names: None,
+            minimum: None,
+            notes: Notes::new(),
+        };
+        Ok(Tree::Object(Box::new(alloc, object)?))
+    }
+}
+
+/// The JSON of the schema with an object in the place of each reference, which has that reference under its name.
+pub(crate) fn filled_form(alloc: Global, given: &Value) -> anyhow::Result<String> {
+    let filled = filled(alloc, &schema(alloc, given)?, &Objects)?;
+    Ok(form_text(alloc, filled)?)
+}

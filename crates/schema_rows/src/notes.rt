@@ -1,0 +1,65 @@
+//! Notes as rows write them, under the names that they have in JSON.
+
+use anyhow::bail;
+use diag::{List, Text};
+use schema_core::{Json, Notes};
+use serde_json::Value;
+use std::alloc::{AllocError, Global};
+
+pub(crate) fn text(alloc: Global, given: &Value, name: &str) -> Result<Option<Text>, AllocError> {
+    match given.get(name).and_then(Value::as_str) {
+        Some(text) => Ok(Some(Text::new(alloc, text)?)),
+        None => Ok(None),
+    }
+}
+
+/// The value, which has no float.
+fn whole(value: &Value) -> anyhow::Result<Json> {
+    match Json::new(value.clone()?) {
+        Ok(json) => Ok(json),
+        Err(float) => bail!("{float} has a float"),
+    }
+}
+
+fn json(given: &Value, name: &str) -> anyhow::Result<Option<Json>> {
+    match given.get(name) {
+        Some(value) => Ok(Some(whole(value)?)),
+        None => Ok(None),
+    }
+}
+
+/// The values of the list at the name.
+pub(crate) fn jsons(
+    alloc: Global,
+    given: &Value,
+    name: &str,
+) -> anyhow::Result<Option<List<Json>>> {
+    let Some(values) = given.get(name).and_then(Value::as_array) else {
+        return Ok(None);
+    };
+    let mut jsons = List::new(alloc);
+    for value in values {
+        jsons.push(whole(value)?)?;
+    }
+    Ok(Some(jsons))
+}
+
+fn truth(given: &Value, name: &str) -> Option<bool> {
+    given.get(name).and_then(Value::as_bool)
+}
+
+/// The notes among the members of what a row gives.
+pub(crate) fn notes(alloc: Global, given: &Value) -> anyhow::Result<Notes> {
+    Ok(Notes {
+        title: text(alloc, given, "title")?,
+        description: text(alloc, given, "description")?,
+        default: json(given, "default")?,
+        example: json(given, "example")?,
+        examples: jsons(alloc, given, "examples")?,
+        deprecated: truth(given, "deprecated"),
+        read_only: truth(given, "readOnly"),
+        write_only: truth(given, "writeOnly"),
+        content_encoding: text(alloc, given, "contentEncoding")?,
+        content_media_type: text(alloc, given, "contentMediaType")?,
+    })
+}

@@ -1,0 +1,201 @@
+//! Schemas as rows write them.
+//!
+//! A text is a reference to the component of that name. An object says by its member `is` what it is (`object`, `array`,
+//! `oneOf`, `allOf` or `reference`), and its other members are those of the schema's JSON, where each schema in it is a
+//! text. A list has schemas of which each may have `@` for the one before; it stands for the last.
+
+use crate::given::{items_at, text_at};
+use crate::notes::{jsons, notes, text};
+use anyhow::{Context, bail};
+use diag::{List, Text};
+use filling::copy_schema;
+use schema_core::{
+    Additional, AllOfSchema, Array, ArrayItems, Bound, Notes, Object, OneOfSchema, RefLeaf, Schema,
+    SchemaTypeInner, Tree, TypeWord,
+};
+use serde_json::Value;
+use std::alloc::Global;
+
+fn word(given: &Value) -> anyhow::Result<SchemaTypeInner> {
+    match given.as_str().context("a word of a type")? {
+        "object" => Ok(SchemaTypeInner::Object),
+        "string" => Ok(SchemaTypeInner::String),
+        "integer" => Ok(SchemaTypeInner::Integer),
+        "number" => Ok(SchemaTypeInner::Number),
+        "boolean" => Ok(SchemaTypeInner::Boolean),
+        "array" => Ok(SchemaTypeInner::Array),
+        "null" => Ok(SchemaTypeInner::Null),
+        other => bail!("no type {other}"),
+    }
+}
+
+fn type_word(given: &Value) -> anyhow::Result<TypeWord> {
+    match given.get("type") {
+        None => Ok(TypeWord::Any),
+        Some(Value::Array(words)) => {
+            let first = words.first().context("a type")?;
+            Ok(TypeWord::Nullable(word(first)?))
+        }
+        Some(one) => Ok(TypeWord::One(word(one)?)),
+    }
+}
+
+fn bound(given: &Value, name: &str) -> Option<Bound> {
+    let number = given.get(name).and_then(Value::as_number)?;
+    number.as_i128().and_then(Bound::new)
+}
+
+/// A schema in another: the one before, or a reference.
+fn part(alloc: Global, before: &Option<Schema>, given: &Value) -> anyhow::Result<Schema> {
+    match given.as_str().context("a schema in another is a text")? {
+        "@" => {
+            let before = before.as_ref().context("no schema before")?;
+            Ok(copy_schema(alloc, before)?)
+        }
+        name => Ok(Tree::Leaf(RefLeaf {
+            name: Text::new(alloc, name)?,
+            notes: Notes::new(),
+        })),
+    }
+}
+
+fn parts(
+    alloc: Global,
+    before: &Option<Schema>,
+    given: &Value,
+    name: &str,
+) -> anyhow::Result<List<Schema>> {
+    let mut schemas = List::new(alloc);
+    for schema in items_at(given, name) {
+        schemas.push(part(alloc, before, schema)?)?;
+    }
+    Ok(schemas)
+}
+
+fn properties(
+    alloc: Global,
+    before: &Option<Schema>,
+    given: &Value,
+) -> anyhow::Result<List<(Text, Schema)>> {
+    let mut properties = List::new(alloc);
+    if let Some(Value::Object(members)) = given.get("properties") {
+        for (name, schema) in members.iter() {
+            let name = Text::new(alloc, name.as_str())?;
+            properties.push((name, part(alloc, before, schema)?))?;
+        }
+    }
+    Ok(properties)
+}
+
+fn names(alloc: Global, given: &Value) -> anyhow::Result<List<Text>> {
+    let mut names = List::new(alloc);
+    for name in items_at(given, "required") {
+        names.push(Text::new(alloc, name.as_str().context("a name")?)?)?;
+    }
+    Ok(names)
+}
+
+fn additional(
+    alloc: Global,
+    before: &Option<Schema>,
+    given: &Value,
+) -> anyhow::Result<Additional<RefLeaf>> {
+    match given.get("additionalProperties") {
+        None => Ok(Additional::Absent),
+        Some(Value::Bool(truth)) => Ok(Additional::Truth(*truth)),
+        Some(schema) => Ok(Additional::Of(part(alloc, before, schema)?)),
+    }
+}
+
+fn property_names(
+    alloc: Global,
+    before: &Option<Schema>,
+    given: &Value,
+) -> anyhow::Result<Option<Schema>> {
+    match given.get("propertyNames") {
+        None => Ok(None),
+        Some(schema) => Ok(Some(part(alloc, before, schema)?)),
+    }
+}
+
+fn object(alloc: Global, before: &Option<Schema>, given: &Value) -> anyhow::Result<Schema> {
+    let object = Object {
+        ty: type_word(given)?,
+        format: text(alloc, given, "format")?,
+        enum_values: jsons(alloc, given, "enum")?,
+        properties: properties(alloc, before, given)?,
+        required: names(alloc, given)?,
+        additional: additional(alloc, before, given)?,
+        property_names: property_names(alloc, before, given)?,
+        minimum: bound(given, "minimum"),
+        notes: notes(alloc, given)?,
+    };
+    Ok(Tree::Object(Box::new(alloc, object)?))
+}
+
+fn items(
+    alloc: Global,
+    before: &Option<Schema>,
+    given: &Value,
+) -> anyhow::Result<ArrayItems<RefLeaf>> {
+    match given.get("items").context("items of an array")? {
+        Value::Bool(false) => Ok(ArrayItems::False),
+        schema => Ok(ArrayItems::Each(part(alloc, before, schema)?)),
+    }
+}
+
+fn array(alloc: Global, before: &Option<Schema>, given: &Value) -> anyhow::Result<Schema> {
+    let array = Array {
+        nullable: matches!(type_word(given)?, TypeWord::Nullable(_)),
+        items: items(alloc, before, given)?,
+        prefix_items: parts(alloc, before, given, "prefixItems")?,
+        unique: given.get("uniqueItems").and_then(Value::as_bool) == Some(true),
+        max_items: bound(given, "maxItems"),
+        min_items: bound(given, "minItems"),
+        notes: notes(alloc, given)?,
+    };
+    Ok(Tree::Array(Box::new(alloc, array)?))
+}
+
+fn one_of(alloc: Global, before: &Option<Schema>, given: &Value) -> anyhow::Result<Schema> {
+    let items = parts(alloc, before, given, "oneOf")?;
+    let notes = notes(alloc, given)?;
+    Ok(Tree::OneOf(Box::new(alloc, OneOfSchema { items, notes })?))
+}
+
+fn all_of(alloc: Global, before: &Option<Schema>, given: &Value) -> anyhow::Result<Schema> {
+    let items = parts(alloc, before, given, "allOf")?;
+    let notes = notes(alloc, given)?;
+    Ok(Tree::AllOf(Box::new(alloc, AllOfSchema { items, notes })?))
+}
+
+fn reference(alloc: Global, given: &Value) -> anyhow::Result<Schema> {
+    let name = Text::new(alloc, text_at(given, "name")?)?;
+    let notes = notes(alloc, given)?;
+    Ok(Tree::Leaf(RefLeaf { name, notes }))
+}
+
+/// One schema, where `@` stands for the one before.
+fn one(alloc: Global, before: &Option<Schema>, given: &Value) -> anyhow::Result<Schema> {
+    match given.get("is").and_then(Value::as_str) {
+        None => part(alloc, before, given),
+        Some("object") => object(alloc, before, given),
+        Some("array") => array(alloc, before, given),
+        Some("oneOf") => one_of(alloc, before, given),
+        Some("allOf") => all_of(alloc, before, given),
+        Some("reference") => reference(alloc, given),
+        Some(other) => bail!("no schema is {other}"),
+    }
+}
+
+/// The schema that a row writes.
+pub(crate) fn schema(alloc: Global, given: &Value) -> anyhow::Result<Schema> {
+    let Value::Array(written) = given else {
+        return one(alloc, &None, given);
+    };
+    let mut schema = None;
+    for given in written {
+        schema = Some(one(alloc, &schema, given)?);
+    }
+    schema.context("a schema")
+}
