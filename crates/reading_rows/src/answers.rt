@@ -1,20 +1,9 @@
 //! Texts of answers that many calls share.
 
-use diag::{DeriveError, Span};
+use diag::Span;
 use std::alloc::{AllocError, Global};
 use tokens::TokenTree;
 use words::Stop;
-
-/// The kind, the span and the message of a refusal.
-pub(crate) fn refused(alloc: Global, error: &DeriveError) -> Result<String, AllocError> {
-    match error {
-        DeriveError::Refused(refusal) => {
-            let (kind, span) = (refusal.kind(), refusal.span());
-            format!(in alloc; "{kind} {}..{}: {error}", span.start, span.end)
-        }
-        DeriveError::Memory => Err(AllocError),
-    }
-}
 
 /// Why reading stopped, and at which bytes.
 pub(crate) fn stopped(alloc: Global, stop: Stop) -> Result<String, AllocError> {

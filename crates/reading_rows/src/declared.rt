@@ -1,8 +1,9 @@
 //! Declarations.
 
-use crate::answers::{equality, refused};
+use crate::answers::equality;
 use crate::attribute_lists::first_word;
 use crate::inputs::{source, two};
+use rows::refusal_text;
 use serde_json::Value;
 use std::alloc::{AllocError, Global};
 use syntax::{Attribute, Body, Declaration, Declarations, Field, Fields, Meta, parse_declarations};
@@ -89,7 +90,7 @@ pub(crate) fn parsed(alloc: Global, given: &Value) -> anyhow::Result<String> {
     let source = source(alloc, given)?;
     match parse_declarations(alloc, source.as_str()) {
         Ok(declarations) => Ok(declarations_text(alloc, declarations.items.as_slice())?),
-        Err(error) => Ok(refused(alloc, &error)?),
+        Err(error) => Ok(refusal_text(alloc, &error)?),
     }
 }
 

@@ -1,10 +1,11 @@
 //! Token trees.
 
-use crate::answers::{copied, equality, refused};
+use crate::answers::{copied, equality};
 use crate::inputs::{first_tree, number, source, source_trees, two_sources};
 use anyhow::{Context, bail};
 use diag::List;
 use lexing::lex;
+use rows::refusal_text;
 use serde_json::Value;
 use std::alloc::{AllocError, Global};
 use tokens::{Cursor, Token, TokenTree, copy_trees};
@@ -47,7 +48,7 @@ pub(crate) fn lexed(alloc: Global, given: &Value) -> anyhow::Result<String> {
     let source = source(alloc, given)?;
     match lex(alloc, source.as_str()) {
         Ok(trees) => Ok(trees_text(alloc, trees.as_slice())?),
-        Err(error) => Ok(refused(alloc, &error)?),
+        Err(error) => Ok(refusal_text(alloc, &error)?),
     }
 }
 

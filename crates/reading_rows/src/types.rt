@@ -1,9 +1,10 @@
 //! Written types, and the names and paths in them.
 
-use crate::answers::{bytes, copied, equality, refused, stopped, then_left};
+use crate::answers::{bytes, copied, equality, stopped, then_left};
 use crate::inputs::{number, source, source_trees, two};
 use crate::readers::{first_ident, ident_text};
 use anyhow::bail;
+use rows::refusal_text;
 use serde_json::Value;
 use std::alloc::{AllocError, Global};
 use syntax::parse_type;
@@ -100,7 +101,7 @@ pub(crate) fn parsed(alloc: Global, given: &Value) -> anyhow::Result<String> {
     let text = source(alloc, given)?;
     match parse_type(alloc, text.as_str()) {
         Ok(ty) => Ok(type_text(alloc, &ty)?),
-        Err(error) => Ok(refused(alloc, &error)?),
+        Err(error) => Ok(refusal_text(alloc, &error)?),
     }
 }
 

@@ -4,9 +4,11 @@
 #![tactic(auto)]
 
 mod error;
+mod refusal;
 mod row;
 mod tally;
 
 pub use error::RowError;
+pub use refusal::{refusal_text, report_text};
 pub use row::Row;
 pub use tally::Tally;

@@ -2,7 +2,6 @@
 
 ghost use Rattle.scopes.specs.Scopes.{IsScope};
 
-use crate::refusals::refused;
 use crate::structs::struct_text;
 use crate::terms::term_text;
 use anyhow::{Context, bail};
@@ -11,6 +10,7 @@ use configuration::Config;
 use derive_decl::{NamedStructSchema, Root, Schema, UnitStructVariant, UnnamedStructSchema};
 use diag::DeriveError;
 use open_types::OpenType;
+use rows::refusal_text;
 use scopes::{Scope, declared_places};
 use serde_json::Value;
 use std::alloc::{AllocError, Global};
@@ -108,6 +108,6 @@ pub(crate) fn first(alloc: Global, question: Question, given: &Value) -> anyhow:
     };
     match answer(alloc, question, &root, &first.body) {
         Ok(text) => Ok(text),
-        Err(error) => Ok(refused(alloc, &error)?),
+        Err(error) => Ok(refusal_text(alloc, &error)?),
     }
 }

@@ -9,7 +9,6 @@ mod judged;
 mod laws;
 mod notes;
 mod places;
-mod refusals;
 mod remarks;
 mod structs;
 mod targets;

@@ -3,7 +3,6 @@
 ghost use Rattle.scopes.specs.Scopes.{IsScope};
 
 use crate::given::{is_said, text_at};
-use crate::refusals::refused;
 use crate::remarks::comments;
 use crate::terms::{named, term_text};
 use anyhow::bail;
@@ -12,6 +11,7 @@ use component::{
 };
 use configuration::Config;
 use diag::DeriveError;
+use rows::refusal_text;
 use scopes::{Scope, declared_places};
 use serde_json::Value;
 use std::alloc::Global;
@@ -75,7 +75,7 @@ fn made(alloc: Global, given: &Value) -> anyhow::Result<Result<ComponentSchema, 
 pub(crate) fn place(alloc: Global, given: &Value) -> anyhow::Result<String> {
     match made(alloc, given)? {
         Ok(made) => Ok(term_text(alloc, &made.to_term(alloc)?)?),
-        Err(error) => Ok(refused(alloc, &error)?),
+        Err(error) => Ok(refusal_text(alloc, &error)?),
     }
 }
 

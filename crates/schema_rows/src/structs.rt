@@ -1,10 +1,10 @@
 //! What declarations are resolved to.
 
-use crate::refusals::refused;
 use anyhow::Context;
 use configuration::Config;
 use derive_decl::{Form, Member, Struct, structs_of};
 use diag::Text;
+use rows::refusal_text;
 use scopes::declared_places;
 use serde_json::Value;
 use std::alloc::{AllocError, Global};
@@ -80,6 +80,6 @@ pub(crate) fn structs(alloc: Global, given: &Value) -> anyhow::Result<String> {
     let config = Config::new(alloc);
     match structs_of(alloc, &declarations, &places, &config) {
         Ok(structs) => Ok(structs_text(alloc, structs.as_slice())?),
-        Err(error) => Ok(refused(alloc, &error)?),
+        Err(error) => Ok(refusal_text(alloc, &error)?),
     }
 }
