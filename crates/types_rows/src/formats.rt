@@ -1,9 +1,9 @@
 //! Formats.
 
 use crate::given::text;
-use crate::refusals::refused;
 use anyhow::{Context, bail, ensure};
 use lexing::lex;
+use rows::refusal_text;
 use serde_json::Value;
 use std::alloc::{AllocError, Global};
 use syntax::parse_type;
@@ -49,6 +49,6 @@ pub(crate) fn parsed(alloc: Global, given: &Value) -> anyhow::Result<String> {
     };
     match KnownFormat::parse(alloc, value, &ident_of(alloc, attribute)?) {
         Ok(format) => copy_text(alloc, &format),
-        Err(error) => Ok(refused(alloc, &error)?),
+        Err(error) => Ok(refusal_text(alloc, &error)?),
     }
 }

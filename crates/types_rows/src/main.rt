@@ -7,7 +7,6 @@ mod names;
 mod parameters;
 mod parts;
 mod places;
-mod refusals;
 mod resolved;
 mod samples;
 mod schema_types;

@@ -2,8 +2,8 @@
 
 use crate::given::text;
 use crate::parts::push_after;
-use crate::refusals::refused;
 use diag::DeriveError;
+use rows::refusal_text;
 use scopes::{declared_places, places_of};
 use serde_json::Value;
 use std::alloc::{AllocError, Global};
@@ -27,7 +27,7 @@ fn told(
 ) -> Result<String, AllocError> {
     match found {
         Ok(places) => places_text(alloc, &places),
-        Err(error) => refused(alloc, &error),
+        Err(error) => refusal_text(alloc, &error),
     }
 }
 

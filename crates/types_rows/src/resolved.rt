@@ -6,12 +6,12 @@ ghost use Rattle.resolving.specs.Resolved.{IsWithin};
 ghost use Rattle.syntax.specs.Items.{declarations_view};
 
 use crate::given::{number, pair, text};
-use crate::refusals::refused;
 use anyhow::ensure;
 use configuration::Config;
 use diag::DeriveError;
 use open_types::{ClosedType, OpenType, closed_types_stay, substitute};
 use resolving::{resolve_type, resolved_have_no_fault};
+use rows::refusal_text;
 use scopes::{Scope, declared_places, resolve};
 use serde_json::Value;
 use std::alloc::{AllocError, Global};
@@ -62,7 +62,7 @@ pub(crate) fn read_in(alloc: Global, source: &str, written: &str) -> anyhow::Res
 fn told(alloc: Global, found: Result<OpenType, DeriveError>) -> Result<String, AllocError> {
     match found {
         Ok(ty) => format!(in alloc; "{ty:?}"),
-        Err(error) => refused(alloc, &error),
+        Err(error) => refusal_text(alloc, &error),
     }
 }
 
@@ -99,7 +99,7 @@ fn undeclared(alloc: Global, ty: &WrittenType) -> Result<String, AllocError> {
     let places = BTreeMap::new(alloc);
     match resolve_type(alloc, &places, ty) {
         Ok(ty) => tuple_text(alloc, &ty),
-        Err(error) => refused(alloc, &error),
+        Err(error) => refusal_text(alloc, &error),
     }
 }
 
