@@ -1,0 +1,77 @@
+//! From sources to the documents of their components.
+
+use crate::given::{list_at, member, text_at};
+use crate::parts::source_of;
+use crate::refusals::refused;
+use acceptance::component_accepts;
+use anyhow::bail;
+use compose::{Derived, derive_components};
+use configuration::Config;
+use diag::DeriveError;
+use serde_json::Value;
+use std::alloc::Global;
+
+/// How often references are followed, one behind the other.
+const DEPTH: usize = 9;
+
+/// What the call of the crate `compose` answers.
+pub(crate) fn told(alloc: Global, call: &str, given: &Value) -> anyhow::Result<String> {
+    match call {
+        "derive" => derived(alloc, given, &Config::new(alloc)),
+        "derive configured" => {
+            let config = Config::from_value(alloc, member(given, "configuration")?)?;
+            derived(alloc, member(given, "source")?, &config)
+        }
+        "refusal" => refusal(alloc, given),
+        "accepted" => accepted(alloc, given),
+        other => bail!("no call {other}"),
+    }
+}
+
+/// The document without the new line that ends it.
+fn line_of(document: &str) -> anyhow::Result<&str> {
+    match document.strip_suffix('\n') {
+        Some(line) => Ok(line),
+        None => bail!("no new line at the end of {document}"),
+    }
+}
+
+/// What is derived of the source. Its callers need nothing of what the derivation ensures.
+fn derive(alloc: Global, source: &str, config: &Config) -> Result<Derived, DeriveError> {
+    derive_components(alloc, source, config)
+}
+
+/// The document of the source without the new line that ends it, or the refusal.
+fn derived(alloc: Global, source: &Value, config: &Config) -> anyhow::Result<String> {
+    let source = source_of(alloc, source)?;
+    match derive(alloc, source.as_str(), config) {
+        Ok(derived) => {
+            let text = derived.components.to_text(alloc)?;
+            Ok(String::from_str(alloc, line_of(text.as_str())?)?)
+        }
+        Err(error) => Ok(refused(alloc, &error)?),
+    }
+}
+
+/// The refusal of the source, or that there is none.
+fn refusal(alloc: Global, given: &Value) -> anyhow::Result<String> {
+    let source = source_of(alloc, given)?;
+    match derive(alloc, source.as_str(), &Config::new(alloc)) {
+        Ok(_derived) => Ok(String::from_str(alloc, "no refusal")?),
+        Err(error) => Ok(refused(alloc, &error)?),
+    }
+}
+
+/// Those of the values that the source's component of the name accepts, as a JSON list.
+fn accepted(alloc: Global, given: &Value) -> anyhow::Result<String> {
+    let (source, name) = (text_at(given, "source")?, text_at(given, "name")?);
+    let derived = derive(alloc, source, &Config::new(alloc))?;
+    let document = derived.components.to_value(alloc)?;
+    let mut accepted = Vec::new(alloc);
+    for value in list_at(given, "values")? {
+        if component_accepts(&document, name, value, DEPTH) {
+            accepted.push(value.clone()?)?;
+        }
+    }
+    Ok(Value::Array(accepted).to_string(alloc)?)
+}

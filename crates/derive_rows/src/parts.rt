@@ -1,0 +1,100 @@
+//! Bytes that a row gives in parts, so that a long source is a short row.
+//!
+//! A part is a text, the number of a byte, `{"repeat": [text, times]}`, or `{"numbered": [parts, from, to]}`: the parts for each
+//! number from the one up to, and without, the other, which stands in place of each `#`, and the next one in place of each `@`.
+
+use crate::given::{count_of, list_of, member, pair_of, text_of};
+use anyhow::{Context, bail};
+use serde_json::Value;
+use std::alloc::{AllocError, Global};
+
+fn push_repeated(bytes: &mut Vec<u8>, text: &str, times: usize) -> Result<(), AllocError> {
+    for _ in 0..times {
+        bytes.extend_from_slice(text.as_bytes())?;
+    }
+    Ok(())
+}
+
+fn push_part(bytes: &mut Vec<u8>, part: &Value) -> anyhow::Result<()> {
+    match part {
+        Value::String(text) => push_repeated(bytes, text.as_str(), 1)?,
+        Value::Number(_) => bytes.push(u8::try_from(count_of(part)?)?)?,
+        other => {
+            let (text, times) = pair_of(member(other, "repeat")?)?;
+            push_repeated(bytes, text_of(text)?, count_of(times)?)?;
+        }
+    }
+    Ok(())
+}
+
+/// The text of the parts without numbered ones.
+fn piece_of(alloc: Global, given: &Value) -> anyhow::Result<String> {
+    let mut bytes = Vec::new(alloc);
+    for part in list_of(given)? {
+        push_part(&mut bytes, part)?;
+    }
+    Ok(String::from_utf8(bytes)?)
+}
+
+fn push_number(
+    alloc: Global,
+    bytes: &mut Vec<u8>,
+    piece: &str,
+    number: usize,
+) -> Result<(), AllocError> {
+    let this = format!(in alloc; "{number}")?;
+    let next = format!(in alloc; "{}", number.saturating_add(1))?;
+    for byte in piece.as_bytes() {
+        match *byte {
+            b'#' => bytes.extend_from_slice(this.as_bytes())?,
+            b'@' => bytes.extend_from_slice(next.as_bytes())?,
+            other => bytes.push(other)?,
+        }
+    }
+    Ok(())
+}
+
+fn push_numbered(alloc: Global, bytes: &mut Vec<u8>, given: &Value) -> anyhow::Result<()> {
+    let [parts, from, to] = list_of(given)? else {
+        bail!("parts and two numbers");
+    };
+    let piece = piece_of(alloc, parts)?;
+    for number in count_of(from)?..count_of(to)? {
+        push_number(alloc, bytes, piece.as_str(), number)?;
+    }
+    Ok(())
+}
+
+/// The bytes of a text, or of a list of parts.
+pub(crate) fn bytes_of(alloc: Global, given: &Value) -> anyhow::Result<Vec<u8>> {
+    let mut bytes = Vec::new(alloc);
+    let Some(parts) = given.as_array() else {
+        push_part(&mut bytes, given)?;
+        return Ok(bytes);
+    };
+    for part in parts.as_slice() {
+        match part.get("numbered") {
+            Some(numbered) => push_numbered(alloc, &mut bytes, numbered)?,
+            None => push_part(&mut bytes, part)?,
+        }
+    }
+    Ok(bytes)
+}
+
+/// The bytes of the member, or none where there is no member.
+pub(crate) fn bytes_at(alloc: Global, given: &Value, name: &str) -> anyhow::Result<Vec<u8>> {
+    match given.get(name) {
+        Some(member) => bytes_of(alloc, member),
+        None => Ok(Vec::new(alloc)),
+    }
+}
+
+/// The text of a text, or of a list of parts.
+pub(crate) fn source_of(alloc: Global, given: &Value) -> anyhow::Result<String> {
+    Ok(String::from_utf8(bytes_of(alloc, given)?)?)
+}
+
+/// The bytes as a text.
+pub(crate) fn shown(bytes: &[u8]) -> anyhow::Result<&str> {
+    str::from_utf8(bytes).context("bytes in UTF-8")
+}
