@@ -4,21 +4,16 @@ ghost use Rattle.scopes.specs.Scopes.{IsScope};
 
 use crate::structs::struct_text;
 use crate::terms::term_text;
-use anyhow::{Context, bail};
-use component::{Container, ToTerm};
-use configuration::Config;
+use component::ToTerm;
 use derive_decl::{NamedStructSchema, Root, Schema, UnitStructVariant, UnnamedStructSchema};
 use diag::DeriveError;
 use open_types::OpenType;
-use rows::refusal_text;
-use scopes::{Scope, declared_places};
-use serde_json::Value;
 use std::alloc::{AllocError, Global};
-use syntax::{Body, Field, Fields, parse_declarations};
+use syntax::{Body, Field, Fields};
 
 /// What is asked of a declaration.
 #[derive(Clone, Copy)]
-pub(crate) enum Question {
+pub(crate) enum OfDeclaration {
     /// The JSON of its schema.
     Schema,
     /// The types of its places.
@@ -54,60 +49,36 @@ fn fields_of(body: &Body) -> &[Field] {
     }
 }
 
-fn answer(
+/// The JSON of what has a term.
+fn text_of<T: ToTerm>(alloc: Global, made: &T) -> Result<String, DeriveError>
+    requires { T.is_ready made.now }
+{
+    Ok(term_text(alloc, made.to_term(alloc)?)?)
+}
+
+/// The answer for the declaration with this root and this body.
+pub(crate) fn of_declaration(
     alloc: Global,
-    question: Question,
+    question: OfDeclaration,
     root: &Root<'_>,
     body: &Body,
 ) -> Result<String, DeriveError>
     requires { IsScope root.now.container.now.scope.now }
 {
     let schema = Schema::new(body, root.attributes, root.ident, root.container);
-    let text = match question {
-        Question::Schema => term_text(alloc, &schema.to_term(alloc)?)?,
-        Question::PlaceTypes => types_text(alloc, schema.place_types(alloc)?.as_slice())?,
-        Question::Resolved => struct_text(alloc, &schema.resolve(alloc)?)?,
-        Question::StructTerm => term_text(alloc, &schema.resolve(alloc)?.term(alloc)?)?,
-        Question::NamedStruct => {
-            let made = NamedStructSchema::new(alloc, root, fields_of(body))?;
-            term_text(alloc, &made.to_term(alloc)?)?
+    let fields = fields_of(body);
+    match question {
+        OfDeclaration::Schema => text_of(alloc, &schema),
+        OfDeclaration::PlaceTypes => {
+            Ok(types_text(alloc, schema.place_types(alloc)?.as_slice())?)
         }
-        Question::UnnamedStruct => {
-            let made = UnnamedStructSchema::new(alloc, root, fields_of(body))?;
-            term_text(alloc, &made.to_term(alloc)?)?
-        }
-        Question::UnitStruct => {
-            let made = UnitStructVariant::new(alloc, root)?;
-            term_text(alloc, &made.to_term(alloc)?)?
-        }
-    };
-    Ok(text)
-}
-
-/// The answer for the first declaration of the source, or its refusal.
-pub(crate) fn first(alloc: Global, question: Question, given: &Value) -> anyhow::Result<String> {
-    let declarations = parse_declarations(alloc, given.as_str().context("a source")?)?;
-    let places = declared_places(alloc, &declarations)?;
-    let [first, ..] = declarations.items.as_slice() else {
-        bail!("no declaration");
-    };
-    let scope = Scope {
-        declarations: &declarations,
-        places: &places,
-        owner: 0,
-    };
-    let config = Config::new(alloc);
-    let container = Container {
-        scope: &scope,
-        config: &config,
-    };
-    let root = Root {
-        ident: &first.ident,
-        attributes: first.attrs.as_slice(),
-        container: &container,
-    };
-    match answer(alloc, question, &root, &first.body) {
-        Ok(text) => Ok(text),
-        Err(error) => Ok(refusal_text(alloc, &error)?),
+        OfDeclaration::Resolved => Ok(struct_text(alloc, &schema.resolve(alloc)?)?),
+        OfDeclaration::StructTerm => text_of(alloc, &schema.resolve(alloc)?),
+        OfDeclaration::NamedStruct => text_of(alloc, &NamedStructSchema::new(alloc, root, fields)?),
+        OfDeclaration::UnnamedStruct => text_of(
+            alloc,
+            &UnnamedStructSchema::new(alloc, root, fields)?,
+        ),
+        OfDeclaration::UnitStruct => text_of(alloc, &UnitStructVariant::new(alloc, root)?),
     }
 }

@@ -1,15 +1,12 @@
 //! Schemas put at the leaves of a schema.
 
-use crate::forms::form_text;
-use crate::written::schema;
 use diag::List;
-use filling::{CopyLeaf, Fill, filled};
+use filling::{CopyLeaf, Fill};
 use schema_core::{Additional, Notes, Object, RefLeaf, Schema, SchemaTypeInner, Tree, TypeWord};
-use serde_json::Value;
 use std::alloc::{AllocError, Global};
 
 /// In the place of each reference an object with that reference under its name.
-struct Objects;
+pub(crate) struct Objects;
 
 impl Fill for Objects {
     ghost use Rattle.std.specs.Prelude.{None, []};
@@ -51,10 +48,4 @@ impl Fill for Objects {
         };
         Ok(Tree::Object(Box::new(alloc, object)?))
     }
-}
-
-/// The JSON of the schema with an object in the place of each reference, which has that reference under its name.
-pub(crate) fn filled_form(alloc: Global, given: &Value) -> anyhow::Result<String> {
-    let filled = filled(alloc, &schema(alloc, given)?, &Objects)?;
-    Ok(form_text(alloc, filled)?)
 }

@@ -1,6 +1,7 @@
 //! Rows of the calls that make schemas and say what they accept: what each is given, and what it must answer.
 #![tactic(auto)]
 
+mod components;
 mod declared;
 mod filled;
 mod forms;
@@ -10,63 +11,67 @@ mod laws;
 mod notes;
 mod places;
 mod remarks;
+mod sources;
 mod structs;
 mod targets;
 mod terms;
 mod values;
 mod written;
 
-use crate::declared::Question;
+use crate::components::{OfComponents, of_components};
+use crate::declared::OfDeclaration;
+use crate::forms::{OfSchema, of_schema};
+use crate::places::OfPlace;
+use crate::sources::{OfFirst, of_source};
 use anyhow::bail;
 use rows::{Row, Tally};
+use serde_json::Value;
 use std::alloc::Global;
 
-/// What the call of the row answers.
-fn told(alloc: Global, row: &Row) -> anyhow::Result<String> {
-    let given = &row.given;
-    match row.call.as_str() {
+/// What the call answers.
+fn told(alloc: Global, call: &str, given: &Value) -> anyhow::Result<String> {
+    match call {
         "accepts" => judged::schema_accepts(alloc, given),
         "component_accepts" => judged::component_accepts(alloc, given),
-        "json" => values::json(alloc, given),
+        "json" => Ok(values::json(alloc, given)?),
         "bound" => values::bound(alloc, given),
-        "bound_zero" => values::zero(alloc),
+        "bound_zero" => Ok(values::zero(alloc)?),
         "form" => forms::form(alloc, given),
-        "insert" => forms::inserted(alloc, given),
-        "get" => forms::found(alloc, given),
-        "names" => forms::names(alloc, given),
-        "to_value" => forms::document(alloc, given),
-        "to_text" => forms::document_text(alloc, given),
-        "document_accepts" => forms::document_accepts(alloc, given),
-        "filled" => filled::filled_form(alloc, given),
-        "copied" => forms::copied_form(alloc, given),
-        "copy_schema" => forms::copy_form(alloc, given),
+        "filled" => of_schema(alloc, OfSchema::Filled, given),
+        "copied" => of_schema(alloc, OfSchema::Copied, given),
+        "copy_schema" => of_schema(alloc, OfSchema::Copy, given),
+        "insert" => of_components(alloc, None, given),
+        "get" => of_components(alloc, Some(OfComponents::Found), given),
+        "names" => of_components(alloc, Some(OfComponents::Names), given),
+        "to_value" => of_components(alloc, Some(OfComponents::Document), given),
+        "to_text" => of_components(alloc, Some(OfComponents::DocumentText), given),
+        "document_accepts" => of_components(alloc, Some(OfComponents::Accepted), given),
         "law" => laws::called(alloc, given),
-        _ => place_told(alloc, row),
+        "inline_order" => targets::order(alloc, given),
+        "are_more_copies" => targets::copies(alloc, given),
+        "place_term" => Ok(remarks::argument_form(alloc, given)?),
+        "description" => Ok(remarks::description(alloc, given)?),
+        "noted" => Ok(remarks::noted_form(alloc, given)?),
+        "any_object" => Ok(remarks::object_form(alloc, given)?),
+        "null_default" => Ok(remarks::null_form(alloc, given)?),
+        "structs_of" => of_source(alloc, None, given),
+        _ => of_source(alloc, Some(question(call)?), given),
     }
 }
 
-/// What a call on a place or on a declaration answers.
-fn place_told(alloc: Global, row: &Row) -> anyhow::Result<String> {
-    let given = &row.given;
-    match row.call.as_str() {
-        "place" => places::place(alloc, given),
-        "references" => places::references(alloc, given),
-        "copy_term" => places::copied_place(alloc, given),
-        "place_term" => remarks::argument_form(alloc, given),
-        "description" => remarks::description(alloc, given),
-        "noted" => remarks::noted_form(alloc, given),
-        "any_object" => remarks::object_form(alloc, given),
-        "null_default" => remarks::null_form(alloc, given),
-        "schema" => declared::first(alloc, Question::Schema, given),
-        "place_types" => declared::first(alloc, Question::PlaceTypes, given),
-        "resolve" => declared::first(alloc, Question::Resolved, given),
-        "struct_term" => declared::first(alloc, Question::StructTerm, given),
-        "named_struct" => declared::first(alloc, Question::NamedStruct, given),
-        "unnamed_struct" => declared::first(alloc, Question::UnnamedStruct, given),
-        "unit_struct" => declared::first(alloc, Question::UnitStruct, given),
-        "structs_of" => structs::structs(alloc, given),
-        "inline_order" => targets::order(alloc, given),
-        "are_more_copies" => targets::copies(alloc, given),
+/// What the call asks of a source's first declaration.
+fn question(call: &str) -> anyhow::Result<OfFirst> {
+    match call {
+        "place" => Ok(OfFirst::Place(OfPlace::Schema)),
+        "references" => Ok(OfFirst::Place(OfPlace::References)),
+        "copy_term" => Ok(OfFirst::Place(OfPlace::CopiedTerm)),
+        "schema" => Ok(OfFirst::Declaration(OfDeclaration::Schema)),
+        "place_types" => Ok(OfFirst::Declaration(OfDeclaration::PlaceTypes)),
+        "resolve" => Ok(OfFirst::Declaration(OfDeclaration::Resolved)),
+        "struct_term" => Ok(OfFirst::Declaration(OfDeclaration::StructTerm)),
+        "named_struct" => Ok(OfFirst::Declaration(OfDeclaration::NamedStruct)),
+        "unnamed_struct" => Ok(OfFirst::Declaration(OfDeclaration::UnnamedStruct)),
+        "unit_struct" => Ok(OfFirst::Declaration(OfDeclaration::UnitStruct)),
         other => bail!("no call {other}"),
     }
 }
@@ -77,7 +82,7 @@ fn main(rt: HostRuntime) -> anyhow::Result<()> {
         let Some(row) = Row::from_line(rt.alloc(), line?.as_str())? else {
             continue;
         };
-        let told = told(rt.alloc(), &row)?;
+        let told = told(rt.alloc(), row.call.as_str(), &row.given)?;
         if let Some(difference) = tally.compare(rt.alloc(), &row, told.as_str())? {
             println!(rt; "{difference}")?;
         }

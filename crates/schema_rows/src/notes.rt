@@ -48,18 +48,30 @@ fn truth(given: &Value, name: &str) -> Option<bool> {
     given.get(name).and_then(Value::as_bool)
 }
 
+/// Sets the notes that are texts.
+fn set_texts(alloc: Global, notes: &mut Notes, given: &Value) -> Result<(), AllocError> {
+    notes.title = text(alloc, given, "title")?;
+    notes.description = text(alloc, given, "description")?;
+    notes.content_encoding = text(alloc, given, "contentEncoding")?;
+    notes.content_media_type = text(alloc, given, "contentMediaType")?;
+    Ok(())
+}
+
+/// Sets the notes that are values.
+fn set_values(alloc: Global, notes: &mut Notes, given: &Value) -> anyhow::Result<()> {
+    notes.default = json(given, "default")?;
+    notes.example = json(given, "example")?;
+    notes.examples = jsons(alloc, given, "examples")?;
+    Ok(())
+}
+
 /// The notes among the members of what a row gives.
 pub(crate) fn notes(alloc: Global, given: &Value) -> anyhow::Result<Notes> {
-    Ok(Notes {
-        title: text(alloc, given, "title")?,
-        description: text(alloc, given, "description")?,
-        default: json(given, "default")?,
-        example: json(given, "example")?,
-        examples: jsons(alloc, given, "examples")?,
-        deprecated: truth(given, "deprecated"),
-        read_only: truth(given, "readOnly"),
-        write_only: truth(given, "writeOnly"),
-        content_encoding: text(alloc, given, "contentEncoding")?,
-        content_media_type: text(alloc, given, "contentMediaType")?,
-    })
+    let mut notes = Notes::new();
+    notes.deprecated = truth(given, "deprecated");
+    notes.read_only = truth(given, "readOnly");
+    notes.write_only = truth(given, "writeOnly");
+    set_texts(alloc, &mut notes, given)?;
+    set_values(alloc, &mut notes, given)?;
+    Ok(notes)
 }

@@ -54,11 +54,11 @@ pub(crate) fn named(alloc: Global, of: &OpenType, inline: bool) -> Result<String
     let way = if inline { "Inline" } else { "Reference" };
     match of {
         OpenType::Named(place, _) => format!(in alloc; "{way}{place}"),
-        other => format!(in alloc; "{way}{other:?}"),
+        _ => String::from_str(alloc, "no declaration"),
     }
 }
 
 /// The JSON of the term, with references at its leaves.
-pub(crate) fn term_text(alloc: Global, term: &Term) -> Result<String, AllocError> {
-    form_text(alloc, filled(alloc, term, &References)?)
+pub(crate) fn term_text(alloc: Global, term: Term) -> Result<String, AllocError> {
+    form_text(alloc, filled(alloc, &term, &References)?)
 }

@@ -2,32 +2,34 @@
 
 use anyhow::Context;
 use schema_core::{Bound, Json};
-use serde_json::Value;
-use std::alloc::Global;
+use serde_json::{Map, Value};
+use std::alloc::{AllocError, Global};
 
-/// A copy of the value that is kept, or the value that is given back, under the word that says which.
-pub(crate) fn json(alloc: Global, given: &Value) -> anyhow::Result<String> {
-    let told = match Json::new(given.clone()?) {
-        Ok(json) => {
-            let copy = json.copy(alloc)?;
-            format!(in alloc; "{{\"kept\":{}}}", copy.value())?
-        }
-        Err(back) => format!(in alloc; "{{\"given back\":{back}}}")?,
-    };
-    Ok(told)
+/// The value under the word.
+fn under(alloc: Global, word: &str, value: Value) -> Result<String, AllocError> {
+    let mut told = Map::new(alloc);
+    told.insert(String::from_str(alloc, word)?, value)?;
+    Value::Object(told).to_string(alloc)
+}
+
+/// A copy of the value that is kept, or the value that is given back.
+pub(crate) fn json(alloc: Global, given: &Value) -> Result<String, AllocError> {
+    match Json::new(given.clone()?) {
+        Ok(json) => under(alloc, "kept", json.copy(alloc)?.value().clone()?),
+        Err(back) => under(alloc, "given back", back),
+    }
 }
 
 /// The bound of a number in decimal, or `none`.
 pub(crate) fn bound(alloc: Global, given: &Value) -> anyhow::Result<String> {
     let number = given.as_str().context("a number's text")?.parse::<i128>()?;
-    let told = match Bound::new(number) {
-        Some(bound) => format!(in alloc; "{}", bound.value())?,
-        None => String::from_str(alloc, "none")?,
-    };
-    Ok(told)
+    match Bound::new(number) {
+        Some(bound) => Ok(bound.value().to_string(alloc)?),
+        None => Ok(String::from_str(alloc, "none")?),
+    }
 }
 
 /// The bound that there is always.
-pub(crate) fn zero(alloc: Global) -> anyhow::Result<String> {
-    Ok(format!(in alloc; "{}", Bound::zero().value())?)
+pub(crate) fn zero(alloc: Global) -> Result<String, AllocError> {
+    Bound::zero().value().to_string(alloc)
 }

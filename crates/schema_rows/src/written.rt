@@ -118,18 +118,49 @@ fn property_names(
     }
 }
 
+/// An object that says nothing.
+fn plain(alloc: Global) -> Object<RefLeaf> {
+    Object {
+        ty: TypeWord::Any,
+        format: None,
+        enum_values: None,
+        properties: List::new(alloc),
+        required: List::new(alloc),
+        additional: Additional::Absent,
+        property_names: None,
+        minimum: None,
+        notes: Notes::new(),
+    }
+}
+
+/// Sets what an object says of itself.
+fn set_values(alloc: Global, object: &mut Object<RefLeaf>, given: &Value) -> anyhow::Result<()> {
+    object.ty = type_word(given)?;
+    object.minimum = bound(given, "minimum");
+    object.format = text(alloc, given, "format")?;
+    object.enum_values = jsons(alloc, given, "enum")?;
+    object.notes = notes(alloc, given)?;
+    Ok(())
+}
+
+/// Sets what an object says of its members.
+fn set_members(
+    alloc: Global,
+    object: &mut Object<RefLeaf>,
+    before: &Option<Schema>,
+    given: &Value,
+) -> anyhow::Result<()> {
+    object.properties = properties(alloc, before, given)?;
+    object.required = names(alloc, given)?;
+    object.additional = additional(alloc, before, given)?;
+    object.property_names = property_names(alloc, before, given)?;
+    Ok(())
+}
+
 fn object(alloc: Global, before: &Option<Schema>, given: &Value) -> anyhow::Result<Schema> {
-    let object = Object {
-        ty: type_word(given)?,
-        format: text(alloc, given, "format")?,
-        enum_values: jsons(alloc, given, "enum")?,
-        properties: properties(alloc, before, given)?,
-        required: names(alloc, given)?,
-        additional: additional(alloc, before, given)?,
-        property_names: property_names(alloc, before, given)?,
-        minimum: bound(given, "minimum"),
-        notes: notes(alloc, given)?,
-    };
+    let mut object = plain(alloc);
+    set_values(alloc, &mut object, given)?;
+    set_members(alloc, &mut object, before, given)?;
     Ok(Tree::Object(Box::new(alloc, object)?))
 }
 
@@ -145,14 +176,17 @@ fn items(
 }
 
 fn array(alloc: Global, before: &Option<Schema>, given: &Value) -> anyhow::Result<Schema> {
+    let nullable = matches!(type_word(given)?, TypeWord::Nullable(_));
+    let notes = notes(alloc, given)?;
+    let prefix_items = parts(alloc, before, given, "prefixItems")?;
     let array = Array {
-        nullable: matches!(type_word(given)?, TypeWord::Nullable(_)),
+        nullable,
         items: items(alloc, before, given)?,
-        prefix_items: parts(alloc, before, given, "prefixItems")?,
+        prefix_items,
         unique: given.get("uniqueItems").and_then(Value::as_bool) == Some(true),
         max_items: bound(given, "maxItems"),
         min_items: bound(given, "minItems"),
-        notes: notes(alloc, given)?,
+        notes,
     };
     Ok(Tree::Array(Box::new(alloc, array)?))
 }

@@ -1,0 +1,97 @@
+//! Sources, and what is asked of them.
+
+ghost use Rattle.std.specs.Prelude.{◌≡◌, ℕ, List};
+ghost use Rattle.std.specs.BTreeMap.{get_by_text};
+ghost use Rattle.scopes.specs.Names.{place_among};
+ghost use Rattle.syntax.specs.Items.{declarations_view};
+
+use crate::declared::{OfDeclaration, of_declaration};
+use crate::places::{OfPlace, of_place};
+use crate::structs::structs_text;
+use component::Container;
+use configuration::Config;
+use derive_decl::{Root, structs_of};
+use diag::DeriveError;
+use rows::refusal_text;
+use scopes::{Scope, declared_places};
+use serde_json::Value;
+use std::alloc::Global;
+use std::collections::BTreeMap;
+use syntax::{Declarations, parse_declarations};
+
+/// The source of a row that gives none.
+const SOURCE: &str = "struct A { x: u8 } struct B { y: u8 }";
+
+/// What is asked of the first declaration of a source.
+#[derive(Clone, Copy)]
+pub(crate) enum OfFirst {
+    /// Something of itself.
+    Declaration(OfDeclaration),
+    /// Something of a place in it.
+    Place(OfPlace),
+}
+
+/// The answer for the first of the declarations, or `no declaration`.
+fn first(
+    alloc: Global,
+    question: OfFirst,
+    declarations: &Declarations,
+    places: &BTreeMap<String, usize>,
+    given: &Value,
+) -> Result<String, DeriveError>
+    requires { (name : List ℕ) → get_by_text places.now name ≡ place_among (declarations_view declarations.now) name }
+{
+    let [first, ..] = declarations.items.as_slice() else {
+        return Ok(String::from_str(alloc, "no declaration")?);
+    };
+    let scope = Scope {
+        declarations: &*declarations,
+        places: &*places,
+        owner: 0,
+    };
+    let config = Config::new(alloc);
+    let container = Container {
+        scope: &scope,
+        config: &config,
+    };
+    let root = Root {
+        ident: &first.ident,
+        attributes: first.attrs.as_slice(),
+        container: &container,
+    };
+    match question {
+        OfFirst::Declaration(question) => of_declaration(alloc, question, &root, &first.body),
+        OfFirst::Place(question) => of_place(alloc, question, &container, given),
+    }
+}
+
+/// The structs of all declarations.
+fn structs(
+    alloc: Global,
+    declarations: &Declarations,
+    places: &BTreeMap<String, usize>,
+) -> Result<String, DeriveError>
+    requires { (name : List ℕ) → get_by_text places.now name ≡ place_among (declarations_view declarations.now) name }
+{
+    let config = Config::new(alloc);
+    let structs = structs_of(alloc, declarations, places, &config)?;
+    Ok(structs_text(alloc, structs.as_slice())?)
+}
+
+/// The answer for the first declaration of the source that the row gives, or for all where none is asked for, or the refusal.
+pub(crate) fn of_source(
+    alloc: Global,
+    question: Option<OfFirst>,
+    given: &Value,
+) -> anyhow::Result<String> {
+    let declarations = parse_declarations(alloc, given.as_str().unwrap_or(SOURCE))?;
+    let places = declared_places(alloc, &declarations)?;
+    let told = match question {
+        Some(question) => first(alloc, question, &declarations, &places, given),
+        None => structs(alloc, &declarations, &places),
+    };
+    match told {
+        Ok(text) => Ok(text),
+        Err(error) => Ok(refusal_text(alloc, &error)?),
+    }
+}
