@@ -1,12 +1,7 @@
 -- Characters of a text, and runs of them.
-use Rattle.std.proofs.Common.{◌≡◌, ℕ, ◌<◌, ◌≤◌, ◌⊎◌, inl, inr, List, [], ◌∷◌, ◌++◌, length, refl, ap, sym, ◌∙◌, arith, cond, Bool, true, false, ◌&&◌, length-append}
-use Rattle.std.proofs.lemmas.Str.{len_utf8_bounds, length-encode}
+use Rattle.std.proofs.Common.{◌≡◌, ℕ, ◌≤◌, ◌⊎◌, inl, inr, List, [], ◌∷◌, ◌++◌, length, refl, ap, sym, ◌∙◌, arith, cond, Bool, true, false, ◌&&◌, length-append}
 use Rattle.std.specs.List.{list_all}
-use Rattle.std.specs.Prelude.{encode_utf8}
 use Rattle.lexing.specs.Scanning.{skip}
-
-pub encode_utf8_nonempty : (c : ℕ) → 0 < length (encode_utf8 c)
-encode_utf8_nonempty c = let bounds = len_utf8_bounds c in omega (arith, length-encode c)
 
 -- ---- tests
 pub either : {A : Type 0} {x y z : A} → (b : Bool) → cond b x y ≡ z → ((b ≡ true) × (x ≡ z)) ⊎ ((b ≡ false) × (y ≡ z))

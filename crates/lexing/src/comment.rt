@@ -7,7 +7,8 @@ ghost use Rattle.lexing.specs.declared.comment.Mark.TheVariants.{Opens, Closes};
 ghost use Rattle.lexing.specs.Scanning.{IsMark, open_after, closing_at, comment_kind, comment_at, Finds, FindsPiece};
 
 use crate::piece::PieceKind;
-use crate::text::{Run, after_run, after_two, begins_with, split_first_char};
+use crate::text::{Run, after_run, after_two, begins_with};
+use literals::split_first_char;
 use tokens::TokenKind;
 
 /// What stands at the front of a text in a block comment.

@@ -7,7 +7,7 @@ ghost use Rattle.tokens.specs.declared.token.TokenKind.TheVariants.{Ident};
 ghost use Rattle.lexing.specs.RawStrings.{hashes_at, after_letter, opening_at, NoneCloses};
 
 use crate::piece::PieceKind;
-use crate::text::split_first_char;
+use literals::split_first_char;
 use tokens::TokenKind;
 
 /// More signs `#` than a raw string may have.

@@ -9,10 +9,10 @@ ghost use Rattle.lexing.specs.Scanning.{bracket_class, class_of, after_colon, or
 use crate::comment::comment;
 use crate::piece::{LexError, Piece, PieceKind};
 use crate::raw::{MORE_HASHES, is_never_closed, unclosed_after};
-use crate::text::{Run, after_run, begins_with, is_white, split_first_char};
+use crate::text::{Run, after_run, begins_with, is_white};
 use crate::word::{after_identifier, starts_name};
 use diag::{List, Span};
-use literals::after_literal;
+use literals::{after_literal, split_first_char};
 use std::alloc::Global;
 use tokens::{Bracket, TokenKind};
 

@@ -5,23 +5,14 @@ ghost use Rattle.std.specs.Str.{IsUtf8};
 ghost use Rattle.lexing.specs.Pieces.{is_white, begins_with, begins_with_two};
 ghost use Rattle.lexing.specs.Scanning.{continues, skip};
 
+use literals::split_first_char;
+
 /// What a run of characters is part of.
 #[derive(Clone, Copy)]
 pub enum Run {
     White,
     Name,
     Line,
-}
-
-/// The first character, and what follows it.
-pub fn split_first_char(text: &str) -> Option<(char, &str)>
-    ensures { MatchOption result (chars text.now ≡ []) (λ p. (chars text.now ≡ p.0 ∷ chars p.1.now) × (length p.1.now < length text.now) × IsUtf8 p.1.now) }
-{
-    let mut chars = text.chars();
-    match chars.next() {
-        Some(c) => Some((c, chars.as_str())),
-        None => None,
-    }
 }
 
 pub fn begins_with(first: char, text: &str) -> bool

@@ -4,7 +4,8 @@ ghost use Rattle.std.specs.Prelude.{◌≡◌, chars};
 ghost use Rattle.lexing.specs.Pieces.{starts_name};
 ghost use Rattle.lexing.specs.Scanning.{name_at, raw_name_at, identifier_at, Finds};
 
-use crate::text::{Run, after_run, after_two, split_first_char};
+use crate::text::{Run, after_run, after_two};
+use literals::split_first_char;
 
 pub fn starts_name(c: char) -> bool
     ensures { result ≡ starts_name c }

@@ -1,5 +1,5 @@
 -- What stands where a word was read.
-use Rattle.std.proofs.Common.{◌≡◌, ◌∙◌, List, ◌∷◌, refl, ap, sym, Bool, true, false, cond, Some, None, Ok}
+use Rattle.std.proofs.Common.{◌≡◌, ◌∙◌, List, ◌∷◌, refl, ap, sym, true, Some, Ok}
 use Rattle.diag.specs.declared.span.Span.{Span}
 use Rattle.tokens.specs.declared.token.Bracket.{Bracket}
 use Rattle.tokens.specs.declared.token.Bracket.TheVariants.{Round, Square, Curly}
@@ -8,40 +8,11 @@ use Rattle.written_types.specs.declared.written.Ident.{Ident}
 use Rattle.words.specs.declared.vocabulary.Keyword.{Keyword}
 use Rattle.words.specs.declared.vocabulary.Keyword.TheVariants as keywords
 use Rattle.words.specs.declared.vocabulary.Sign.{Sign}
-use Rattle.words.specs.declared.vocabulary.Sign.TheVariants as signs
 use Rattle.words.specs.Words.{Word, name, underscore, keyword, sign, lifetime, literal, doc, group}
-use Rattle.words.specs.Reading.{same_sign, same_keyword, same_bracket, as_name, as_keyword, as_sign, as_group, name_at, keyword_at, sign_at, group_at}
+use Rattle.words.specs.Reading.{same_keyword, same_bracket, as_name, as_keyword, as_group, name_at, keyword_at, sign_at, group_at}
 use Rattle.lists.proofs.Read.{first_is}
-
-granted : {A : Type 0} {x y : A} → (b : Bool) → cond b (Some x) None ≡ Some y → (b ≡ true) × (x ≡ y)
-granted true e = (refl, cc)
-granted false e = cc
-
-same_sign-is : (j k : Sign) → same_sign j k ≡ true → j ≡ k
-same_sign-is signs.Colons signs.Colons e = refl
-same_sign-is signs.Exclamation signs.Exclamation e = refl
-same_sign-is signs.Hash signs.Hash e = refl
-same_sign-is signs.Dollar signs.Dollar e = refl
-same_sign-is signs.Percent signs.Percent e = refl
-same_sign-is signs.Ampersand signs.Ampersand e = refl
-same_sign-is signs.Star signs.Star e = refl
-same_sign-is signs.Plus signs.Plus e = refl
-same_sign-is signs.Comma signs.Comma e = refl
-same_sign-is signs.Minus signs.Minus e = refl
-same_sign-is signs.Dot signs.Dot e = refl
-same_sign-is signs.Slash signs.Slash e = refl
-same_sign-is signs.Colon signs.Colon e = refl
-same_sign-is signs.Semicolon signs.Semicolon e = refl
-same_sign-is signs.Less signs.Less e = refl
-same_sign-is signs.Equals signs.Equals e = refl
-same_sign-is signs.Greater signs.Greater e = refl
-same_sign-is signs.Question signs.Question e = refl
-same_sign-is signs.At signs.At e = refl
-same_sign-is signs.Caret signs.Caret e = refl
-same_sign-is signs.Bar signs.Bar e = refl
-same_sign-is signs.Tilde signs.Tilde e = refl
-same_sign-is signs.Other signs.Other e = refl
-same_sign-is _ _ e = cc
+use Rattle.words.proofs.Signs.{granted}
+pub use Rattle.words.proofs.Signs.{as_sign-is}
 
 same_keyword-is : (j k : Keyword) → same_keyword j k ≡ true → j ≡ k
 same_keyword-is keywords.Pub keywords.Pub e = refl
@@ -87,16 +58,6 @@ as_keyword-is k (lifetime y) s e = cc
 as_keyword-is k (literal t) s e = cc
 as_keyword-is k (doc t) s e = cc
 as_keyword-is k (group b ts a) s e = cc
-
-pub as_sign-is : (k : Sign) (w : Word) (s : Span) → as_sign k w ≡ Some s → w ≡ sign k s
-as_sign-is k (name y) s e = cc
-as_sign-is k (underscore y) s e = cc
-as_sign-is k (keyword j y) s e = cc
-as_sign-is k (sign j a) s e = let h = granted (same_sign k j) e in ap (λ v. sign v a) (sym (same_sign-is k j h.0)) ∙ ap (λ v. sign k v) h.1
-as_sign-is k (lifetime y) s e = cc
-as_sign-is k (literal t) s e = cc
-as_sign-is k (doc t) s e = cc
-as_sign-is k (group b ts a) s e = cc
 
 as_group-is : (b : Bracket) (w : Word) (g : Trees × Span) → as_group b w ≡ Some g → w ≡ group b g.0 g.1
 as_group-is b (name y) g e = cc

@@ -29,6 +29,15 @@ impl TokenTree {
     }
 }
 
+impl Group {
+    /// Another group with the same bracket, tokens and span.
+    pub fn copy(&self, alloc: Global) -> Result<Group, AllocError>
+        ensures { IfOk result (λ copy. group_view copy ≡ group_view self.now) }
+    {
+        copy_group(alloc, self)
+    }
+}
+
 #[cycle(copy)]
 fn copy_tree(alloc: Global, tree: &TokenTree) -> Result<TokenTree, AllocError>
     ensures { IfOk result (λ copy. tree_view copy ≡ tree_view tree.now) }

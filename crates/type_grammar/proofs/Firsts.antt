@@ -1,11 +1,12 @@
 -- What the readers of single words find.
-use Rattle.std.proofs.Common.{◌≡◌, ◌<◌, List, [], ◌∷◌, length, refl, ap, sym, ◌∙◌, cond, Bool, true, false, Option, Some, None, Ok, Err, arith}
+use Rattle.std.proofs.Common.{◌≡◌, ◌<◌, List, [], ◌∷◌, length, refl, ap, sym, ◌∙◌, Option, Some, None, Ok, Err, arith}
 use Rattle.diag.specs.declared.span.Span.{Span}
 use Rattle.written_types.specs.declared.written.Ident.{Ident}
 use Rattle.words.specs.declared.vocabulary.Sign.{Sign}
 use Rattle.words.specs.declared.vocabulary.Sign.TheVariants as signs
 use Rattle.words.specs.Words.{Word, name, underscore, keyword, sign, lifetime, literal, doc, group}
-use Rattle.words.specs.Reading.{wrong, same_sign, taken, first_as, as_sign, as_lifetime, sign_at, lifetime_at}
+use Rattle.words.specs.Reading.{wrong, taken, first_as, as_sign, as_lifetime, sign_at, lifetime_at}
+pub use Rattle.words.proofs.Signs.{as_sign-is}
 use Rattle.type_grammar.specs.Reading.{kept, after_sign, unless, without, after_lifetimes}
 
 -- the first word is of the kind, or it is not
@@ -38,46 +39,6 @@ sign_found k (w ∷ ws) rest s e = let h = taken-is (as_sign k w) ws rest s e in
 pub sign_missed : (k : Sign) (ws : List Word) → sign_at k ws ≡ Err wrong → after_sign k ws ≡ None
 sign_missed k [] e = refl
 sign_missed k (w ∷ ws) e = ap (λ o. kept o ws) (taken-not (as_sign k w) ws e)
-
-pub same_sign-is : (k j : Sign) → same_sign k j ≡ true → k ≡ j
-same_sign-is signs.Colons signs.Colons e = refl
-same_sign-is signs.Exclamation signs.Exclamation e = refl
-same_sign-is signs.Hash signs.Hash e = refl
-same_sign-is signs.Dollar signs.Dollar e = refl
-same_sign-is signs.Percent signs.Percent e = refl
-same_sign-is signs.Ampersand signs.Ampersand e = refl
-same_sign-is signs.Star signs.Star e = refl
-same_sign-is signs.Plus signs.Plus e = refl
-same_sign-is signs.Comma signs.Comma e = refl
-same_sign-is signs.Minus signs.Minus e = refl
-same_sign-is signs.Dot signs.Dot e = refl
-same_sign-is signs.Slash signs.Slash e = refl
-same_sign-is signs.Colon signs.Colon e = refl
-same_sign-is signs.Semicolon signs.Semicolon e = refl
-same_sign-is signs.Less signs.Less e = refl
-same_sign-is signs.Equals signs.Equals e = refl
-same_sign-is signs.Greater signs.Greater e = refl
-same_sign-is signs.Question signs.Question e = refl
-same_sign-is signs.At signs.At e = refl
-same_sign-is signs.Caret signs.Caret e = refl
-same_sign-is signs.Bar signs.Bar e = refl
-same_sign-is signs.Tilde signs.Tilde e = refl
-same_sign-is signs.Other signs.Other e = refl
-same_sign-is _ _ e = cc
-
-pub chosen : {A : Type 0} {x y : A} → (b : Bool) → cond b (Some x) None ≡ Some y → (b ≡ true) × (x ≡ y)
-chosen true e = (refl, cc)
-chosen false e = cc
-
-pub as_sign-is : (k : Sign) (w : Word) (s : Span) → as_sign k w ≡ Some s → w ≡ sign k s
-as_sign-is k (name x) s e = cc
-as_sign-is k (underscore x) s e = cc
-as_sign-is k (keyword j x) s e = cc
-as_sign-is k (sign j at) s e = let h = chosen (same_sign k j) e in let same = same_sign-is k j h.0 in cc
-as_sign-is k (lifetime x) s e = cc
-as_sign-is k (literal t) s e = cc
-as_sign-is k (doc t) s e = cc
-as_sign-is k (group b ts at) s e = cc
 
 pub as_lifetime-is : (w : Word) (x : Ident) → as_lifetime w ≡ Some x → w ≡ lifetime x
 as_lifetime-is (name y) x e = cc

@@ -10,7 +10,7 @@ ghost use Rattle.type_grammar.specs.Reading.{plain_argument};
 
 use diag::{List, Span, Text};
 use std::alloc::{AllocError, Global};
-use tokens::{Bracket, Group, Token, TokenKind, TokenTree, copy_trees};
+use tokens::{Bracket, Group, Token, TokenKind, TokenTree};
 use words::{Keyword, Sign, Word, lifetime_of, word_of};
 use written_types::GenericArgument;
 
@@ -50,22 +50,11 @@ fn negative(alloc: Global, at: Span, literal: &Token) -> Result<GenericArgument,
     Ok(GenericArgument::Constant(trees))
 }
 
-fn copy_group(alloc: Global, group: &Group) -> Result<Group, AllocError>
-    ensures { IfOk result (λ copy. group_view copy ≡ group_view group.now) }
-{
-    Ok(Group {
-        bracket: group.bracket,
-        trees: copy_trees(alloc, group.trees.as_slice())?,
-        span: group.span,
-    })
-}
-
 /// The constant of what stands in curly brackets.
 fn block(alloc: Global, group: &Group) -> Result<GenericArgument, AllocError>
     ensures { IfOk result (λ a. argument_view a ≡ constant_argument (group_view group.now ▸ end)) }
 {
-    let copy = copy_group(alloc, group)?;
-    constant(alloc, TokenTree::Group(copy))
+    constant(alloc, TokenTree::Group(group.copy(alloc)?))
 }
 
 /// `-` was read: the literal behind it, if one stands there.
