@@ -1,5 +1,6 @@
 pub mod Among
 pub mod Counts
 pub mod Marks
+pub mod Once
 pub mod Orders
 pub mod Paths

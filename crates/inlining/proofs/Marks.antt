@@ -2,7 +2,7 @@
 use Rattle.std.proofs.Common.{◌≡◌, ◌<◌, ◌≤◌, ◌⊎◌, inl, inr, ℕ, zero, suc, ◌+◌, List, [], ◌∷◌, ◌++◌, length, take, get_or, Bool, true, false, not, ◌&&◌, cond, IsTrue, Option, Some, None, MatchOption, is_some, refl, ap, sym, ◌∙◌, subst, arith}
 use Rattle.std.proofs.lemmas.Bool.{and_parts, and_from, cases_Bool, cases_lt, false≢true, not_from_false, not-false, not-true}
 use Rattle.std.proofs.lemmas.List.{take_more, get_or-map, get_or_push, get_or_append_left, length-map, length_push}
-use Rattle.inlining.specs.Inlining.{targets_of, IsAmong}
+use Rattle.inlining.specs.Inlining.{targets_of, IsAmong, AreTargets}
 use Rattle.inlining.specs.Marks.{mark, are_marked, no_marks, next_marks, marks_of, AreRounds, new_marks}
 use Rattle.inlining.proofs.Among.{among-left, among-right, among_cases, targets_at}
 
@@ -30,6 +30,13 @@ unmarked_at marks ts t h m = by (cases_Bool (are_marked marks ts))
     by (inl a) = absurd (false≢true (sym m ∙ marked_at marks ts t a h))
     by (inr a) = a
 
+-- what is marked where the targets were, if their marks stay
+are_marked_still : (before marks : List Bool) (ts : List ℕ) → ((t : ℕ) → IsAmong t ts → IsTrue (mark before t) → IsTrue (mark marks t)) → IsTrue (are_marked before ts) → IsTrue (are_marked marks ts)
+are_marked_still before marks [] all a = a
+are_marked_still before marks (u ∷ ts) all a =
+    let parts = and_parts (mark before u) (are_marked before ts) a in
+    and_from (mark marks u) (are_marked marks ts) (all u (inl refl) parts.0) (are_marked_still before marks ts (λ t i. all t (inr i)) parts.1)
+
 -- ---- rounds
 
 pub mark-none : (g : List (List ℕ)) (d : ℕ) → mark (no_marks g) d ≡ false
@@ -51,6 +58,13 @@ length-marks g (suc n) = length-next g (marks_of g n)
 pub target_marked : (g : List (List ℕ)) (marks : List Bool) (d t : ℕ) → d < length g → IsTrue (mark (next_marks g marks) d) → IsAmong t (targets_of g d) → IsTrue (mark marks t)
 target_marked g marks d t h m i = marked_at marks (targets_of g d) t (sym (mark-next g marks d h) ∙ m) i
 
+-- what a round marked stays marked in the next
+pub marked_still : (g : List (List ℕ)) (n d : ℕ) → AreTargets g → d < length g → IsTrue (mark (marks_of g n) d) → IsTrue (mark (marks_of g (suc n)) d)
+marked_still g zero d targets h m = absurd (false≢true (sym (mark-none g d) ∙ m))
+marked_still g (suc n) d targets h m =
+    mark-next g (marks_of g (suc n)) d h
+    ∙ are_marked_still (marks_of g n) (marks_of g (suc n)) (targets_of g d) (λ t i. marked_still g n t targets (targets d t i)) (sym (mark-next g (marks_of g n) d h) ∙ m)
+
 before_or_last : (n m : ℕ) → n < suc m → (n < m) ⊎ (n ≡ m)
 before_or_last n m h = by (cases_lt n m)
   where
@@ -67,7 +81,7 @@ rounds_push g rounds all n h = by (before_or_last n (length rounds) (omega (arit
 
 -- ---- new marks
 
-among_cond : (b : Bool) (d n : ℕ) → IsAmong d (cond b (n ∷ []) []) → (d ≡ n) × (b ≡ true)
+pub among_cond : (b : Bool) (d n : ℕ) → IsAmong d (cond b (n ∷ []) []) → (d ≡ n) × (b ≡ true)
 among_cond true d n (inl e) = (e, refl)
 among_cond true d n (inr h) = absurd h
 among_cond false d n h = absurd h
@@ -80,16 +94,20 @@ among_cond-of false d e = absurd (false≢true e)
 abbrev pub new_at : List Bool → List Bool → ℕ → List ℕ
 new_at before marks n = cond (mark marks n && not (mark before n)) (n ∷ []) []
 
--- what is newly marked is marked
-pub new_are_marked : (before marks : List Bool) (n d : ℕ) → IsAmong d (new_marks before marks n) → (d < n) × IsTrue (mark marks d)
+-- what is newly marked is marked, and was not before
+abbrev pub IsNew : List Bool → List Bool → ℕ → ℕ → Type 0
+IsNew before marks n d = (d < n) × IsTrue (mark marks d) × (mark before d ≡ false)
+
+pub new_are_marked : (before marks : List Bool) (n d : ℕ) → IsAmong d (new_marks before marks n) → IsNew before marks n d
 new_are_marked before marks zero d h = absurd h
 new_are_marked before marks (suc n) d h = by (among_cases d (new_marks before marks n) (new_at before marks n) h) (new_are_marked before marks n d)
   where
-    by : IsAmong d (new_marks before marks n) ⊎ IsAmong d (new_at before marks n) → (IsAmong d (new_marks before marks n) → (d < n) × IsTrue (mark marks d)) → (d < suc n) × IsTrue (mark marks d)
-    by (inl i) earlier = let r = earlier i in (omega (arith, r.0), r.1)
+    by : IsAmong d (new_marks before marks n) ⊎ IsAmong d (new_at before marks n) → (IsAmong d (new_marks before marks n) → IsNew before marks n d) → IsNew before marks (suc n) d
+    by (inl i) earlier = let r = earlier i in (omega (arith, r.0), r.1, r.2)
     by (inr i) earlier =
         let r = among_cond (mark marks n && not (mark before n)) d n i in
-        (omega (arith, r.0), subst (λ e. IsTrue (mark marks e)) (sym r.0) (and_parts (mark marks n) (not (mark before n)) r.1).0)
+        let parts = and_parts (mark marks n) (not (mark before n)) r.1 in
+        (omega (arith, r.0), subst (λ e. IsTrue (mark marks e)) (sym r.0) parts.0, subst (λ e. mark before e ≡ false) (sym r.0) (not-true (mark before n) parts.1))
 
 -- what is marked and was not before is newly marked
 pub new_among : (before marks : List Bool) (n d : ℕ) → d < n → IsTrue (mark marks d) → mark before d ≡ false → IsAmong d (new_marks before marks n)

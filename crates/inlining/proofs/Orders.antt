@@ -2,7 +2,7 @@
 use Rattle.std.proofs.Common.{◌≡◌, ◌<◌, ◌≤◌, ◌⊎◌, inl, inr, ℕ, zero, suc, List, [], ◌∷◌, ◌++◌, length, take, get_or, Bool, true, false, IsTrue, refl, sym, subst, arith, append_assoc}
 use Rattle.std.proofs.lemmas.Bool.{cases_Bool, cases_lt}
 use Rattle.std.proofs.lemmas.List.{append-nil}
-use Rattle.inlining.specs.Inlining.{targets_of, IsAmong, AreTargets, IsAtMost, AreBehind, IsOrder}
+use Rattle.inlining.specs.Inlining.{targets_of, IsAmong, AreTargets, IsAtMost, AreBehind, AreOnce, IsOrder}
 use Rattle.inlining.specs.Marks.{mark, next_marks, marks_of, new_marks}
 use Rattle.inlining.proofs.Among.{among-left, among-right, targets_past}
 use Rattle.inlining.proofs.Marks.{target_marked, new_are_marked, new_among}
@@ -63,16 +63,16 @@ behind_more g marks order targets all b =
 
 -- ---- at the end
 
-pub is_within : (g : List (List ℕ)) (n most : ℕ) (marks : List Bool) (order : List ℕ) → n ≤ most → marks ≡ marks_of g n → ((d : ℕ) → d < length g → IsTrue (mark marks d)) → AreOrdered g marks order → AreBehind g [] order →
+pub is_within : (g : List (List ℕ)) (n most : ℕ) (marks : List Bool) (order : List ℕ) → n ≤ most → marks ≡ marks_of g n → ((d : ℕ) → d < length g → IsTrue (mark marks d)) → AreOrdered g marks order → AreOnce order → AreBehind g [] order →
     IsAtMost most g × IsOrder g order
-is_within g n most marks order h round marked ordered behind = (
+is_within g n most marks order h round marked ordered once behind = (
   at_most_from_marks g n most h (λ d l. subst (λ ms. IsTrue (mark ms d)) round (marked d l)),
-  record { all = λ d l. ordered d l (marked d l); behind = behind },
+  record { all = λ d l. ordered d l (marked d l); once = once; behind = behind },
 )
 
 -- ---- what stands in an order
 
-behind_of : (g : List (List ℕ)) (seen ds : List ℕ) (d : ℕ) → AreBehind g seen ds → IsAmong d ds → (d < length g) × ((t : ℕ) → IsAmong t (targets_of g d) → IsSeen seen ds t)
+pub behind_of : (g : List (List ℕ)) (seen ds : List ℕ) (d : ℕ) → AreBehind g seen ds → IsAmong d ds → (d < length g) × ((t : ℕ) → IsAmong t (targets_of g d) → IsSeen seen ds t)
 behind_of g seen [] d b i = absurd i
 behind_of g seen (e ∷ ds) d b (inl same) =
     (subst (λ k. k < length g) (sym same) b.0, λ t j. inl (b.1 t (subst (λ k. IsAmong t (targets_of g k)) same j)))

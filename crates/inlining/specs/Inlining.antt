@@ -34,9 +34,15 @@ abbrev pub AreBehind : List (List ℕ) → (seen : List ℕ) → List ℕ → Ty
 AreBehind g seen [] = Unit {0}
 AreBehind g seen (d ∷ ds) = (d < length g) × ((t : ℕ) → IsAmong t (targets_of g d) → IsAmong t seen) × AreBehind g (d ∷ seen) ds
 
--- The list has each declaration, behind its targets.
+-- none stands twice
+abbrev pub AreOnce : List ℕ → Type 0
+AreOnce [] = Unit {0}
+AreOnce (d ∷ ds) = ¬ (IsAmong d ds) × AreOnce ds
+
+-- The list has each declaration once, behind its targets.
 pub record IsOrder (g : List (List ℕ)) (order : List ℕ) : Type 0 where
   pub all : (d : ℕ) → d < length g → IsAmong d order
+  pub once : AreOnce order
   pub behind : AreBehind g [] order
 
 -- The law: each declaration of an order stands behind its targets, by its place.

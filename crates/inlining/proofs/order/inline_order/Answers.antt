@@ -1,9 +1,10 @@
-use Rattle.std.proofs.Common.{◌≡◌, ◌<◌, ◌∙◌, ◌++◌, ◌∷◌, [], ℕ, List, Bool, true, length, IsTrue, ap, sym, subst, arith, add-one}
+use Rattle.std.proofs.Common.{◌≡◌, ◌<◌, ◌∙◌, ◌++◌, ◌∷◌, [], ℕ, suc, List, Bool, true, length, IsTrue, ap, sym, subst, arith, add-one}
 use Rattle.std.proofs.lemmas.Bool.{false≢true}
 use Rattle.std.proofs.lemmas.List.{length_push}
-use Rattle.inlining.specs.Inlining.{AreBehind}
+use Rattle.inlining.specs.Inlining.{IsAmong, AreBehind, AreOnce}
 use Rattle.inlining.specs.Marks.{mark, next_marks, marks_of, new_marks, AreRounds}
 use Rattle.inlining.proofs.Marks.{mark-none, length-marks, length-next, rounds_push, all_marked}
+use Rattle.inlining.proofs.Once.{AreMarked, once_more, marked_more}
 use Rattle.inlining.proofs.Orders.{AreOrdered, ordered_more, behind_more, is_within}
 use Rattle.inlining.proofs.order.inline_order.Goals as goal
 
@@ -16,6 +17,8 @@ rounds-init c =
       count = none;
       rounds = λ n h. absurd (omega (arith, none, h));
       ordered = λ d h m. absurd (false≢true (sym (mark-none g d) ∙ subst (λ ms. mark ms d ≡ true) c.in_ok-marks.ensures m));
+      marked = λ d i. absurd (subst (IsAmong d) c.new-order.ensures i);
+      once = subst AreOnce (sym c.new-order.ensures) tt;
       behind = subst (AreBehind g []) (sym c.new-order.ensures) tt;
     }
 
@@ -25,7 +28,7 @@ returns-then-is_none c =
     let all = all_marked c.as_slice.result.now c.unmarked.result c.is_none.result c.unmarked.ensures c.is_none.ensures c.if-is_none.true in
     let many : length c.rounds.marks ≡ length g = ap length c.rounds.invariant.marks ∙ length-marks g c.rounds.counter in
     let marked : (d : ℕ) → d < length g → IsTrue (mark c.rounds.marks d) = λ d h. subst (λ ms. IsTrue (mark ms d)) c.as_slice.ensures (all d (omega (arith, h, many, ap length c.as_slice.ensures))) in
-    is_within g c.rounds.counter c.args.most c.rounds.marks c.rounds.order (omega arith) c.rounds.invariant.marks marked c.rounds.invariant.ordered c.rounds.invariant.behind
+    is_within g c.rounds.counter c.args.most c.rounds.marks c.rounds.order (omega arith) c.rounds.invariant.marks marked c.rounds.invariant.ordered c.rounds.invariant.once c.rounds.invariant.behind
 
 pub next_marks-requires-clause-marks : goal.next_marks-requires-clause-marks
 next_marks-requires-clause-marks c = ap length (c.as_slice-in-rounds.ensures ∙ c.rounds.invariant.marks) ∙ length-marks c.args.targets.now c.rounds.counter
@@ -49,13 +52,20 @@ rounds-preserved c =
     ∙ ap (λ n. c.rounds.order ++ new_marks marks c.as_slice-in-rounds-3.result.now n) many
     ∙ ap (λ (ms : List Bool). c.rounds.order ++ new_marks marks ms (length g)) after in
     let count : length c.rounds.rounds ≡ c.rounds.counter = c.rounds.invariant.count in
+    let round : marks ≡ marks_of g c.rounds.counter = c.rounds.invariant.marks in
+    let following : c.in_ok-next.next ≡ marks_of g (suc c.rounds.counter) = next ∙ ap (next_marks g) round in
+    let grown : c.push_marked.new.order ≡ c.rounds.order ++ new_marks (marks_of g c.rounds.counter) (marks_of g (suc c.rounds.counter)) (length g) =
+    order ∙ ap (λ (ms : List Bool). c.rounds.order ++ new_marks ms (next_marks g ms) (length g)) round in
     let rounds : c.push.new.self ≡ c.rounds.rounds ++ marks_of g (length c.rounds.rounds) ∷ [] =
     c.in_ok-push.ensures.ok ∙ ap (λ (ms : List Bool). c.rounds.rounds ++ ms ∷ []) (c.rounds.invariant.marks ∙ ap (marks_of g) (sym count)) in
     record {
-      marks = next ∙ ap (next_marks g) c.rounds.invariant.marks ∙ ap (marks_of g) (sym (add-one c.rounds.counter));
+      marks = following ∙ ap (marks_of g) (sym (add-one c.rounds.counter));
       count = omega (arith, ap length rounds, length_push c.rounds.rounds (marks_of g (length c.rounds.rounds)), count);
       rounds = subst (AreRounds g) (sym rounds) (rounds_push g c.rounds.rounds c.rounds.invariant.rounds);
       ordered = subst (AreOrdered g c.in_ok-next.next) (sym order) (subst (λ ms. AreOrdered g ms (c.rounds.order ++ new_marks marks (next_marks g marks) (length g))) (sym next) (ordered_more g marks (next_marks g marks) c.rounds.order c.rounds.invariant.ordered));
+      marked = subst (AreMarked c.in_ok-next.next) (sym grown) (subst (λ ms. AreMarked ms (c.rounds.order ++ new_marks (marks_of g c.rounds.counter) (marks_of g (suc c.rounds.counter)) (length g))) (sym following)
+          (marked_more g c.rounds.counter c.rounds.order c.requires c.rounds.invariant.behind (subst (λ ms. AreMarked ms c.rounds.order) round c.rounds.invariant.marked)));
+      once = subst AreOnce (sym order) (once_more g marks (next_marks g marks) c.rounds.order c.rounds.invariant.marked c.rounds.invariant.once);
       behind = subst (AreBehind g []) (sym order) (behind_more g marks c.rounds.order c.requires c.rounds.invariant.ordered c.rounds.invariant.behind);
     }
 
@@ -72,4 +82,4 @@ returns-in-None c =
     let all : (d : ℕ) → d < length c.as_slice-2.result.now → IsTrue (mark c.as_slice-2.result.now d) = c.in-None.ensures in
     let many : length c.rounds.marks ≡ length g = ap length c.rounds.invariant.marks ∙ length-marks g c.rounds.counter in
     let marked : (d : ℕ) → d < length g → IsTrue (mark c.rounds.marks d) = λ d h. subst (λ ms. IsTrue (mark ms d)) c.as_slice-2.ensures (all d (omega (arith, h, many, ap length c.as_slice-2.ensures))) in
-    is_within g c.rounds.counter c.args.most c.rounds.marks c.rounds.order (omega arith) c.rounds.invariant.marks marked c.rounds.invariant.ordered c.rounds.invariant.behind
+    is_within g c.rounds.counter c.args.most c.rounds.marks c.rounds.order (omega arith) c.rounds.invariant.marks marked c.rounds.invariant.ordered c.rounds.invariant.once c.rounds.invariant.behind
