@@ -2,4 +2,5 @@ pub mod First
 pub mod Faulty
 pub mod Parts
 pub mod Terms
+pub mod TypesFound
 pub mod Whole

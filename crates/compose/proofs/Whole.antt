@@ -197,7 +197,7 @@ module _ (around : Around) where
         none_among (struct_of around) (λ d. Somewhere (λ f. IsFault around.place_of f.ty fault) (kept_fields d.body)) IsSmallItem
         (λ d s is small w. body_sound (field_rules (serde_items d.attrs)) d.body s.form (struct_parts around d s is).1 small w) ds ss e l h
 
-  -- ---- each form has its fields, and each named field its name
+  -- ---- each form has its fields, and each named field its row
 
   empty_form : (rules : FieldRules) (b : BodyItem) (form : FormOf) → body_form around rules b ≡ Some form → b ≡ struct_body (unnamed []) → ⊥
   empty_form rules b form e h = none-some form (sym (ap (body_form around rules) h) ∙ e)
@@ -206,12 +206,6 @@ module _ (around : Around) where
   none_fieldless x ds ss e h =
       none_anywhere (struct_of around) (λ d. (x ≡ d.ident) × (d.body ≡ struct_body (unnamed [])))
       (λ d s is w. empty_form (field_rules (serde_items d.attrs)) d.body s.form (struct_parts around d s is).1 w.1) ds ss e h
-
-  pub none_nameless : (span : Span) (ds : List DeclaredItem) (ss : List StructOf) → all_of (struct_of around) ds ≡ Some ss → Somewhere (λ d. Somewhere (λ f. (f.ident ≡ None) × (span ≡ f.span)) (kept_named d.body)) ds → ⊥
-  none_nameless span ds ss e h =
-      none_anywhere (struct_of around) (λ d. Somewhere (λ f. (f.ident ≡ None) × (span ≡ f.span)) (kept_named d.body))
-      (λ d s is w. let rules = field_rules (serde_items d.attrs) in
-      body_none rules (λ f. (f.ident ≡ None) × (span ≡ f.span)) (λ f m g v. let p = member_parts around rules f m g in none-some p.ident (sym v.0 ∙ p.is)) d.body s.form (struct_parts around d s is).1 w) ds ss e h
 
   pub none_rowless : (refusal : DeriveError) (ds : List DeclaredItem) (ss : List StructOf) → all_of (struct_of around) ds ≡ Some ss → IsRowless around.rows ds refusal → ⊥
   none_rowless refusal ds ss e h =
@@ -271,7 +265,6 @@ settled sound within rows ds ss e small allowed distinct differ derivable = reco
     ];
     resolved = λ fault h. none_faulty around sound fault ds ss e small h;
     fielded = λ x h. none_fieldless around x ds ss e h;
-    named = λ span h. none_nameless around span ds ss e h;
     derivable = derivable;
     written = λ refusal h. none_rowless around refusal ds ss e h;
     allowed = λ refusal h. none_disallowed ds refusal allowed h;

@@ -1,4 +1,4 @@
--- Why declarations have no components: a name given twice or without its row, a type that stands for nothing or is too large, a form without a field, a field without a name, serde's items that contradict each other, an attribute that nothing is derived from, or what is beyond a bound.
+-- Why declarations have no components: a name given twice or without its row, a type that stands for nothing or is too large, a form without a field, serde's items that contradict each other, an attribute that nothing is derived from, or what is beyond a bound.
 use Rattle.std.specs.Prelude.{◌≡◌, ◌⊎◌, ◌||◌, ℕ, List, [], ◌∷◌, ◌++◌, Bool, Option, Some, None, cond, codes}
 use Rattle.std.specs.List.{flat_map}
 use Rattle.diag.specs.Refusal.{IsRefusal, IsSyntaxRefusal}
@@ -52,10 +52,6 @@ IsFaultOf ds fault = Somewhere (λ d. Somewhere (λ f. IsFault (place_among ds) 
 abbrev pub IsFieldless : List DeclaredItem → Ident → Type 0
 IsFieldless ds x = Somewhere (λ d. (x ≡ d.ident) × (d.body ≡ struct_body (unnamed []))) ds
 
--- a named field that is kept has no name
-abbrev pub IsNameless : List DeclaredItem → Span → Type 0
-IsNameless ds span = Somewhere (λ d. Somewhere (λ f. (f.ident ≡ None) × (span ≡ f.span)) (kept_named d.body)) ds
-
 -- the attributes of declarations and their fields, in order
 abbrev pub attributes_in : DeclaredItem → List AttributeItem
 attributes_in d = d.attrs ++ flat_map (λ f. f.attrs) (body_fields d.body)
@@ -88,7 +84,6 @@ pub record AreClear (rows : List RenameRow) (ds : List DeclaredItem) : Type 0 wh
   pub distinct : (x : Ident) → ¬ IsDuplicate rows ds x
   pub resolved : (fault : Fault) → ¬ IsFaultOf ds fault
   pub fielded : (x : Ident) → ¬ IsFieldless ds x
-  pub named : (span : Span) → ¬ IsNameless ds span
   pub derivable : (span : Span) → ¬ IsAttributed ds span
   pub written : (e : DeriveError) → ¬ IsRowless rows ds e
   pub allowed : (e : DeriveError) → ¬ IsDisallowed ds e
@@ -105,7 +100,6 @@ IsFaulty rows ds e =
     ((x : Ident) × IsDuplicate rows ds x × IsRefusal DuplicateName x.span (duplicate_message x.text) e)
     ⊎ ((fault : Fault) × IsFaultOf ds fault × IsRefusedFor fault e)
     ⊎ ((x : Ident) × IsFieldless ds x × IsRefusal Arity x.span fieldless_message e)
-    ⊎ ((span : Span) × IsNameless ds span × IsSyntaxRefusal span e)
     ⊎ IsRowless rows ds e
     ⊎ IsDisallowed ds e
 

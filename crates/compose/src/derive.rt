@@ -1,24 +1,33 @@
 //! From a source to its components.
 
-ghost use Rattle.std.specs.Prelude.{◌≡◌, ◌⊎◌, map, IfOk, IfErr};
+ghost use Rattle.std.specs.Prelude.{◌≡◌, ◌⊎◌, ℕ, List as Items, map, IfOk, IfErr};
+ghost use Rattle.std.specs.BTreeMap.{get_by_text};
 ghost use Rattle.schema_core.specs.Document.{document};
+ghost use Rattle.schema_core.specs.Entries.{names_of};
+ghost use Rattle.open_types.specs.Open.{open_view};
+ghost use Rattle.scopes.specs.Names.{place_among};
 ghost use Rattle.syntax.specs.Items.{declaration_view, declarations_view};
+ghost use Rattle.syntax.specs.Named.{AreNamed};
 ghost use Rattle.derive_decl.specs.Views.{struct_view};
 ghost use Rattle.closing.specs.Described.{AreComponents, Describes};
 ghost use Rattle.instances.specs.Bounds.{AreBounded, IsUnbounded};
 ghost use Rattle.compose.specs.Faults.{AreAtFault, IsDerived, IsRefused};
 ghost use Rattle.compose.specs.Settled.{IsSettled};
+ghost use Rattle.compose.specs.Types.{AreTypesOf};
 
 use crate::attributed::only_derivable;
+use crate::types::types_of;
 use closing::components_of;
 use configuration::Config;
 use derive_decl::{Struct, structs_of};
 use diag::{DeriveError, List};
 use inline_places::{inlining_of, terms_of};
 use instances::inline_order_of;
+use open_types::ClosedType;
 use schema_core::Components;
 use scopes::declared_places;
 use std::alloc::Global;
+use std::collections::BTreeMap;
 use syntax::{Declaration, Declarations, parse_declarations};
 
 /// What is derived of a source.
@@ -26,15 +35,26 @@ use syntax::{Declaration, Declarations, parse_declarations};
 pub struct Derived {
     /// The schema of each declaration under its name.
     pub components: Components,
+    /// The type of each component, in the order of the components: its declaration, without arguments.
+    pub types: List<ClosedType>,
 }
 
-/// The structs of the declarations.
+/// The structs of declarations, and the places of their names.
+#[derive(Drop)]
+struct Settled {
+    structs: List<Struct>,
+    places: BTreeMap<String, usize>,
+}
+
+/// The structs of the declarations, and the places of their names.
 fn settle(
     alloc: Global,
     declarations: &Declarations,
     config: &Config,
-) -> Result<List<Struct>, DeriveError>
-    ensures settled { IfOk result (λ ss. IsSettled config.now.renames (declarations_view declarations.now) (map struct_view ss)) }
+) -> Result<Settled, DeriveError>
+    requires { AreNamed (declarations_view declarations.now) }
+    ensures settled { IfOk result (λ s. IsSettled config.now.renames (declarations_view declarations.now) (map struct_view s.structs)) }
+    ensures places { IfOk result (λ s. (name : Items ℕ) → get_by_text s.places name ≡ place_among (declarations_view declarations.now) name) }
     ensures refused { IfErr result (λ e. (e ≡ DeriveError.Memory) ⊎ AreAtFault config.now.renames (declarations_view declarations.now) e) }
 {
     only_derivable(alloc, declarations)?;
@@ -42,7 +62,7 @@ fn settle(
     let structs = structs_of(alloc, declarations, &places, config)?;
     resolving::resolved_have_no_fault();
     resolving::resolved_are_within();
-    Ok(structs)
+    Ok(Settled { structs, places })
 }
 
 /// The components of the structs, where nothing is beyond its bound.
@@ -68,10 +88,10 @@ fn bounded_components(
 ///
 /// A refusal is of kind `TooDeep` or `Syntax`, where the source cannot be read; or `Syntax`, at an attribute of `schema` or
 /// `repr` or one of `serde` that flattens, from which nothing is derived. Else it is of kind `DuplicateName`, `SerdeTag`,
-/// `BadValue`, `MissingRow`, `UnknownType`, `Arity`, `TypeSize` or `Syntax`: a name that two declarations have comes first;
+/// `BadValue`, `MissingRow`, `UnknownType`, `Arity` or `TypeSize`: a name that two declarations have comes first;
 /// then, declaration by declaration, what serde's attributes of a struct contradict, what is wrong with a field's name or
-/// type, before a name that two members have; a form of unnamed fields without a field is `Arity`, and a named field without
-/// a name, which no source has, `Syntax`. Else it is `TooManyInstances`, `InlineDepth` or `TooManyCopies`, in this order, where the instances are beyond a bound of the
+/// type, before a name that two members have; a form of unnamed fields without a field is `Arity`. Else it is
+/// `TooManyInstances`, `InlineDepth` or `TooManyCopies`, in this order, where the instances are beyond a bound of the
 /// configuration.
 pub fn derive_components(
     alloc: Global,
@@ -82,11 +102,14 @@ pub fn derive_components(
     ensures refused { IfErr result (λ e. (e ≡ DeriveError.Memory) ⊎ IsRefused config.now source.now e) }
     // The document of the components describes the structs of the source.
     ensures describes { IfOk result (λ derived. (made : IsDerived config.now source.now derived.components) × Describes made.structs (document derived.components)) }
+    ensures types { IfOk result (λ derived. (made : IsDerived config.now source.now derived.components) × AreTypesOf made.structs (names_of derived.components) (map open_view derived.types)) }
 {
     let declarations = parse_declarations(alloc, source)?;
-    let structs = settle(alloc, &declarations, config)?;
-    let (items, structs) = (declarations.items.as_slice(), structs.as_slice());
+    syntax::read_fields_are_named();
+    let settled = settle(alloc, &declarations, config)?;
+    let (items, structs) = (declarations.items.as_slice(), settled.structs.as_slice());
     let components = bounded_components(alloc, items, structs, config)?;
+    let types = types_of(alloc, &settled.places, components.names())?;
     closing::components_describe();
-    Ok(Derived { components })
+    Ok(Derived { components, types })
 }

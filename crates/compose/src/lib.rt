@@ -3,6 +3,7 @@
 
 mod attributed;
 mod derive;
+mod types;
 
 pub use closing::{components_describe, references_accept};
 pub use derive::{Derived, derive_components};

@@ -85,10 +85,9 @@ module _ (ds : List DiangosticsInner) (first : HasFirst ds (λ d. d.kind ≡ Bad
   faulty rows items (inl (x, duplicate, is)) = other DuplicateName _ _ (λ e. cc) is
   faulty rows items (inr (inl (fault, found, is))) = other_for fault is
   faulty rows items (inr (inr (inl (x, fieldless, is)))) = other Arity _ _ (λ e. cc) is
-  faulty rows items (inr (inr (inr (inl (span, nameless, is))))) = other Syntax _ _ (λ e. cc) is
-  faulty rows items (inr (inr (inr (inr (inl h))))) =
+  faulty rows items (inr (inr (inr (inl h)))) =
       nowhere _ items (λ d. nowhere (λ f. IsFaultyName rows (rename_rule (serde_items d.attrs)) f (Refused ds)) (kept_named d.body) (rowless rows (rename_rule (serde_items d.attrs)))) h
-  faulty rows items (inr (inr (inr (inr (inr h))))) = nowhere _ items (λ d. disallowed (container_items d.attrs d.body)) h
+  faulty rows items (inr (inr (inr (inr h)))) = nowhere _ items (λ d. disallowed (container_items d.attrs d.body)) h
 
   declared : (c : Configuration) (items : List DeclaredItem) → AreAtFault c.renames items (Refused ds) ⊎ IsBeyond c items (Refused ds) → ⊥
   declared c items (inl (inl (span, attributed, is))) = other Syntax _ _ (λ e. cc) is

@@ -8,3 +8,4 @@ mod Deep
 mod Complete
 mod Answered
 mod TypeText
+mod Named

@@ -4,3 +4,4 @@ pub mod ItemGrammar
 pub mod ItemDepth
 pub mod ItemReading
 pub mod Source
+pub mod Named

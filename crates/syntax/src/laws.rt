@@ -2,6 +2,7 @@
 
 ghost use Rattle.std.specs.Prelude.{◌≡◌, ℕ, List};
 ghost use Rattle.syntax.specs.Items.{DeclaredItem};
+ghost use Rattle.syntax.specs.Named.{ReadFieldsAreNamed};
 ghost use Rattle.syntax.specs.Source.{Reads, ReadsType};
 ghost use Rattle.written_types.specs.Written.{Written};
 
@@ -13,6 +14,11 @@ pub fn one_reading()
 {
     one_cut();
 }
+
+/// What is read has names for its fields in braces.
+pub fn read_fields_are_named()
+    ensures { ReadFieldsAreNamed }
+{}
 
 /// A text reads as at most one type.
 pub fn one_type_reading()

@@ -1,20 +1,46 @@
-use Rattle.std.proofs.Common.{◌≡◌, List, map, subst, inl, inr}
+use Rattle.std.proofs.Common.{◌≡◌, ◌∙◌, ℕ, List, map, option_map, ap, sym, subst, inl, inr}
+use Rattle.std.specs.BTreeMap.{get_by_text}
+use Rattle.std.specs.List.{filter_map}
 use Rattle.std.proofs.lemmas.Result.{err_from_is_err_and}
+use Rattle.diag.specs.declared.span.Span.{Span}
+use Rattle.schema_core.specs.Document.{Entry}
+use Rattle.schema_core.specs.Entries.{names_of}
+use Rattle.open_types.specs.Open.{open_view}
+use Rattle.scopes.specs.Names.{place_in}
+use Rattle.configuration.specs.Configuration.{Configuration}
+use Rattle.syntax.specs.Source.{Reads, NestsTooDeep}
 use Rattle.syntax.specs.declared.item.Declaration.{Declaration}
 use Rattle.syntax.specs.Items.{DeclaredItem, declaration_view, declarations_view}
 use Rattle.derive_decl.specs.declared.structs.Struct.{Struct}
-use Rattle.derive_decl.specs.Structs.{StructOf}
+use Rattle.derive_decl.specs.Structs.{StructOf, struct_names}
 use Rattle.derive_decl.specs.Views.{struct_view}
 use Rattle.closing.specs.Described.{AreComponents}
 use Rattle.instances.specs.Bounds.{AreBounded, IsUnbounded}
 use Rattle.compose.specs.Faults.{IsDerived}
 use Rattle.compose.specs.Settled.{IsSettled}
+use Rattle.compose.specs.Types.{declared, AreTypesOf}
+use Rattle.compose.proofs.TypesFound.{types_are}
 use Rattle.compose.proofs.derive.derive_components.Goals as goal
 
 -- what holds of the slices of two lists holds of the lists
 same_slices : (P : List DeclaredItem → List StructOf → Type 0) {items now : List Declaration} {structs all : List Struct} → now ≡ items → all ≡ structs → P (map declaration_view now) (map struct_view all) → P (map declaration_view items) (map struct_view structs)
 same_slices P {items} {now} {structs} {all} e f h =
     subst (λ (xs : List Struct). P (map declaration_view items) (map struct_view xs)) f (subst (λ (ys : List Declaration). P (map declaration_view ys) (map struct_view all)) e h)
+
+-- what is known of the components of settled declarations
+abbrev derived_of : {c : Configuration} {source : List ℕ} {components : List Entry} (ds : List DeclaredItem) (ss : List StructOf) → Reads source ds → ((span : Span) → ¬ NestsTooDeep source span) →
+    IsSettled c.renames ds ss → AreBounded c ds ss → AreComponents ss components → IsDerived c source components
+derived_of ds ss read shallow settled bounded components = record {
+  declarations = ds;
+  read = read;
+  shallow = shallow;
+  clear = settled.clear;
+  structs = ss;
+  resolved = settled.resolved;
+  bounded = bounded;
+  apart = settled.apart;
+  components_are = components;
+}
 
 pub returns-in_err-declarations-clause-refused : goal.returns-in_err-declarations-clause-refused
 returns-in_err-declarations-clause-refused c =
@@ -25,11 +51,14 @@ returns-in_err-declarations-clause-refused c =
       | inr unread ↦ elim unread [ inl deep ↦ inr (inl deep) | inr unreadable ↦ inr (inr (inl unreadable)) ]
     ])
 
-pub returns-in_err-structs-clause-refused : goal.returns-in_err-structs-clause-refused
-returns-in_err-structs-clause-refused c =
-    let p = err_from_is_err_and c.from_residual-in_err-structs.result c.from_residual-in_err-structs.ensures.1 in
+pub settle-requires : goal.settle-requires
+settle-requires c = c.read_fields_are_named.ensures c.args.source.now (declarations_view c.in_ok-declarations.declarations) c.in_ok-declarations.ensures.found
+
+pub returns-in_err-settled-clause-refused : goal.returns-in_err-settled-clause-refused
+returns-in_err-settled-clause-refused c =
+    let p = err_from_is_err_and c.from_residual-in_err-settled.result c.from_residual-in_err-settled.ensures.1 in
     rw (p.1, p.2)
-    (elim c.in_err-structs.ensures.refused [
+    (elim c.in_err-settled.ensures.refused [
       | inl memory ↦ inl memory
       | inr fault ↦ inr (inr (inr (declarations_view c.in_ok-declarations.declarations, c.in_ok-declarations.ensures.found, c.in_ok-declarations.ensures.shallow, inl fault)))
     ])
@@ -38,8 +67,8 @@ pub returns-in_err-components-clause-refused : goal.returns-in_err-components-cl
 returns-in_err-components-clause-refused c =
     let p = err_from_is_err_and c.from_residual-in_err-components.result c.from_residual-in_err-components.ensures.1 in
     let ds = declarations_view c.in_ok-declarations.declarations in
-    let ss = map struct_view c.in_ok-structs.structs in
-    let settled : IsSettled c.args.config.now.renames ds ss = c.in_ok-structs.ensures.settled in
+    let ss = map struct_view c.in_ok-settled.settled.structs in
+    let settled : IsSettled c.args.config.now.renames ds ss = c.in_ok-settled.ensures.settled in
     rw (p.1, p.2)
     (elim c.in_err-components.ensures.refused [
       | inl memory ↦ inl memory
@@ -49,20 +78,25 @@ returns-in_err-components-clause-refused c =
 pub returns-clause-describes : goal.returns-clause-describes
 returns-clause-describes c =
     let ds = declarations_view c.in_ok-declarations.declarations in
-    let ss = map struct_view c.in_ok-structs.structs in
-    let settled : IsSettled c.args.config.now.renames ds ss = c.in_ok-structs.ensures.settled in
+    let ss = map struct_view c.in_ok-settled.settled.structs in
+    let settled : IsSettled c.args.config.now.renames ds ss = c.in_ok-settled.ensures.settled in
+    let bounded : AreBounded c.args.config.now ds ss = same_slices (λ ds ss. AreBounded c.args.config.now ds ss) c.as_slice-items.ensures c.as_slice-structs.ensures c.in_ok-components.ensures.bounded in
+    let components : AreComponents ss c.in_ok-components.components = same_slices (λ ds ss. AreComponents ss c.in_ok-components.components) c.as_slice-items.ensures c.as_slice-structs.ensures c.in_ok-components.ensures.components in (
+      derived_of ds ss c.in_ok-declarations.ensures.found c.in_ok-declarations.ensures.shallow settled bounded components,
+      c.components_describe.ensures ss c.in_ok-components.components settled.apart settled.within bounded.shallow components,
+    )
+
+pub returns-clause-types : goal.returns-clause-types
+returns-clause-types c =
+    let ds = declarations_view c.in_ok-declarations.declarations in
+    let ss = map struct_view c.in_ok-settled.settled.structs in
+    let place_of = get_by_text c.in_ok-settled.settled.places in
+    let names = names_of c.in_ok-components.components in
+    let settled : IsSettled c.args.config.now.renames ds ss = c.in_ok-settled.ensures.settled in
     let bounded : AreBounded c.args.config.now ds ss = same_slices (λ ds ss. AreBounded c.args.config.now ds ss) c.as_slice-items.ensures c.as_slice-structs.ensures c.in_ok-components.ensures.bounded in
     let components : AreComponents ss c.in_ok-components.components = same_slices (λ ds ss. AreComponents ss c.in_ok-components.components) c.as_slice-items.ensures c.as_slice-structs.ensures c.in_ok-components.ensures.components in
-    let derived : IsDerived c.args.config.now c.args.source.now c.in_ok-components.components =
-    record {
-      declarations = ds;
-      read = c.in_ok-declarations.ensures.found;
-      shallow = c.in_ok-declarations.ensures.shallow;
-      clear = settled.clear;
-      structs = ss;
-      resolved = settled.resolved;
-      bounded = bounded;
-      apart = settled.apart;
-      components_are = components;
-    } in
-    (derived, c.components_describe.ensures ss c.in_ok-components.components settled.apart settled.within bounded.shallow components)
+    let same : (k : List ℕ) → place_of k ≡ place_in k (struct_names ss) = λ k. c.in_ok-settled.ensures.places k ∙ ap (place_in k) (sym settled.names) in
+    let types : map open_view c.in_ok-types.types ≡ filter_map (λ k. option_map declared (place_of k)) names = c.in_ok-types.ensures ∙ ap (filter_map (λ k. option_map declared (place_of k))) c.names.ensures.names in (
+      derived_of ds ss c.in_ok-declarations.ensures.found c.in_ok-declarations.ensures.shallow settled bounded components,
+      subst (AreTypesOf ss names) (sym types) (types_are ss c.in_ok-components.components place_of components same),
+    )

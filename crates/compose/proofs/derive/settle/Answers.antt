@@ -30,7 +30,7 @@ returns-in_err-structs-clause-refused c =
     rw (p.1, p.2)
     (elim c.in_err-structs.ensures.refused [
       | inl memory ↦ inl memory
-      | inr fault ↦ inr (inr (c.in_ok-only_derivable.ensures.derivable, faulty_all c.args.config.now.renames (declarations_view c.args.declarations.now) c.in_err-structs.field-0.0 fault))
+      | inr fault ↦ inr (inr (c.in_ok-only_derivable.ensures.derivable, faulty_all c.args.config.now.renames (declarations_view c.args.declarations.now) c.in_err-structs.field-0.0 c.requires fault))
     ])
 
 pub returns-clause-settled : goal.returns-clause-settled

@@ -28,9 +28,8 @@ clear_text one bounded c source e sound (inr (inr (ds, read, shallow, fault))) =
     by fine (inl (inr (derivable, inl (x, duplicate, is)))) = fine.0.distinct x duplicate
     by fine (inl (inr (derivable, inr (inl (fault, found, is))))) = fine.0.resolved fault found
     by fine (inl (inr (derivable, inr (inr (inl (x, fieldless, is)))))) = fine.0.fielded x fieldless
-    by fine (inl (inr (derivable, inr (inr (inr (inl (span, nameless, is))))))) = fine.0.named span nameless
-    by fine (inl (inr (derivable, inr (inr (inr (inr (inl rowless))))))) = fine.0.written e rowless
-    by fine (inl (inr (derivable, inr (inr (inr (inr (inr disallowed))))))) = fine.0.allowed e disallowed
+    by fine (inl (inr (derivable, inr (inr (inr (inl rowless)))))) = fine.0.written e rowless
+    by fine (inl (inr (derivable, inr (inr (inr (inr disallowed)))))) = fine.0.allowed e disallowed
     by fine (inr (clear, (structs, resolved, unbounded))) = bounded c ds structs e (fine.1 structs resolved) unbounded
 
 long_and_short : (n : ℕ) → most_bytes < n → n ≤ most_bytes → ⊥
