@@ -7,8 +7,8 @@ use Rattle.derive_decl.specs.Structs.{MemberOf, FormOf, named_fields, unnamed_fi
 use Rattle.derive_decl.specs.declared.member.Member.{Member}
 use Rattle.derive_decl.specs.declared.named_struct.NamedStructSchema.{NamedStructSchema}
 use Rattle.derive_decl.specs.declared.unnamed_struct.UnnamedStructSchema.{UnnamedStructSchema}
-use Rattle.derive_decl.specs.declared.structs.Form.{Form}
-use Rattle.derive_decl.specs.declared.structs.Form.TheVariants as forms
+use Rattle.derive_decl.specs.declared.schema_variant.SchemaVariant.{SchemaVariant}
+use Rattle.derive_decl.specs.declared.schema_variant.SchemaVariant.TheVariants as variants
 use Rattle.derive_decl.specs.declared.structs.Struct.{Struct}
 
 -- the names that are declared around, and the rows of the configuration
@@ -24,20 +24,20 @@ named_view s = named_fields s.denies_others (map member_view s.members)
 abbrev pub unnamed_view : UnnamedStructSchema → FormOf
 unnamed_view s = unnamed_fields (map open_view s.types)
 
-abbrev pub form_view : Form → FormOf
-form_view (forms.Named s) = named_view s
-form_view (forms.Unnamed s) = unnamed_view s
-form_view (forms.Unit s) = no_fields
+abbrev pub variant_view : SchemaVariant → FormOf
+variant_view (variants.Named s) = named_view s
+variant_view (variants.Unnamed s) = unnamed_view s
+variant_view (variants.Unit s) = no_fields
 
-abbrev pub form_description : Form → Option (List ℕ)
-form_description (forms.Named s) = s.description
-form_description (forms.Unnamed s) = s.description
-form_description (forms.Unit s) = s.description
+abbrev pub variant_description : SchemaVariant → Option (List ℕ)
+variant_description (variants.Named s) = s.description
+variant_description (variants.Unnamed s) = s.description
+variant_description (variants.Unit s) = s.description
 
-abbrev pub form_deprecated : Form → Bool
-form_deprecated (forms.Named s) = s.deprecated
-form_deprecated (forms.Unnamed s) = s.deprecated
-form_deprecated (forms.Unit s) = s.deprecated
+abbrev pub variant_deprecated : SchemaVariant → Bool
+variant_deprecated (variants.Named s) = s.deprecated
+variant_deprecated (variants.Unnamed s) = s.deprecated
+variant_deprecated (variants.Unit s) = s.deprecated
 
 abbrev pub struct_view : Struct → StructOf
-struct_view s = record { name = s.name; deprecated = form_deprecated s.form; description = form_description s.form; form = form_view s.form }
+struct_view s = record { name = s.name; deprecated = variant_deprecated s.form; description = variant_description s.form; form = variant_view s.form }

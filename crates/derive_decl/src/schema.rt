@@ -1,29 +1,24 @@
 //! The schema of a declaration.
 
-ghost use Rattle.std.specs.Prelude.{◌≡◌, ◌⊎◌, map, IfOk, IfErr, Some};
+ghost use Rattle.std.specs.Prelude.{◌≡◌, ◌⊎◌, map, IfOk, IfErr};
 ghost use Rattle.attributes.specs.Attributes.{attribute_view};
 ghost use Rattle.attributes.specs.AttributeReading.{serde_items};
-ghost use Rattle.std.specs.List.{AllByRecursion};
-ghost use Rattle.schema_core.specs.Meaning.{IsDistinct};
 ghost use Rattle.open_types.specs.Open.{open_view};
 ghost use Rattle.scopes.specs.Scopes.{IsScope};
-ghost use Rattle.syntax.specs.Items.{fields_view, body_view};
-ghost use Rattle.derive_decl.specs.Fields.{field_rules, is_deprecated};
-ghost use Rattle.derive_decl.specs.Structs.{StructOf, form_of, body_form, description_of, names_of, types_of};
-ghost use Rattle.derive_decl.specs.Faults.{kept_in, items_of, container_items, IsSmall, HasSmall, AreAllowed, AreFaulty, IsFaultyBody};
-ghost use Rattle.derive_decl.specs.Views.{known, form_view, form_deprecated, form_description, struct_view};
+ghost use Rattle.syntax.specs.Items.{body_view};
+ghost use Rattle.derive_decl.specs.Structs.{StructOf, types_of};
+ghost use Rattle.derive_decl.specs.Faults.{IsFaultyBody};
+ghost use Rattle.derive_decl.specs.Views.{known, struct_view};
 ghost use Rattle.derive_decl.specs.Whole.{IsResolved};
 
-use crate::named_struct::NamedStructSchema;
 use crate::root::Root;
-use crate::structs::{Form, Struct, types_of};
-use crate::unit_struct::UnitStructVariant;
-use crate::unnamed_struct::UnnamedStructSchema;
+use crate::schema_variant::SchemaVariant;
+use crate::structs::{Struct, types_of};
 use component::{Container, Term, ToTerm};
 use diag::{DeriveError, List};
 use open_types::OpenType;
 use std::alloc::Global;
-use syntax::{Attribute, Body, Fields, Ident};
+use syntax::{Attribute, Body, Ident};
 
 /// A declaration whose schema is asked for.
 #[derive(Clone, Copy)]
@@ -32,46 +27,6 @@ pub struct Schema<'a> {
     pub attributes: &'a [Attribute],
     pub ident: &'a Ident,
     pub container: &'a Container<'a>,
-}
-
-fn fields_form(alloc: Global, root: &Root<'_>, fields: &Fields) -> Result<Form, DeriveError>
-    requires { IsScope root.now.container.now.scope.now }
-    ensures form { IfOk result (λ f. form_of (known root.now.container.now) (field_rules (serde_items (map attribute_view root.now.attributes.now))) (fields_view fields.now) ≡ Some (form_view f)) }
-    ensures deprecated { IfOk result (λ f. form_deprecated f ≡ is_deprecated (map attribute_view root.now.attributes.now)) }
-    ensures description { IfOk result (λ f. form_description f ≡ description_of (map attribute_view root.now.attributes.now)) }
-    ensures distinct { IfOk result (λ f. IsDistinct (names_of (form_view f))) }
-    ensures small { IfOk result (λ _. AllByRecursion IsSmall (kept_in (fields_view fields.now))) }
-    ensures allowed { IfOk result (λ _. AreAllowed (items_of (map attribute_view root.now.attributes.now) (fields_view fields.now))) }
-    ensures refused { IfErr result (λ e. (e ≡ DeriveError.Memory) ⊎ AreFaulty (known root.now.container.now) (serde_items (map attribute_view root.now.attributes.now)) root.now.ident.now (fields_view fields.now) e) }
-{
-    match fields {
-        Fields::Named(fields) => Ok(Form::Named(NamedStructSchema::new(
-            alloc,
-            root,
-            fields.as_slice(),
-        )?)),
-        Fields::Unnamed(fields) => Ok(Form::Unnamed(UnnamedStructSchema::new(
-            alloc,
-            root,
-            fields.as_slice(),
-        )?)),
-        Fields::Unit => Ok(Form::Unit(UnitStructVariant::new(alloc, root)?)),
-    }
-}
-
-fn body_form(alloc: Global, root: &Root<'_>, body: &Body) -> Result<Form, DeriveError>
-    requires { IsScope root.now.container.now.scope.now }
-    ensures form { IfOk result (λ f. body_form (known root.now.container.now) (field_rules (serde_items (map attribute_view root.now.attributes.now))) (body_view body.now) ≡ Some (form_view f)) }
-    ensures deprecated { IfOk result (λ f. form_deprecated f ≡ is_deprecated (map attribute_view root.now.attributes.now)) }
-    ensures description { IfOk result (λ f. form_description f ≡ description_of (map attribute_view root.now.attributes.now)) }
-    ensures distinct { IfOk result (λ f. IsDistinct (names_of (form_view f))) }
-    ensures small { IfOk result (λ _. HasSmall (body_view body.now)) }
-    ensures allowed { IfOk result (λ _. AreAllowed (container_items (map attribute_view root.now.attributes.now) (body_view body.now))) }
-    ensures refused { IfErr result (λ e. (e ≡ DeriveError.Memory) ⊎ IsFaultyBody (known root.now.container.now) (serde_items (map attribute_view root.now.attributes.now)) root.now.ident.now (body_view body.now) e) }
-{
-    match body {
-        Body::Struct(fields) => fields_form(alloc, root, fields),
-    }
 }
 
 impl<'a> Schema<'a> {
@@ -111,7 +66,7 @@ impl<'a> Schema<'a> {
             container: self.container,
         };
         Ok(Struct {
-            form: body_form(alloc, &root, self.body)?,
+            form: SchemaVariant::new(alloc, self.body, &root)?,
             name: self.ident.text.copy(alloc)?,
         })
     }

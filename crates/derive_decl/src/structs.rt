@@ -3,30 +3,20 @@ ghost use Rattle.open_types.specs.Open.{open_view};
 ghost use Rattle.derive_decl.specs.Structs.{member_types, types_of};
 ghost use Rattle.component.specs.Leaves.{term_view};
 ghost use Rattle.derive_decl.specs.Terms.{term};
-ghost use Rattle.derive_decl.specs.Views.{member_view, form_view, struct_view};
+ghost use Rattle.derive_decl.specs.Views.{member_view, variant_view, struct_view};
 
 use crate::member::Member;
-use crate::named_struct::NamedStructSchema;
-use crate::unit_struct::UnitStructVariant;
-use crate::unnamed_struct::UnnamedStructSchema;
+use crate::schema_variant::SchemaVariant;
 use component::{Term, ToTerm};
 use diag::{DeriveError, List, Text};
 use open_types::OpenType;
 use std::alloc::{AllocError, Global};
 
-/// What a declaration is resolved to.
-#[derive(Debug, Drop)]
-pub enum Form {
-    Named(NamedStructSchema),
-    Unnamed(UnnamedStructSchema),
-    Unit(UnitStructVariant),
-}
-
 /// A declared struct with resolved types.
 #[derive(Debug, Drop)]
 pub struct Struct {
     pub name: Text,
-    pub form: Form,
+    pub form: SchemaVariant,
 }
 
 /// The types of the members.
@@ -41,13 +31,13 @@ fn member_types(alloc: Global, members: &[Member]) -> Result<List<OpenType>, All
 }
 
 /// The types of the form's places, in order.
-pub(crate) fn types_of(alloc: Global, form: Form) -> Result<List<OpenType>, AllocError>
-    ensures { IfOk result (λ ts. map open_view ts ≡ types_of (form_view form)) }
+pub(crate) fn types_of(alloc: Global, form: SchemaVariant) -> Result<List<OpenType>, AllocError>
+    ensures { IfOk result (λ ts. map open_view ts ≡ types_of (variant_view form)) }
 {
     match form {
-        Form::Named(form) => member_types(alloc, form.members.as_slice()),
-        Form::Unnamed(form) => Ok(form.types),
-        Form::Unit(_) => Ok(List::new(alloc)),
+        SchemaVariant::Named(form) => member_types(alloc, form.members.as_slice()),
+        SchemaVariant::Unnamed(form) => Ok(form.types),
+        SchemaVariant::Unit(_) => Ok(List::new(alloc)),
     }
 }
 
@@ -56,11 +46,7 @@ impl Struct {
     pub fn term(&self, alloc: Global) -> Result<Term, AllocError>
         ensures { IfOk result (λ t. term_view t ≡ term (struct_view self.now)) }
     {
-        match &self.form {
-            Form::Named(form) => form.term(alloc),
-            Form::Unnamed(form) => form.term(alloc),
-            Form::Unit(form) => form.term(alloc),
-        }
+        self.form.term(alloc)
     }
 }
 

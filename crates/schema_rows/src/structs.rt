@@ -1,6 +1,6 @@
 //! What declarations are resolved to.
 
-use derive_decl::{Form, Member, Struct};
+use derive_decl::{Member, SchemaVariant, Struct};
 use diag::Text;
 use std::alloc::{AllocError, Global};
 
@@ -33,9 +33,9 @@ fn push_remarks(
 }
 
 /// Adds the form, its members, and what is said of it.
-fn push_form(text: &mut String, form: &Form) -> Result<(), AllocError> {
+fn push_form(text: &mut String, form: &SchemaVariant) -> Result<(), AllocError> {
     match form {
-        Form::Named(form) => {
+        SchemaVariant::Named(form) => {
             text.push_str(" named:")?;
             push_members(text, form.members.as_slice())?;
             if form.denies_others {
@@ -43,7 +43,7 @@ fn push_form(text: &mut String, form: &Form) -> Result<(), AllocError> {
             }
             push_remarks(text, form.deprecated, &form.description)
         }
-        Form::Unnamed(form) => {
+        SchemaVariant::Unnamed(form) => {
             text.push_str(if form.types.len() == 1 {
                 " of one"
             } else {
@@ -51,7 +51,7 @@ fn push_form(text: &mut String, form: &Form) -> Result<(), AllocError> {
             })?;
             push_remarks(text, form.deprecated, &form.description)
         }
-        Form::Unit(form) => {
+        SchemaVariant::Unit(form) => {
             text.push_str(" unit")?;
             push_remarks(text, form.deprecated, &form.description)
         }
