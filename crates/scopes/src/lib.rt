@@ -4,8 +4,6 @@
 mod heads;
 mod names;
 mod scope;
-#[cfg(test)]
-mod tests;
 mod text;
 
 pub use names::{Named, declared_places, places_of};
