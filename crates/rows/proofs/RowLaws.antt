@@ -1,5 +1,5 @@
 -- Which data are the parts of a row, and which texts are the lines of rows.
-use Rattle.std.proofs.Common.{◌≡◌, ℕ, suc, List, [], ◌∷◌, length, Option, Some, None, Result, Ok, Err, MatchOption, IfOk, refl, sym, ap, ◌∙◌, subst}
+use Rattle.std.proofs.Common.{◌≡◌, ◌≢◌, ℕ, suc, List, [], ◌∷◌, length, Option, Some, None, Result, Ok, Err, MatchOption, IfOk, refl, sym, ap, ◌∙◌, subst}
 use Rattle.std.specs.declared.alloc.AllocError.{AllocError}
 use Rattle.serde_json.specs.Data.{Data, null, boolean, number, string, array, object, Items, no_items, item}
 use Rattle.serde_json.specs.Find.{as_array}
@@ -7,6 +7,7 @@ use Rattle.serde_json.specs.Read.{read}
 use Rattle.serde_json.specs.View.{items_view}
 use Rattle.serde_json.specs.declared.value.Value.{Value}
 use Rattle.rows.specs.declared.row.Row.{Row}
+use Rattle.rows.specs.Given.{IsNoPair}
 use Rattle.rows.specs.Rows.{AreOf, AreOfNone, IsLineOf, IsLineOfNone}
 
 -- how many data there are
@@ -19,8 +20,14 @@ many-items_view [] = refl
 many-items_view (v ∷ vs) = ap suc (many-items_view vs)
 
 -- the parts of a row are three
-pub AreOf-three : (parts : List Value) (row : Row) → AreOf (items_view parts) row → length parts ≡ 3
-AreOf-three parts row are = sym (many-items_view parts) ∙ ap many are.are
+pub others_are_of_none : (parts : List Value) → length parts ≢ 3 → AreOfNone (items_view parts)
+others_are_of_none parts other = λ row are. other (sym (many-items_view parts) ∙ ap many are.are)
+
+-- a list of two has two items
+pub others_are_no_pair : (parts : List Value) (d : Data) → length parts ≢ 2 → as_array d ≡ Some (items_view parts) → IsNoPair d
+others_are_no_pair parts d other is = λ one two pair.
+    let same : items_view parts ≡ item one (item two no_items) = cc in
+    other (sym (many-items_view parts) ∙ ap many same)
 
 -- a text is one list
 same_list : (text : List ℕ) (cs es ds : Items) → read text ≡ Some (array cs) → read text ≡ Some (array es) → Some ds ≡ Some es → cs ≡ ds

@@ -6,7 +6,7 @@ use Rattle.serde_json.specs.Read.{read}
 use Rattle.serde_json.specs.View.{view}
 use Rattle.serde_json.specs.Written.{compact_text, has_float}
 use Rattle.rows.specs.declared.error.RowError.{RowError}
-use Rattle.rows.specs.declared.error.RowError.TheVariants.{Form, Memory}
+use Rattle.rows.specs.declared.error.RowError.TheVariants.{Form, Wanted, Memory}
 use Rattle.rows.specs.declared.row.Row.{Row}
 
 -- the line has no row: it is empty, or begins with `#`
@@ -44,4 +44,5 @@ IsLineOfNone line = (row : Row) → ¬ IsLineOf line row
 -- the line is refused with the error, which holds it: it is no remark, and no row is that line. Memory may run out at any line
 abbrev pub IsRefused : List ℕ → RowError → Type 0
 IsRefused line (Form held) = (string_bytes held ≡ line) × (is_remark line ≡ false) × IsLineOfNone line
+IsRefused line (Wanted part) = ⊥
 IsRefused line Memory = Unit {0}

@@ -8,6 +8,9 @@ use crate::error::RowError;
 use serde_json::Value;
 use std::alloc::{AllocError, Global};
 
+/// How many parts a row has: a call, what it is given and its answer.
+const PARTS: usize = 3;
+
 /// What one call must answer.
 #[derive(Drop)]
 pub struct Row {
@@ -33,7 +36,7 @@ fn answer_text(alloc: Global, answer: &Value) -> Result<String, AllocError>
 fn row_of(alloc: Global, parts: &[Value]) -> Result<Option<Row>, AllocError>
     ensures { IfOk result (λ found. MatchOption found (AreOfNone (items_view parts.now)) (AreOf (items_view parts.now))) }
 {
-    if parts.len() != 3 {
+    if parts.len() != PARTS {
         return Ok(None);
     }
     let (call, given, answer) = (&parts[0], &parts[1], &parts[2]);
