@@ -5,11 +5,13 @@
 
 mod error;
 pub mod given;
+mod program;
 mod refusal;
 mod row;
 mod tally;
 
 pub use error::{Part, RowError};
+pub use program::run;
 pub use refusal::{refusal_text, report_text};
 pub use row::Row;
 pub use tally::Tally;
