@@ -1,12 +1,13 @@
 //! Attributes and doc comments.
 
 use crate::answers::{stopped, yes_or_no};
-use crate::inputs::{source_trees, two};
-use anyhow::{Context, bail};
+use crate::inputs::source_trees;
+use anyhow::bail;
 use attributes::{
     Attribute, CommentAttributes, Meta, SerdeItem, attributes_at, is_inner_doc, serde_items,
 };
 use diag::List;
+use rows::given::{pair_of, text_of};
 use serde_json::Value;
 use std::alloc::{AllocError, Global};
 
@@ -62,8 +63,8 @@ fn given_attributes(alloc: Global, given: &Value) -> anyhow::Result<List<Attribu
 
 /// Whether each attribute of the source has the word alone as its path.
 pub(crate) fn are_of_path(alloc: Global, given: &Value) -> anyhow::Result<String> {
-    let (given, word) = two(given)?;
-    let word = word.as_str().context("a word")?;
+    let (given, word) = pair_of(given)?;
+    let word = text_of(word)?;
     let attributes = given_attributes(alloc, given)?;
     let texts: Vec<&str> = attributes
         .as_slice()

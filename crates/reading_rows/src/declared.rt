@@ -2,7 +2,8 @@
 
 use crate::answers::equality;
 use crate::attribute_lists::first_word;
-use crate::inputs::{source, two};
+use crate::inputs::source;
+use rows::given::pair_of;
 use rows::refusal_text;
 use serde_json::Value;
 use std::alloc::{AllocError, Global};
@@ -102,7 +103,7 @@ fn given_declarations(alloc: Global, given: &Value) -> anyhow::Result<Declaratio
 
 /// Whether the declarations of two sources are equal.
 pub(crate) fn compared(alloc: Global, given: &Value) -> anyhow::Result<String> {
-    let (one, other) = two(given)?;
+    let (one, other) = pair_of(given)?;
     let are_equal = given_declarations(alloc, one)? == given_declarations(alloc, other)?;
     Ok(equality(are_equal).to_string(alloc)?)
 }

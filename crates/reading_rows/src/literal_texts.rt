@@ -1,8 +1,9 @@
 //! What follows a literal, signs or a character at the front of a text.
 
 use crate::answers::rest_of_text;
-use crate::inputs::{number, source, two};
+use crate::inputs::source;
 use literals::{after_hashes, after_literal, split_first_char};
+use rows::given::{count_of, pair_of};
 use serde_json::Value;
 use std::alloc::Global;
 
@@ -14,9 +15,9 @@ pub(crate) fn after_one(alloc: Global, given: &Value) -> anyhow::Result<String> 
 
 /// What follows so many signs `#`.
 pub(crate) fn after_some_hashes(alloc: Global, given: &Value) -> anyhow::Result<String> {
-    let (hashes, given) = two(given)?;
+    let (hashes, given) = pair_of(given)?;
     let text = source(alloc, given)?;
-    let rest = after_hashes(number(hashes)?, text.as_str());
+    let rest = after_hashes(count_of(hashes)?, text.as_str());
     Ok(rest_of_text(alloc, rest)?)
 }
 

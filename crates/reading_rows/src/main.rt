@@ -13,19 +13,8 @@ mod token_values;
 mod trees;
 mod types;
 
-use rows::{Row, Tally};
+use rows::run;
 
 fn main(rt: HostRuntime) -> anyhow::Result<()> {
-    let mut tally = Tally::default();
-    for line in rt.lines(rt.alloc()) {
-        let Some(row) = Row::from_line(rt.alloc(), line?.as_str())? else {
-            continue;
-        };
-        let told = calls::told(rt.alloc(), &row)?;
-        if let Some(difference) = tally.compare(rt.alloc(), &row, told.as_str())? {
-            println!(rt; "{difference}")?;
-        }
-    }
-    println!(rt; "{tally}")?;
-    Ok(())
+    run(&rt, |rt, row| calls::told(rt.alloc(), row))
 }

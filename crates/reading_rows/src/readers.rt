@@ -1,10 +1,11 @@
 //! What token trees are to the grammar, and the readers of single words.
 
 use crate::answers::{bytes, stopped, then_left};
-use crate::inputs::{first_tree, source_trees, span, two, two_sources};
+use crate::inputs::{first_tree, source_trees, span, two_sources};
 use anyhow::bail;
 use diag::Span;
 use lists::after_comma;
+use rows::given::pair_of;
 use serde_json::Value;
 use std::alloc::{AllocError, Global};
 use tokens::{Token, TokenTree};
@@ -172,7 +173,7 @@ pub(crate) fn start(alloc: Global, given: &Value) -> anyhow::Result<String> {
 
 /// From the start of the first span to the end of the second.
 pub(crate) fn covered(alloc: Global, given: &Value) -> anyhow::Result<String> {
-    let (first, last) = two(given)?;
+    let (first, last) = pair_of(given)?;
     Ok(bytes(alloc, covering(span(first)?, span(last)?))?)
 }
 

@@ -1,10 +1,11 @@
 //! Token trees.
 
 use crate::answers::{copied, equality};
-use crate::inputs::{first_tree, number, source, source_trees, two_sources};
+use crate::inputs::{first_tree, source, source_trees, two_sources};
 use anyhow::{Context, bail};
 use diag::List;
 use lexing::lex;
+use rows::given::{count_of, list_of};
 use rows::refusal_text;
 use serde_json::Value;
 use std::alloc::{AllocError, Global};
@@ -72,16 +73,16 @@ fn inside<'t>(trees: &'t [TokenTree], place: usize) -> anyhow::Result<&'t [Token
 
 /// The tree at the last of the places, inside of the groups at the places before it, and whether more follows.
 pub(crate) fn tree_at(alloc: Global, given: &Value) -> anyhow::Result<String> {
-    let Some((given, places)) = given.as_array().context("a list")?.as_slice().split_first() else {
+    let Some((given, places)) = list_of(given)?.split_first() else {
         bail!("no source");
     };
     let (last, places) = places.split_last().context("a place")?;
     let lexed = source_trees(alloc, given)?;
     let mut trees = lexed.as_slice();
     for place in places {
-        trees = inside(trees, number(place)?)?;
+        trees = inside(trees, count_of(place)?)?;
     }
-    let Some((tree, after)) = at_place(trees, number(last)?) else {
+    let Some((tree, after)) = at_place(trees, count_of(last)?) else {
         return Ok("the end".to_string(alloc)?);
     };
     let follows = if after.is_empty() { "the end" } else { "more" };

@@ -1,9 +1,10 @@
 //! Written types, and the names and paths in them.
 
 use crate::answers::{bytes, copied, equality, stopped, then_left};
-use crate::inputs::{number, source, source_trees, two};
+use crate::inputs::{source, source_trees};
 use crate::readers::{first_ident, ident_text};
 use anyhow::bail;
+use rows::given::{count_of, pair_of};
 use rows::refusal_text;
 use serde_json::Value;
 use std::alloc::{AllocError, Global};
@@ -72,9 +73,9 @@ pub(crate) fn read(alloc: Global, given: &Value) -> anyhow::Result<String> {
 
 /// The type at the front of the source that nests so many levels, and how many trees are left.
 pub(crate) fn type_in_front(alloc: Global, given: &Value) -> anyhow::Result<String> {
-    let (given, levels) = two(given)?;
+    let (given, levels) = pair_of(given)?;
     let trees = source_trees(alloc, given)?;
-    match type_at(alloc, trees.as_slice(), number(levels)?) {
+    match type_at(alloc, trees.as_slice(), count_of(levels)?) {
         Ok((ty, rest)) => {
             let text = type_text(alloc, &ty)?;
             Ok(then_left(alloc, text.as_str(), rest)?)
@@ -85,9 +86,9 @@ pub(crate) fn type_in_front(alloc: Global, given: &Value) -> anyhow::Result<Stri
 
 /// The bytes of the bound at the front of the source whose arguments nest so many levels, and how many trees are left.
 pub(crate) fn bound_in_front(alloc: Global, given: &Value) -> anyhow::Result<String> {
-    let (given, levels) = two(given)?;
+    let (given, levels) = pair_of(given)?;
     let trees = source_trees(alloc, given)?;
-    match bound_at(alloc, trees.as_slice(), number(levels)?) {
+    match bound_at(alloc, trees.as_slice(), count_of(levels)?) {
         Ok((span, rest)) => {
             let text = bytes(alloc, span)?;
             Ok(then_left(alloc, text.as_str(), rest)?)
@@ -113,7 +114,7 @@ fn given_type(alloc: Global, given: &Value) -> anyhow::Result<WrittenType> {
 
 /// Whether two types are equal.
 pub(crate) fn compared(alloc: Global, given: &Value) -> anyhow::Result<String> {
-    let (one, other) = two(given)?;
+    let (one, other) = pair_of(given)?;
     let are_equal = given_type(alloc, one)? == given_type(alloc, other)?;
     Ok(equality(are_equal).to_string(alloc)?)
 }
@@ -128,7 +129,7 @@ pub(crate) fn copied_type(alloc: Global, given: &Value) -> anyhow::Result<String
 
 /// Whether two names are equal.
 pub(crate) fn idents_compared(alloc: Global, given: &Value) -> anyhow::Result<String> {
-    let (one, other) = two(given)?;
+    let (one, other) = pair_of(given)?;
     let are_equal = first_ident(alloc, one)? == first_ident(alloc, other)?;
     Ok(equality(are_equal).to_string(alloc)?)
 }

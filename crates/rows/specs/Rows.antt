@@ -5,6 +5,8 @@ use Rattle.serde_json.specs.Data.{Data, null, boolean, number, string, array, ob
 use Rattle.serde_json.specs.Read.{read}
 use Rattle.serde_json.specs.View.{view}
 use Rattle.serde_json.specs.Written.{compact_text, has_float}
+use Rattle.rows.specs.declared.error.RowError.{RowError}
+use Rattle.rows.specs.declared.error.RowError.TheVariants.{Form, Wanted, Memory}
 use Rattle.rows.specs.declared.row.Row.{Row}
 
 -- the line has no row: it is empty, or begins with `#`
@@ -27,6 +29,20 @@ pub record AreOf (ds : Items) (row : Row) : Type 0 where
   pub are : ds ≡ item (string (string_bytes row.call)) (item (view row.given) (item answer no_items))
   pub text : has_float answer ≡ false → string_bytes row.answer ≡ answer_text answer
 
+-- the data are the parts of no row
+abbrev pub AreOfNone : Items → Type 0
+AreOfNone ds = (row : Row) → ¬ AreOf ds row
+
 -- the line is the JSON list of the row's parts
 abbrev pub IsLineOf : List ℕ → Row → Type 0
 IsLineOf line row = (ds : Items) × (read line ≡ Some (array ds)) × AreOf ds row
+
+-- the line is the JSON list of no row's parts
+abbrev pub IsLineOfNone : List ℕ → Type 0
+IsLineOfNone line = (row : Row) → ¬ IsLineOf line row
+
+-- the line is refused with the error, which holds it: it is no remark, and no row is that line. Memory may run out at any line
+abbrev pub IsRefused : List ℕ → RowError → Type 0
+IsRefused line (Form held) = (string_bytes held ≡ line) × (is_remark line ≡ false) × IsLineOfNone line
+IsRefused line (Wanted part) = ⊥
+IsRefused line Memory = Unit {0}

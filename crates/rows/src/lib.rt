@@ -4,11 +4,14 @@
 #![tactic(auto)]
 
 mod error;
+pub mod given;
+mod program;
 mod refusal;
 mod row;
 mod tally;
 
-pub use error::RowError;
+pub use error::{Part, RowError};
+pub use program::run;
 pub use refusal::{refusal_text, report_text};
 pub use row::Row;
 pub use tally::Tally;

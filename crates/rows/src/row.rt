@@ -1,12 +1,15 @@
-ghost use Rattle.std.specs.Prelude.{◌≡◌, false, true, IfOk, IfSome, MatchOption};
+ghost use Rattle.std.specs.Prelude.{◌≡◌, false, true, IfOk, IfErr, MatchOption};
 ghost use Rattle.std.specs.String.{string_bytes};
 ghost use Rattle.serde_json.specs.View.{view, items_view};
 ghost use Rattle.serde_json.specs.Written.{has_float};
-ghost use Rattle.rows.specs.Rows.{is_remark, answer_text, AreOf, IsLineOf};
+ghost use Rattle.rows.specs.Rows.{is_remark, answer_text, AreOf, AreOfNone, IsLineOf, IsLineOfNone, IsRefused};
 
 use crate::error::RowError;
 use serde_json::Value;
 use std::alloc::{AllocError, Global};
+
+/// How many parts a row has: a call, what it is given and its answer.
+const PARTS: usize = 3;
 
 /// What one call must answer.
 #[derive(Drop)]
@@ -29,17 +32,36 @@ fn answer_text(alloc: Global, answer: &Value) -> Result<String, AllocError>
     }
 }
 
-/// The row of a list's parts.
+/// The row of a list's parts, where they are those of one.
 fn row_of(alloc: Global, parts: &[Value]) -> Result<Option<Row>, AllocError>
-    ensures { IfOk result (λ found. IfSome found (AreOf (items_view parts.now))) }
+    ensures { IfOk result (λ found. MatchOption found (AreOfNone (items_view parts.now)) (AreOf (items_view parts.now))) }
 {
-    match parts {
-        [Value::String(call), given, answer] => Ok(Some(Row {
-            call: call.clone()?,
-            given: given.clone()?,
-            answer: answer_text(alloc, answer)?,
-        })),
-        _ => Ok(None),
+    if parts.len() != PARTS {
+        return Ok(None);
+    }
+    let (call, given, answer) = (&parts[0], &parts[1], &parts[2]);
+    let Some(call) = call.as_str() else {
+        return Ok(None);
+    };
+    Ok(Some(Row {
+        call: call.to_string(alloc)?,
+        given: given.clone()?,
+        answer: answer_text(alloc, answer)?,
+    }))
+}
+
+/// The row that a text is in JSON, where it is one.
+fn row_of_text(alloc: Global, text: &str) -> Result<Option<Row>, AllocError>
+    ensures { IfOk result (λ found. MatchOption found (IsLineOfNone text.now) (IsLineOf text.now)) }
+{
+    let value = match Value::from_str(alloc, text) {
+        Ok(value) => value,
+        Err(error) if error.is_memory() => return Err(AllocError),
+        Err(_) => return Ok(None),
+    };
+    match value.as_array() {
+        Some(parts) => row_of(alloc, parts.as_slice()),
+        None => Ok(None),
     }
 }
 
@@ -55,17 +77,15 @@ fn is_remark(line: &str) -> bool
 
 impl Row {
     /// The row of a line, in JSON the list of the call's name, what it is given and its answer. An empty line, and one
-    /// that begins with `#`, has none.
+    /// that begins with `#`, has none. Any other line that is no such list is refused.
     pub fn from_line(alloc: Global, line: &str) -> Result<Option<Row>, RowError>
-        ensures { IfOk result (λ found. MatchOption found (is_remark line.now ≡ true) (IsLineOf line.now)) }
+        ensures row { IfOk result (λ found. MatchOption found (is_remark line.now ≡ true) (IsLineOf line.now)) }
+        ensures refused { IfErr result (IsRefused line.now) }
     {
         if is_remark(line) {
             return Ok(None);
         }
-        let Ok(Value::Array(parts)) = Value::from_str(alloc, line) else {
-            return Err(RowError::Form(line.to_string(alloc)?));
-        };
-        match row_of(alloc, parts.as_slice())? {
+        match row_of_text(alloc, line)? {
             Some(row) => Ok(Some(row)),
             None => Err(RowError::Form(line.to_string(alloc)?)),
         }

@@ -1,8 +1,8 @@
 //! Formats.
 
-use crate::given::text;
 use anyhow::{Context, bail, ensure};
 use lexing::lex;
+use rows::given::text_of;
 use rows::refusal_text;
 use serde_json::Value;
 use std::alloc::{AllocError, Global};
@@ -28,7 +28,7 @@ fn copy_text(alloc: Global, format: &KnownFormat) -> anyhow::Result<String> {
 
 /// The format of the last name of a type's path, and whether it is known.
 pub(crate) fn of_path(alloc: Global, given: &Value) -> anyhow::Result<String> {
-    let written = parse_type(alloc, text(given)?)?;
+    let written = parse_type(alloc, text_of(given)?)?;
     let path = TypeTree::from_type(alloc, &written)?
         .path
         .context("a path")?;
@@ -43,7 +43,7 @@ pub(crate) fn of_path(alloc: Global, given: &Value) -> anyhow::Result<String> {
 
 /// The format that stands behind a name and `=`, or its refusal.
 pub(crate) fn parsed(alloc: Global, given: &Value) -> anyhow::Result<String> {
-    let trees = lex(alloc, text(given)?)?;
+    let trees = lex(alloc, text_of(given)?)?;
     let [TokenTree::Token(attribute), TokenTree::Token(_), value @ ..] = trees.as_slice() else {
         bail!("a name, `=` and a value");
     };

@@ -2,7 +2,6 @@
 #![tactic(auto)]
 
 mod formats;
-mod given;
 mod names;
 mod parameters;
 mod parts;
@@ -14,7 +13,7 @@ mod shapes;
 mod texts;
 
 use anyhow::bail;
-use rows::{Row, Tally};
+use rows::{Row, run};
 use std::alloc::Global;
 
 /// What the call of the row answers.
@@ -47,16 +46,5 @@ fn told(alloc: Global, row: &Row) -> anyhow::Result<String> {
 }
 
 fn main(rt: HostRuntime) -> anyhow::Result<()> {
-    let mut tally = Tally::default();
-    for line in rt.lines(rt.alloc()) {
-        let Some(row) = Row::from_line(rt.alloc(), line?.as_str())? else {
-            continue;
-        };
-        let told = told(rt.alloc(), &row)?;
-        if let Some(difference) = tally.compare(rt.alloc(), &row, told.as_str())? {
-            println!(rt; "{difference}")?;
-        }
-    }
-    println!(rt; "{tally}")?;
-    Ok(())
+    run(&rt, |rt, row| told(rt.alloc(), row))
 }

@@ -1,8 +1,8 @@
 //! Built-in names.
 
-use crate::given::text;
 use leaves::Leaf;
 use resolving::Head;
+use rows::given::text_of;
 use serde_json::Value;
 use std::alloc::{AllocError, Global};
 
@@ -35,7 +35,7 @@ fn leaf_text(alloc: Global, leaf: Leaf) -> Result<String, AllocError> {
 
 /// What the built-in name stands for.
 pub(crate) fn leaf(alloc: Global, given: &Value) -> anyhow::Result<String> {
-    match Leaf::named(text(given)?) {
+    match Leaf::named(text_of(given)?) {
         Some(leaf) => Ok(leaf_text(alloc, leaf)?),
         None => Ok(String::from_str(alloc, "no leaf")?),
     }
@@ -43,7 +43,7 @@ pub(crate) fn leaf(alloc: Global, given: &Value) -> anyhow::Result<String> {
 
 /// The kind of the container and its name.
 pub(crate) fn container(alloc: Global, given: &Value) -> anyhow::Result<String> {
-    match Head::named(text(given)?) {
+    match Head::named(text_of(given)?) {
         Some(head) => Ok(format!(in alloc; "{head:?}")?),
         None => Ok(String::from_str(alloc, "no container")?),
     }

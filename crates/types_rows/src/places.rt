@@ -1,8 +1,8 @@
 //! Places of declared names.
 
-use crate::given::text;
 use crate::parts::push_after;
 use diag::DeriveError;
+use rows::given::text_of;
 use rows::refusal_text;
 use scopes::{declared_places, places_of};
 use serde_json::Value;
@@ -33,12 +33,12 @@ fn told(
 
 /// The places of the names that a source declares.
 pub(crate) fn declared(alloc: Global, given: &Value) -> anyhow::Result<String> {
-    let declarations = parse_declarations(alloc, text(given)?)?;
+    let declarations = parse_declarations(alloc, text_of(given)?)?;
     Ok(told(alloc, declared_places(alloc, &declarations))?)
 }
 
 /// The places of the names of a source's items.
 pub(crate) fn of_items(alloc: Global, given: &Value) -> anyhow::Result<String> {
-    let declarations = parse_declarations(alloc, text(given)?)?;
+    let declarations = parse_declarations(alloc, text_of(given)?)?;
     Ok(told(alloc, places_of(alloc, declarations.items.as_slice()))?)
 }

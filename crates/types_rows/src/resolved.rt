@@ -5,12 +5,12 @@ ghost use Rattle.open_types.specs.Open.{open_view, IsClosed};
 ghost use Rattle.resolving.specs.Resolved.{IsWithin};
 ghost use Rattle.syntax.specs.Items.{declarations_view};
 
-use crate::given::{number, pair, text};
 use anyhow::ensure;
 use configuration::Config;
 use diag::DeriveError;
 use open_types::{ClosedType, OpenType, closed_types_stay, substitute};
 use resolving::{resolve_type, resolved_have_no_fault};
+use rows::given::{count_of, pair_of, text_of};
 use rows::refusal_text;
 use scopes::{Scope, declared_places, resolve};
 use serde_json::Value;
@@ -68,20 +68,20 @@ fn told(alloc: Global, found: Result<OpenType, DeriveError>) -> Result<String, A
 
 /// What a type stands for by the places of the declarations of a source.
 pub(crate) fn by_places(alloc: Global, given: &Value) -> anyhow::Result<String> {
-    let (source, written) = pair(given)?;
-    let declarations = parse_declarations(alloc, text(source)?)?;
+    let (source, written) = pair_of(given)?;
+    let declarations = parse_declarations(alloc, text_of(source)?)?;
     let places = declared_places(alloc, &declarations)?;
-    let ty = parse_type(alloc, text(written)?)?;
+    let ty = parse_type(alloc, text_of(written)?)?;
     resolved_have_no_fault();
     Ok(told(alloc, resolve_type(alloc, &places, &ty))?)
 }
 
 /// What a type stands for in the first declaration of a source.
 pub(crate) fn in_scope(alloc: Global, given: &Value) -> anyhow::Result<String> {
-    let (source, written) = pair(given)?;
-    let declarations = parse_declarations(alloc, text(source)?)?;
+    let (source, written) = pair_of(given)?;
+    let declarations = parse_declarations(alloc, text_of(source)?)?;
     ensure!(!declarations.items.is_empty(), "no declaration");
-    let ty = parse_type(alloc, text(written)?)?;
+    let ty = parse_type(alloc, text_of(written)?)?;
     Ok(told(alloc, resolve_in(alloc, &declarations, &ty))?)
 }
 
@@ -116,8 +116,8 @@ fn written_tuple(alloc: Global, item: &str, count: usize) -> Result<String, Allo
 
 /// How many types the tuple holds that stands behind a reference and holds a type so many times.
 pub(crate) fn tuple(alloc: Global, given: &Value) -> anyhow::Result<String> {
-    let (item, count) = pair(given)?;
-    let written = written_tuple(alloc, text(item)?, number(count)?)?;
+    let (item, count) = pair_of(given)?;
+    let written = written_tuple(alloc, text_of(item)?, count_of(count)?)?;
     let ty = parse_type(alloc, written.as_str())?;
     Ok(undeclared(alloc, &ty)?)
 }

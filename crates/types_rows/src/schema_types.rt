@@ -1,8 +1,8 @@
 //! What the last name of a type's path says.
 
-use crate::given::{pair, text};
 use crate::parts::names_holding;
 use anyhow::Context;
+use rows::given::{pair_of, text_of};
 use serde_json::Value;
 use std::alloc::{AllocError, Global};
 use syntax::parse_type;
@@ -29,8 +29,8 @@ fn type_text(alloc: Global, ty: &SchemaType<'_>) -> Result<String, AllocError> {
 
 /// The word and the tests of a type. The second of the list is whether null is a value.
 pub(crate) fn tests(alloc: Global, given: &Value) -> anyhow::Result<String> {
-    let (written, nullable) = pair(given)?;
-    let written = parse_type(alloc, text(written)?)?;
+    let (written, nullable) = pair_of(given)?;
+    let written = parse_type(alloc, text_of(written)?)?;
     let ty = SchemaType {
         path: TypeTree::from_type(alloc, &written)?
             .path
@@ -42,7 +42,7 @@ pub(crate) fn tests(alloc: Global, given: &Value) -> anyhow::Result<String> {
 
 /// The name of the built-in type.
 pub(crate) fn primitive(alloc: Global, given: &Value) -> anyhow::Result<String> {
-    let written = parse_type(alloc, text(given)?)?;
+    let written = parse_type(alloc, text_of(given)?)?;
     let path = TypeTree::from_type(alloc, &written)?
         .path
         .context("a path")?;

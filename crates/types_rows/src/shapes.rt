@@ -1,8 +1,8 @@
 //! Trees of written types.
 
-use crate::given::{list, number, pair, text};
 use crate::parts::names_holding;
 use anyhow::{Context, bail, ensure};
+use rows::given::{count_of, list_of, pair_of, text_of};
 use serde_json::Value;
 use std::alloc::{AllocError, Global};
 use syntax::parse_type;
@@ -43,7 +43,7 @@ fn bytes_of(alloc: Global, tree: &TypeTree<'_>) -> Result<String, AllocError> {
 }
 
 /// How many trees stand below.
-fn count_of(alloc: Global, tree: &TypeTree<'_>) -> Result<String, AllocError> {
+fn count_below(alloc: Global, tree: &TypeTree<'_>) -> Result<String, AllocError> {
     match &tree.children {
         Some(children) => children.len().to_string(alloc),
         None => String::from_str(alloc, "nothing"),
@@ -59,7 +59,7 @@ fn tree_text(alloc: Global, tree: &TypeTree<'_>) -> Result<String, AllocError> {
         tree.value_type,
         container_of(alloc, tree)?,
         bytes_of(alloc, tree)?,
-        count_of(alloc, tree)?,
+        count_below(alloc, tree)?,
         holding(alloc, tree)?
     )
 }
@@ -70,14 +70,16 @@ fn below<'a, 't>(tree: &'a TypeTree<'t>, places: &[Value]) -> anyhow::Result<&'a
         return Ok(tree);
     };
     let children = tree.children.as_ref().context("trees below")?;
-    let child = children.get(number(place)?).context("a tree at the place")?;
+    let child = children
+        .get(count_of(place)?)
+        .context("a tree at the place")?;
     below(child, further)
 }
 
 /// A type, and the places where to look below its tree.
 fn type_and_places(given: &Value) -> anyhow::Result<(&str, &[Value])> {
-    match list(given)? {
-        [written, places @ ..] => Ok((text(written)?, places)),
+    match list_of(given)? {
+        [written, places @ ..] => Ok((text_of(written)?, places)),
         [] => bail!("a list of a type and places"),
     }
 }
@@ -114,9 +116,9 @@ fn is_in(alloc: Global, ty: &WrittenType, name: &str) -> Result<bool, AllocError
 
 /// Whether the second text is a name in the tree of the first, a type.
 pub(crate) fn mentions(alloc: Global, given: &Value) -> anyhow::Result<String> {
-    let (written, name) = pair(given)?;
-    let ty = parse_type(alloc, text(written)?)?;
-    let is_in = is_in(alloc, &ty, text(name)?)?;
+    let (written, name) = pair_of(given)?;
+    let ty = parse_type(alloc, text_of(written)?)?;
+    let is_in = is_in(alloc, &ty, text_of(name)?)?;
     Ok(is_in.to_string(alloc)?)
 }
 
@@ -134,9 +136,9 @@ fn have_equal_trees(
 
 /// Whether the trees of the two types are equal.
 pub(crate) fn equal(alloc: Global, given: &Value) -> anyhow::Result<String> {
-    let (written, other) = pair(given)?;
-    let ty = parse_type(alloc, text(written)?)?;
-    let other_ty = parse_type(alloc, text(other)?)?;
+    let (written, other) = pair_of(given)?;
+    let ty = parse_type(alloc, text_of(written)?)?;
+    let other_ty = parse_type(alloc, text_of(other)?)?;
     let equal = have_equal_trees(alloc, &ty, &other_ty)?;
     Ok(equal.to_string(alloc)?)
 }

@@ -1,0 +1,25 @@
+use crate::row::Row;
+use crate::tally::Tally;
+use std::io::{Input, Print};
+
+/// Reads rows from the input, makes the call of each, and prints what differs, and then how many rows there were and how many
+/// of them differ.
+pub fn run<R, F>(rt: &R, told: F) -> anyhow::Result<()>
+where
+    R: AllocGlobal + Input + Print,
+    F: Fn(&R, &Row) -> anyhow::Result<String>,
+    requires { F.IsAlwaysCallable told }
+{
+    let mut tally = Tally::default();
+    for line in rt.lines(rt.alloc()) {
+        let Some(row) = Row::from_line(rt.alloc(), line?.as_str())? else {
+            continue;
+        };
+        let text = told(rt, &row)?;
+        if let Some(difference) = tally.compare(rt.alloc(), &row, text.as_str())? {
+            println!(rt; "{difference}")?;
+        }
+    }
+    println!(rt; "{tally}")?;
+    Ok(())
+}
