@@ -1,6 +1,5 @@
 //! From sources to the documents of their components.
 
-use crate::given::{list_at, member, text_at};
 use crate::parts::source_of;
 use crate::refusals::refused;
 use acceptance::component_accepts;
@@ -8,6 +7,8 @@ use anyhow::bail;
 use compose::{Derived, derive_components};
 use configuration::Config;
 use diag::DeriveError;
+use open_types::OpenType;
+use rows::given::{items_at, member, text_at};
 use serde_json::Value;
 use std::alloc::Global;
 
@@ -24,6 +25,7 @@ pub(crate) fn told(alloc: Global, call: &str, given: &Value) -> anyhow::Result<S
         }
         "refusal" => refusal(alloc, given),
         "accepted" => accepted(alloc, given),
+        "types" => types(alloc, given),
         other => bail!("no call {other}"),
     }
 }
@@ -68,10 +70,24 @@ fn accepted(alloc: Global, given: &Value) -> anyhow::Result<String> {
     let derived = derive(alloc, source, &Config::new(alloc))?;
     let document = derived.components.to_value(alloc)?;
     let mut accepted = Vec::new(alloc);
-    for value in list_at(given, "values")? {
+    for value in items_at(given, "values")? {
         if component_accepts(&document, name, value, DEPTH) {
             accepted.push(value.clone()?)?;
         }
     }
     Ok(Value::Array(accepted).to_string(alloc)?)
+}
+
+/// The places of the declarations that are the types of the source's components, in their order.
+fn types(alloc: Global, given: &Value) -> anyhow::Result<String> {
+    let source = source_of(alloc, given)?;
+    let derived = derive(alloc, source.as_str(), &Config::new(alloc))?;
+    let mut places = Vec::new(alloc);
+    for ty in derived.types.as_slice() {
+        match ty.as_open() {
+            OpenType::Named(place, _) => places.push(Value::from(*place))?,
+            _ => bail!("no declaration"),
+        }
+    }
+    Ok(Value::Array(places).to_string(alloc)?)
 }

@@ -1,12 +1,12 @@
 //! Configurations.
 
-use crate::given::{list_at, member};
 use crate::parts::bytes_of;
 use crate::refusals::refused;
 use crate::renamed::renamed;
 use anyhow::bail;
 use configuration::{Config, bad_config};
 use diag::DeriveError;
+use rows::given::{items_at, member};
 use serde_json::Value;
 use std::alloc::{AllocError, Global};
 
@@ -41,5 +41,5 @@ fn config_text(alloc: Global, config: Result<Config, DeriveError>) -> Result<Str
 /// What the names become by the configuration's rows.
 fn renames(alloc: Global, given: &Value) -> anyhow::Result<String> {
     let config = Config::from_value(alloc, member(given, "configuration")?)?;
-    renamed(alloc, config.renames(), list_at(given, "names")?)
+    renamed(alloc, config.renames(), items_at(given, "names")?)
 }

@@ -1,8 +1,8 @@
 //! Texts and lists.
 
-use crate::given::{count_of, list_of, pair_of, text_of};
 use anyhow::bail;
 use diag::{List, Text};
+use rows::given::{count_of, list_of, pair_of, text_of};
 use serde_json::Value;
 use std::alloc::{AllocError, Global};
 

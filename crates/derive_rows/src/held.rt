@@ -1,9 +1,9 @@
 //! Whole files.
 
-use crate::given::{count_of, counts_at, list_at, pair_of, text_of};
-use crate::parts::{bytes_of, shown};
+use crate::parts::{bytes_of, counts_at, shown};
 use anyhow::bail;
 use files::{Files, HonestFiles, MemoryFiles, StdFiles};
+use rows::given::{count_of, items_at, pair_of, text_of};
 use serde_json::Value;
 use std::alloc::Global;
 use std::rt::Files as FileSystem;
@@ -33,7 +33,7 @@ pub(crate) fn told<R: AllocGlobal + FileSystem>(
 /// The files of their paths and texts.
 fn files_of(alloc: Global, given: &Value) -> anyhow::Result<Vec<(String, Vec<u8>)>> {
     let mut files = Vec::new(alloc);
-    for file in list_at(given, "files")? {
+    for file in items_at(given, "files")? {
         let (path, text) = pair_of(file)?;
         let path = String::from_str(alloc, text_of(path)?)?;
         files.push((path, bytes_of(alloc, text)?))?;
@@ -60,7 +60,7 @@ fn read_text<F: Files>(
 /// What each read answers.
 fn reads_text<F: Files>(alloc: Global, files: &mut F, given: &Value) -> anyhow::Result<String> {
     let mut text = String::new(alloc);
-    for read in list_at(given, "reads")? {
+    for read in items_at(given, "reads")? {
         if !text.is_empty() {
             text.push_str(", ")?;
         }

@@ -4,7 +4,6 @@
 
 mod composed;
 mod configured;
-mod given;
 mod grown;
 mod held;
 mod laws;
@@ -17,7 +16,7 @@ mod ruled;
 mod runs;
 
 use anyhow::{Context, bail};
-use rows::{Row, Tally};
+use rows::{Row, run};
 use std::rt::Files;
 
 /// What the call of the row answers.
@@ -42,16 +41,5 @@ fn told<R: AllocGlobal + Files>(rt: &R, row: &Row) -> anyhow::Result<String> {
 }
 
 fn main(rt: HostRuntime) -> anyhow::Result<()> {
-    let mut tally = Tally::default();
-    for line in rt.lines(rt.alloc()) {
-        let Some(row) = Row::from_line(rt.alloc(), line?.as_str())? else {
-            continue;
-        };
-        let told = told(&rt, &row)?;
-        if let Some(difference) = tally.compare(rt.alloc(), &row, told.as_str())? {
-            println!(rt; "{difference}")?;
-        }
-    }
-    println!(rt; "{tally}")?;
-    Ok(())
+    run(&rt, |rt, row| told(rt, row))
 }

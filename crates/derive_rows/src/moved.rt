@@ -1,8 +1,8 @@
 //! Sources and sinks of bytes.
 
-use crate::given::{count_at, counts_at, list_at, text_of};
-use crate::parts::{bytes_at, shown};
+use crate::parts::{bytes_at, counts_at, shown};
 use anyhow::bail;
+use rows::given::{count_at, items_at, text_of};
 use serde_json::Value;
 use std::alloc::Global;
 use std::io;
@@ -112,7 +112,7 @@ fn outcome(answer: Result<(), Failed>) -> &'static str {
 /// How writing each piece ended, and how flushing did.
 fn writes_text<K: Sink>(alloc: Global, sink: &mut K, given: &Value) -> anyhow::Result<String> {
     let mut text = String::new(alloc);
-    for piece in list_at(given, "pieces")? {
+    for piece in items_at(given, "pieces")? {
         if !text.is_empty() {
             text.push_str(" ")?;
         }

@@ -3,8 +3,8 @@
 //! A part is a text, the number of a byte, `{"repeat": [text, times]}`, or `{"numbered": [parts, from, to]}`: the parts for each
 //! number from the one up to, and without, the other, which stands in place of each `#`, and the next one in place of each `@`.
 
-use crate::given::{count_of, list_of, member, pair_of, text_of};
 use anyhow::{Context, bail};
+use rows::given::{count_of, items_at, list_of, member, pair_of, text_of};
 use serde_json::Value;
 use std::alloc::{AllocError, Global};
 
@@ -87,6 +87,19 @@ pub(crate) fn bytes_at(alloc: Global, given: &Value, name: &str) -> anyhow::Resu
         Some(member) => bytes_of(alloc, member),
         None => Ok(Vec::new(alloc)),
     }
+}
+
+/// The numbers of the member, or none where there is no member.
+pub(crate) fn counts_at(
+    alloc: Global,
+    given: &Value,
+    name: &'static str,
+) -> anyhow::Result<Vec<usize>> {
+    let mut counts = Vec::new(alloc);
+    for item in items_at(given, name)? {
+        counts.push(count_of(item)?)?;
+    }
+    Ok(counts)
 }
 
 /// The text of a text, or of a list of parts.

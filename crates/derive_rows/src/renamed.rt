@@ -1,8 +1,8 @@
 //! Rename rules, their tables, and what names become by them.
 
-use crate::given::{list_at, list_of, text_of};
 use anyhow::bail;
 use diag::{RenamePlace, RenameRow, RenameRule, RenameTable, Text};
+use rows::given::{items_at, list_of, text_of};
 use serde_json::Value;
 use std::alloc::{AllocError, Global};
 use std::str::FromStr;
@@ -50,7 +50,7 @@ fn row_of(alloc: Global, given: &Value) -> anyhow::Result<RenameRow> {
 /// The table of the rows.
 pub(crate) fn table_of(alloc: Global, given: &Value) -> anyhow::Result<RenameTable> {
     let mut table = RenameTable::new(alloc);
-    for row in list_at(given, "rows")? {
+    for row in items_at(given, "rows")? {
         table.push(row_of(alloc, row)?)?;
     }
     Ok(table)
@@ -94,5 +94,5 @@ pub(crate) fn renamed(
 
 /// What the names become by the rows.
 pub(crate) fn renames(alloc: Global, given: &Value) -> anyhow::Result<String> {
-    renamed(alloc, &table_of(alloc, given)?, list_at(given, "names")?)
+    renamed(alloc, &table_of(alloc, given)?, items_at(given, "names")?)
 }

@@ -1,10 +1,10 @@
 //! Kinds, diagnostics and errors.
 
-use crate::given::{count_of, list_at, list_of, member, pair_of, text_at, text_of};
 use crate::refusals::{refused, reported};
 use crate::{grown, renamed};
 use anyhow::bail;
 use diag::{DeriveError, Diagnostics, Kind, Span, Suggestion, Text};
+use rows::given::{count_of, items_at, list_of, member, pair_of, text_at, text_of};
 use serde_json::Value;
 use std::alloc::{AllocError, Global};
 
@@ -120,11 +120,11 @@ fn placed(alloc: Global, given: &Value) -> anyhow::Result<Diagnostics> {
 /// One entry, with its suggestions and instances in the order in which they are given.
 fn entry(alloc: Global, given: &Value) -> anyhow::Result<Diagnostics> {
     let mut diagnostics = placed(alloc, given)?;
-    for suggestion in list_at(given, "suggestions")? {
+    for suggestion in items_at(given, "suggestions")? {
         let suggestion = suggestion_of(alloc, suggestion)?;
         diagnostics = suggested(diagnostics, &suggestion)?;
     }
-    for instance in list_at(given, "instances")? {
+    for instance in items_at(given, "instances")? {
         diagnostics = diagnostics.instance(text_of(instance)?)?;
     }
     Ok(diagnostics)

@@ -1,12 +1,12 @@
 //! What serde's attributes say.
 
-use crate::given::{pair_of, text_at, text_of};
 use crate::refusals::refused;
 use crate::renamed::table_of;
 use anyhow::bail;
 use attributes::{Attribute, attributes_at};
 use diag::{List, RenameRule, RenameTable};
 use lexing::lex;
+use rows::given::{pair_of, text_at, text_of};
 use serde_json::Value;
 use serde_rules::names::rename;
 use serde_rules::{

@@ -1,10 +1,10 @@
 //! Runs of the program.
 
-use crate::given::{count_at, counts_at, list_at, text_of};
-use crate::parts::{bytes_at, shown};
+use crate::parts::{bytes_at, counts_at, shown};
 use anyhow::bail;
 use diag::Kind;
 use files::{Files, HonestFiles, MemoryFiles, StdFiles};
+use rows::given::{count_at, items_at, text_of};
 use schema_gen::{Status, Words, run};
 use serde_json::Value;
 use std::alloc::Global;
@@ -50,7 +50,7 @@ fn number(alloc: Global, given: &Value) -> anyhow::Result<String> {
 
 fn words_of(alloc: Global, given: &Value) -> anyhow::Result<Words> {
     let mut words = Vec::new(alloc);
-    for word in list_at(given, "words")? {
+    for word in items_at(given, "words")? {
         words.push(String::from_str(alloc, text_of(word)?)?)?;
     }
     Ok(Words::new(words))
@@ -128,7 +128,7 @@ fn over_std<R: AllocGlobal + FileSystem>(rt: &R, given: &Value) -> anyhow::Resul
 }
 
 /// So many dots as the member says, or none where there is no member.
-fn dots(alloc: Global, given: &Value, name: &str) -> anyhow::Result<Vec<u8>> {
+fn dots(alloc: Global, given: &Value, name: &'static str) -> anyhow::Result<Vec<u8>> {
     match given.get(name) {
         Some(_) => Ok(vec![in alloc; b'.'; count_at(given, name)?]?),
         None => Ok(Vec::new(alloc)),

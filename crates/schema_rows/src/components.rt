@@ -1,12 +1,12 @@
 //! Components by name, and their document.
 
 use crate::forms::form_text;
-use crate::given::text_at;
 use crate::judged::named_accepts;
 use crate::written::schema;
 use anyhow::{Context, bail};
 use diag::Text;
 use filling::copy_schema;
+use rows::given::text_at;
 use schema_core::Components;
 use serde_json::Value;
 use std::alloc::{AllocError, Global};

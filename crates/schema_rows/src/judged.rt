@@ -1,6 +1,6 @@
 //! Which values a schema accepts.
 
-use crate::given::{count_at, list_at, member, text_at};
+use rows::given::{count_at, list_at, member, text_at};
 use serde_json::Value;
 use std::alloc::Global;
 

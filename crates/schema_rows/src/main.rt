@@ -5,7 +5,6 @@ mod components;
 mod declared;
 mod filled;
 mod forms;
-mod given;
 mod judged;
 mod laws;
 mod notes;
@@ -24,7 +23,7 @@ use crate::forms::{OfSchema, of_schema};
 use crate::places::OfPlace;
 use crate::sources::{OfFirst, of_source};
 use anyhow::bail;
-use rows::{Row, Tally};
+use rows::run;
 use serde_json::Value;
 use std::alloc::Global;
 
@@ -77,16 +76,8 @@ fn question(call: &str) -> anyhow::Result<OfFirst> {
 }
 
 fn main(rt: HostRuntime) -> anyhow::Result<()> {
-    let mut tally = Tally::default();
-    for line in rt.lines(rt.alloc()) {
-        let Some(row) = Row::from_line(rt.alloc(), line?.as_str())? else {
-            continue;
-        };
-        let told = told(rt.alloc(), row.call.as_str(), &row.given)?;
-        if let Some(difference) = tally.compare(rt.alloc(), &row, told.as_str())? {
-            println!(rt; "{difference}")?;
-        }
-    }
-    println!(rt; "{tally}")?;
-    Ok(())
+    run(
+        &rt,
+        |rt, row| told(rt.alloc(), row.call.as_str(), &row.given),
+    )
 }

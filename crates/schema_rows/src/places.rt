@@ -3,7 +3,6 @@
 ghost use Rattle.component.specs.Schemas.{IsScoped};
 ghost use Rattle.scopes.specs.Scopes.{IsScope};
 
-use crate::given::is_said;
 use crate::remarks::comments;
 use crate::terms::{named, term_text};
 use component::{
@@ -11,6 +10,7 @@ use component::{
     ToTerm, copy_term,
 };
 use diag::DeriveError;
+use rows::given::is_said;
 use serde_json::Value;
 use std::alloc::{AllocError, Global};
 use syntax::parse_type;

@@ -1,12 +1,12 @@
 //! What is said of a place beside its type.
 
 use crate::forms::form_text;
-use crate::given::{count_at, is_said, items_at};
 use crate::notes::text;
 use crate::terms::term_text;
 use component::{ComponentDescription, Place, any_object, noted, null_default, place_term};
 use diag::{List, Text};
 use open_types::OpenType;
+use rows::given::{count_at, is_said, items_at};
 use schema_core::{Notes, RefLeaf, Tree};
 use serde_json::Value;
 use std::alloc::{AllocError, Global};
@@ -15,7 +15,7 @@ use syntax::CommentAttributes;
 /// The doc comments of the row, line by line.
 pub(crate) fn comments(alloc: Global, given: &Value) -> Result<CommentAttributes, AllocError> {
     let mut lines = List::new(alloc);
-    for line in items_at(given, "comments") {
+    for line in items_at(given, "comments").unwrap_or(&[]) {
         if let Some(line) = line.as_str() {
             lines.push(Text::new(alloc, line)?)?;
         }

@@ -3,10 +3,10 @@
 ghost use Rattle.std.specs.Prelude.{◌<◌, ℕ, IfOk};
 ghost use Rattle.inlining.specs.Inlining.{AreTargets, IsAmong};
 
-use crate::given::{count_at, list_at, number_at};
-use anyhow::{Context, bail};
+use anyhow::bail;
 use diag::List;
 use inlining::{Depth, are_more_copies, inline_order};
+use rows::given::{count_at, count_of, list_at, list_of};
 use serde_json::Value;
 use std::alloc::Global;
 
@@ -15,8 +15,8 @@ fn row_of(alloc: Global, given: &Value, times: usize, count: usize) -> anyhow::R
     ensures { IfOk result (λ of. (t : ℕ) → IsAmong t of → t < count) }
 {
     let mut of = List::new(alloc);
-    for target in given.as_array().context("the targets of a declaration")? {
-        let place = target.as_u64().context("a place")? as usize;
+    for target in list_of(given)? {
+        let place = count_of(target)?;
         if place >= count {
             bail!("{place} is no place of {count}");
         }
@@ -42,7 +42,7 @@ fn targets(alloc: Global, given: &Value, times: usize) -> anyhow::Result<List<Li
 /// An order of the declarations, or a path that is too long.
 pub(crate) fn order(alloc: Global, given: &Value) -> anyhow::Result<String> {
     let targets = targets(alloc, given, 1)?;
-    let most = number_at(given, "most")?;
+    let most = count_at(given, "most")?;
     let told = match inline_order(alloc, targets.as_slice(), most)? {
         Depth::Within(order) => format!(in alloc; "within {:?}", order.as_slice())?,
         Depth::Beyond(path) => format!(in alloc; "beyond {:?}", path.as_slice())?,
@@ -55,7 +55,7 @@ pub(crate) fn copies(alloc: Global, given: &Value) -> anyhow::Result<String> {
     let times = count_at(given, "times").unwrap_or(1);
     let lists = targets(alloc, given, times)?;
     let targets = lists.as_slice();
-    let limit = number_at(given, "limit")?;
+    let limit = count_at(given, "limit")?;
     if limit == usize::MAX {
         bail!("{limit} is no limit");
     }

@@ -4,11 +4,11 @@
 //! `oneOf`, `allOf` or `reference`), and its other members are those of the schema's JSON, where each schema in it is a
 //! text. A list has schemas of which each may have `@` for the one before; it stands for the last.
 
-use crate::given::{items_at, text_at};
 use crate::notes::{jsons, notes, text};
 use anyhow::{Context, bail};
 use diag::{List, Text};
 use filling::copy_schema;
+use rows::given::{is_said, items_at, text_at, text_of};
 use schema_core::{
     Additional, AllOfSchema, Array, ArrayItems, Bound, Notes, Object, OneOfSchema, RefLeaf, Schema,
     SchemaTypeInner, Tree, TypeWord,
@@ -63,10 +63,10 @@ fn parts(
     alloc: Global,
     before: &Option<Schema>,
     given: &Value,
-    name: &str,
+    name: &'static str,
 ) -> anyhow::Result<List<Schema>> {
     let mut schemas = List::new(alloc);
-    for schema in items_at(given, name) {
+    for schema in items_at(given, name)? {
         schemas.push(part(alloc, before, schema)?)?;
     }
     Ok(schemas)
@@ -89,8 +89,8 @@ fn properties(
 
 fn names(alloc: Global, given: &Value) -> anyhow::Result<List<Text>> {
     let mut names = List::new(alloc);
-    for name in items_at(given, "required") {
-        names.push(Text::new(alloc, name.as_str().context("a name")?)?)?;
+    for name in items_at(given, "required")? {
+        names.push(Text::new(alloc, text_of(name)?)?)?;
     }
     Ok(names)
 }
@@ -183,7 +183,7 @@ fn array(alloc: Global, before: &Option<Schema>, given: &Value) -> anyhow::Resul
         nullable,
         items: items(alloc, before, given)?,
         prefix_items,
-        unique: given.get("uniqueItems").and_then(Value::as_bool) == Some(true),
+        unique: is_said(given, "uniqueItems"),
         max_items: bound(given, "maxItems"),
         min_items: bound(given, "minItems"),
         notes,
