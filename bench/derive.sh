@@ -6,7 +6,7 @@
 set -eu
 here=$(cd "$(dirname "$0")/.." && pwd)
 program=${PROGRAM:-$here/crates/schema_gen_cli/out/schema_gen_cli}
-[ -x "$program" ] || echo 'struct First { it: bool }' | "$here/schema_gen" derive >/dev/null
+[ -x "$program" ] || "$here/build"
 folder=$(mktemp -d)
 trap 'rm -rf "$folder"' EXIT
 python3 - "$program" "$folder" "${1:-references}" <<'PY'

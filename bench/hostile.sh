@@ -6,7 +6,7 @@
 set -eu
 here=$(cd "$(dirname "$0")/.." && pwd)
 program=${PROGRAM:-$here/crates/schema_gen_cli/out/schema_gen_cli}
-[ -x "$program" ] || echo 'struct First { it: bool }' | "$here/schema_gen" derive >/dev/null
+[ -x "$program" ] || "$here/build"
 python3 - "$program" <<'PY'
 import os, subprocess, sys, tempfile, time
 
