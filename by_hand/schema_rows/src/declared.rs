@@ -1,0 +1,81 @@
+//! The schemas of declarations.
+
+ghost use Rattle.scopes.specs.Scopes.{IsScope};
+
+use crate::structs::struct_text;
+use crate::terms::term_text;
+use component::ToTerm;
+use derive_decl::{NamedStructSchema, Root, Schema, UnitStructVariant, UnnamedStructSchema};
+use diag::DeriveError;
+use open_types::OpenType;
+use std::alloc::{AllocError, Global};
+use syntax::{Body, Field, Fields};
+
+/// What is asked of a declaration.
+#[derive(Clone, Copy)]
+pub(crate) enum OfDeclaration {
+    /// The types of its places.
+    PlaceTypes,
+    /// The struct that it is resolved to.
+    Resolved,
+    /// The JSON of that struct's schema.
+    StructTerm,
+    /// The JSON of the schema of its fields as named ones.
+    NamedStruct,
+    /// The JSON of the schema of its fields as unnamed ones.
+    UnnamedStruct,
+    /// The JSON of the schema of a struct without fields.
+    UnitStruct,
+}
+
+fn types_text(alloc: Global, types: &[OpenType]) -> Result<String, AllocError> {
+    let mut text = String::new(alloc);
+    for ty in types {
+        if !text.is_empty() {
+            text.push_str(", ")?;
+        }
+        text.push_str(format!(in alloc; "{ty:?}")?.as_str())?;
+    }
+    Ok(text)
+}
+
+fn fields_of(body: &Body) -> &[Field] {
+    let Body::Struct(fields) = body;
+    match fields {
+        Fields::Named(fields) | Fields::Unnamed(fields) => fields.as_slice(),
+        Fields::Unit => &[],
+    }
+}
+
+/// The JSON of what has a term.
+fn text_of<T: ToTerm>(alloc: Global, made: &T) -> Result<String, DeriveError>
+    requires { T.is_ready made.now }
+{
+    Ok(term_text(alloc, made.to_term(alloc)?)?)
+}
+
+/// The answer for the declaration with this root and this body.
+pub(crate) fn of_declaration(
+    alloc: Global,
+    question: OfDeclaration,
+    root: &Root<'_>,
+    body: &Body,
+) -> Result<String, DeriveError>
+    requires { IsScope root.now.container.now.scope.now }
+{
+    let schema = Schema::new(body, root.attributes, root.ident, root.container);
+    let fields = fields_of(body);
+    match question {
+        OfDeclaration::PlaceTypes => {
+            Ok(types_text(alloc, schema.place_types(alloc)?.as_slice())?)
+        }
+        OfDeclaration::Resolved => Ok(struct_text(alloc, &schema.resolve(alloc)?)?),
+        OfDeclaration::StructTerm => text_of(alloc, &schema.resolve(alloc)?),
+        OfDeclaration::NamedStruct => text_of(alloc, &NamedStructSchema::new(alloc, root, fields)?),
+        OfDeclaration::UnnamedStruct => text_of(
+            alloc,
+            &UnnamedStructSchema::new(alloc, root, fields)?,
+        ),
+        OfDeclaration::UnitStruct => text_of(alloc, &UnitStructVariant::new(alloc, root)?),
+    }
+}

@@ -1,0 +1,43 @@
+//! Rows of the public calls that no run of the program makes: what each is given, and what it must answer.
+#![tactic(auto)]
+
+mod accepted;
+mod arguments;
+mod laws;
+mod reported;
+mod terms;
+mod trees;
+mod single_words;
+mod written;
+
+use anyhow::bail;
+use rows::{Row, run};
+use std::alloc::Global;
+
+/// What the call of the row answers.
+fn told(alloc: Global, row: &Row) -> anyhow::Result<String> {
+    let given = &row.given;
+    match row.call.as_str() {
+        "accepts" => accepted::accepted(alloc, given),
+        "report" => reported::report(alloc, given),
+        "first" => reported::first(alloc, given),
+        "parse_type" => written::parsed(alloc, given),
+        "copy" => written::copied(alloc, given),
+        "lifetime_at" => single_words::lifetime(alloc, given),
+        "token_tree" => single_words::count(alloc, given),
+        "SerdeEnumRepr::copy" => single_words::representation(alloc, given),
+        "Config::collect" => single_words::collected(alloc),
+        "tree" => trees::tree(alloc, given),
+        "schema_type" => trees::tests(alloc, given),
+        "format" => trees::format(alloc, given),
+        "parse_format" => trees::format_value(alloc, given),
+        "type_text" => arguments::text(alloc, given),
+        "terms" | "place" => terms::of_source(alloc, row.call.as_str(), given),
+        "laws" => laws::called(alloc),
+        other => bail!("no call {other}"),
+    }
+}
+
+fn main(rt: HostRuntime) -> anyhow::Result<()> {
+    run(&rt, |rt, row| told(rt.alloc(), row))
+}

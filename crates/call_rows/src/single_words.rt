@@ -1,0 +1,76 @@
+//! Single words, tokens and values.
+
+use anyhow::bail;
+use configuration::{Config, SchemaCollect};
+use diag::Text;
+use lexing::lex;
+use rows::given::text_of;
+use serde_json::Value;
+use serde_rules::SerdeEnumRepr;
+use std::alloc::{AllocError, Global};
+use tokens::{Cursor, TokenTree};
+use words::lifetime_at;
+
+/// The lifetime that the text begins with.
+pub(crate) fn lifetime(alloc: Global, given: &Value) -> anyhow::Result<String> {
+    let trees = lex(alloc, text_of(given)?)?;
+    let Ok((token, _)) = lifetime_at(trees.as_slice()) else {
+        bail!("no lifetime");
+    };
+    Ok(String::from_str(alloc, token.text.as_str())?)
+}
+
+/// Whether a copy of the tree is equal.
+fn has_equal_copy(alloc: Global, tree: &TokenTree) -> Result<bool, AllocError> {
+    Ok(tree.copy(alloc)? == *tree)
+}
+
+/// How many trees stand in front of the first whose copy is not equal, or of the end.
+fn count_equal(alloc: Global, trees: &[TokenTree]) -> Result<usize, AllocError> {
+    let mut cursor = Cursor::new(trees);
+    let mut count = 0usize;
+    for _ in 0..trees.len() {
+        let Some((tree, after)) = cursor.token_tree() else {
+            return Ok(count);
+        };
+        if cursor.is_empty() || !has_equal_copy(alloc, tree)? {
+            return Ok(count);
+        }
+        cursor = after;
+        count = count.saturating_add(1);
+    }
+    Ok(count)
+}
+
+/// How many trees the text has, read and copied one by one.
+pub(crate) fn count(alloc: Global, given: &Value) -> anyhow::Result<String> {
+    let trees = lex(alloc, text_of(given)?)?;
+    let count = count_equal(alloc, trees.as_slice())?;
+    Ok(count.to_string(alloc)?)
+}
+
+/// Whether a copy of the representation is equal.
+fn is_equal_copy(alloc: Global, of: &SerdeEnumRepr) -> Result<bool, AllocError> {
+    Ok(of.copy(alloc)? == *of)
+}
+
+/// Whether a copy of the representation with the tag is equal.
+pub(crate) fn representation(alloc: Global, given: &Value) -> anyhow::Result<String> {
+    let tag = Text::new(alloc, text_of(given)?)?;
+    let of = SerdeEnumRepr::InternallyTagged { tag };
+    let word = if is_equal_copy(alloc, &of)? {
+        "equal"
+    } else {
+        "not equal"
+    };
+    Ok(String::from_str(alloc, word)?)
+}
+
+/// Which instances get a component where no configuration is given.
+pub(crate) fn collected(alloc: Global) -> anyhow::Result<String> {
+    let word = match Config::new(alloc).collect() {
+        SchemaCollect::NonInlined => "NonInlined",
+        SchemaCollect::All => "All",
+    };
+    Ok(String::from_str(alloc, word)?)
+}

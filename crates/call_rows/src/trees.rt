@@ -1,0 +1,160 @@
+//! Trees of written types, what the last name of a path says, and formats.
+
+use anyhow::{Context, bail};
+use diag::DeriveError;
+use lexing::lex;
+use rows::given::{pair_of, text_of};
+use rows::refusal_text;
+use serde_json::Value;
+use std::alloc::{AllocError, Global};
+use syntax::parse_type;
+use tokens::TokenTree;
+use type_tree::{KnownFormat, PrimitiveType, SchemaType, TypeTree};
+use words::ident_of;
+use written_types::WrittenType;
+
+/// The word, if it holds.
+fn held(word: &'static str, holds: bool) -> &'static str {
+    if holds { word } else { "" }
+}
+
+/// How many trees stand below the tree.
+fn count_below(tree: &TypeTree<'_>) -> usize {
+    match &tree.children {
+        Some(children) => children.len(),
+        None => 0,
+    }
+}
+
+/// How many trees stand below the tree, and its tests that hold, one of them whether the name stands in it.
+fn tree_text(alloc: Global, tree: &TypeTree<'_>, name: &str) -> Result<String, AllocError> {
+    let below = count_below(tree).to_string(alloc)?;
+    let words = [
+        below.as_str(),
+        held(" is_option", tree.is_option()),
+        held(" is_map", tree.is_map()),
+        held(" is_value", tree.is_value()),
+        held(" is_object", tree.is_object()),
+        held(" is", tree.is(name)),
+    ];
+    words.concat(alloc)
+}
+
+/// What a copy of the type's tree is.
+fn copy_text(alloc: Global, ty: &WrittenType, name: &str) -> Result<String, AllocError> {
+    let tree = TypeTree::from_type(alloc, ty)?;
+    let copy = tree.copy(alloc)?;
+    tree_text(alloc, &copy, name)
+}
+
+/// The tree of the type.
+pub(crate) fn tree(alloc: Global, given: &Value) -> anyhow::Result<String> {
+    let (written, name) = pair_of(given)?;
+    let ty = parse_type(alloc, text_of(written)?)?;
+    Ok(copy_text(alloc, &ty, text_of(name)?)?)
+}
+
+/// Whether the type is built-in, and unsigned.
+fn sign(ty: &SchemaType<'_>) -> &'static str {
+    match PrimitiveType::new(&ty.path) {
+        Some(primitive) => {
+            if primitive.ty.is_unsigned() {
+                "unsigned"
+            } else {
+                "not unsigned"
+            }
+        }
+        None => "not built-in",
+    }
+}
+
+/// The tests of numbers that hold.
+fn number_words(alloc: Global, ty: &SchemaType<'_>) -> Result<String, AllocError> {
+    let words = [
+        held(" is_primitive", ty.is_primitive()),
+        held(" is_integer", ty.is_integer()),
+        held(" is_unsigned_integer", ty.is_unsigned_integer()),
+        held(" is_number", ty.is_number()),
+    ];
+    words.concat(alloc)
+}
+
+/// Whether the type is built-in, and its tests that hold.
+fn type_words(alloc: Global, ty: &SchemaType<'_>) -> Result<String, AllocError> {
+    let numbers = number_words(alloc, ty)?;
+    let words = [
+        sign(ty),
+        numbers.as_str(),
+        held(" is_string", ty.is_string()),
+        held(" is_byte", ty.is_byte()),
+        held(" is_value", ty.is_value()),
+    ];
+    words.concat(alloc)
+}
+
+/// What the last name of the type's path says. The second of the list is whether null is a value.
+pub(crate) fn tests(alloc: Global, given: &Value) -> anyhow::Result<String> {
+    let (written, nullable) = pair_of(given)?;
+    let written = parse_type(alloc, text_of(written)?)?;
+    let path = TypeTree::from_type(alloc, &written)?.path;
+    let ty = SchemaType {
+        path: path.context("a path")?,
+        nullable: nullable.as_bool().context("a truth value")?,
+    };
+    Ok(type_words(alloc, &ty)?)
+}
+
+/// Whether the format, of which a copy is equal, is known.
+fn format_text(alloc: Global, format: &KnownFormat) -> Result<String, AllocError> {
+    let copy = format.copy(alloc)?;
+    let word = if copy != *format {
+        "not equal"
+    } else if copy.is_known_format() {
+        "known"
+    } else {
+        "unknown"
+    };
+    String::from_str(alloc, word)
+}
+
+/// The format of the last name of the type's path.
+pub(crate) fn format(alloc: Global, given: &Value) -> anyhow::Result<String> {
+    let written = parse_type(alloc, text_of(given)?)?;
+    let path = TypeTree::from_type(alloc, &written)?.path;
+    let format = KnownFormat::from_path(&path.context("a path")?);
+    Ok(format_text(alloc, &format)?)
+}
+
+/// The format of the trees behind the attribute and `=`.
+fn format_of(
+    alloc: Global,
+    attribute: &TokenTree,
+    value: &[TokenTree],
+) -> Result<KnownFormat, DeriveError> {
+    let TokenTree::Token(token) = attribute else {
+        return Err(DeriveError::Memory);
+    };
+    let attribute = ident_of(alloc, token)?;
+    KnownFormat::parse(alloc, value, &attribute)
+}
+
+/// What the format is, or why there is none.
+fn found_text(
+    alloc: Global,
+    found: &Result<KnownFormat, DeriveError>,
+) -> Result<String, AllocError> {
+    match found {
+        Ok(format) => format_text(alloc, format),
+        Err(error) => refusal_text(alloc, error),
+    }
+}
+
+/// The format that stands behind a name and `=`, or its refusal.
+pub(crate) fn format_value(alloc: Global, given: &Value) -> anyhow::Result<String> {
+    let trees = lex(alloc, text_of(given)?)?;
+    let [attribute, _, value @ ..] = trees.as_slice() else {
+        bail!("a name, `=` and a value");
+    };
+    let found = format_of(alloc, attribute, value);
+    Ok(found_text(alloc, &found)?)
+}

@@ -1,0 +1,109 @@
+//! How a run ended, and what it wrote.
+
+use anyhow::bail;
+use diag::Kind;
+use schema_gen::Status;
+use serde_json::Value;
+use std::alloc::{AllocError, Global};
+
+/// How a run ended, and what both outputs have.
+#[derive(Drop)]
+pub(crate) struct Outcome {
+    status: Status,
+    out: String,
+    err: String,
+}
+
+/// The bytes as a text.
+fn shown(alloc: Global, bytes: &[u8]) -> anyhow::Result<String> {
+    let Ok(text) = str::from_utf8(bytes) else {
+        bail!("no text in UTF-8");
+    };
+    Ok(String::from_str(alloc, text)?)
+}
+
+/// The status of the name.
+pub(crate) fn status_named(name: &str) -> anyhow::Result<Status> {
+    match name {
+        "Done" => Ok(Status::Done),
+        "Refused" => Ok(Status::Refused(Kind::Syntax)),
+        "Usage" => Ok(Status::Usage),
+        "ReadFault" => Ok(Status::ReadFault),
+        "WriteFault" => Ok(Status::WriteFault),
+        "Memory" => Ok(Status::Memory),
+        "FileFault" => Ok(Status::FileFault),
+        other => bail!("no status {other}"),
+    }
+}
+
+/// Adds the name of the status, with the kind of a refusal in brackets.
+fn push_status(text: &mut String, status: Status) -> Result<(), AllocError> {
+    let name = match status {
+        Status::Done => "Done",
+        Status::Refused(kind) => {
+            text.push_str("Refused(")?;
+            text.push_str(kind.name())?;
+            ")"
+        }
+        Status::Usage => "Usage",
+        Status::ReadFault => "ReadFault",
+        Status::WriteFault => "WriteFault",
+        Status::Memory => "Memory",
+        Status::FileFault => "FileFault",
+    };
+    text.push_str(name)
+}
+
+/// Adds what an output has: a document for itself, without the new line that ends it, and any other text as a JSON text.
+fn push_output(alloc: Global, text: &mut String, output: &str) -> Result<(), AllocError> {
+    match output.strip_suffix('\n') {
+        Some(document) if document.starts_with('{') => text.push_str(document),
+        _ => {
+            let quoted = Value::String(String::from_str(alloc, output)?).to_string(alloc)?;
+            text.push_str(quoted.as_str())
+        }
+    }
+}
+
+impl Outcome {
+    /// The outcome of these bytes.
+    pub(crate) fn new(
+        alloc: Global,
+        status: Status,
+        out: &[u8],
+        err: &[u8],
+    ) -> anyhow::Result<Outcome> {
+        Ok(Outcome {
+            status,
+            out: shown(alloc, out)?,
+            err: shown(alloc, err)?,
+        })
+    }
+
+    /// The JSON list of the status and of what both outputs have.
+    pub(crate) fn text(&self, alloc: Global) -> Result<String, AllocError> {
+        let mut text = String::from_str(alloc, "[\"")?;
+        push_status(&mut text, self.status)?;
+        text.push_str("\",")?;
+        push_output(alloc, &mut text, self.out.as_str())?;
+        text.push_str(",")?;
+        push_output(alloc, &mut text, self.err.as_str())?;
+        text.push_str("]")?;
+        Ok(text)
+    }
+
+    /// The document, or the report of a refusal without `refused: `; each without the new line that ends it.
+    pub(crate) fn line(&self) -> &str {
+        let text = match self.status {
+            Status::Done => self.out.as_str(),
+            _ => self.err.as_str(),
+        };
+        let line = text.strip_suffix('\n').unwrap_or(text);
+        line.strip_prefix("refused: ").unwrap_or(line)
+    }
+
+    /// Whether there is a document.
+    pub(crate) fn is_done(&self) -> bool {
+        matches!(self.status, Status::Done)
+    }
+}
