@@ -1,7 +1,7 @@
 //! Schemas of one keyword or two, with leaves of any type.
 
 ghost use Rattle.std.specs.Prelude.{◌≡◌, IfOk};
-ghost use Rattle.schema_core.specs.Schema.{SchemaOf, tree_view, object_view, tree_views, named_views};
+ghost use Rattle.schema_core.specs.Schema.{SchemaOf, tree_view, object_view, tree_views, named_views, no_schemas, schema};
 ghost use Rattle.component.specs.Leaves.{leaf_view, term_view};
 ghost use Rattle.component.specs.Places.{word_of, minimum_of, type_word, where_true, noted, null_default, only_word, one_of_null, or_null, beside, in_place, leaf_object, list_of, tuple_of, map_object};
 
@@ -121,13 +121,28 @@ pub(crate) fn leaf_object(
 ) -> Result<Term, AllocError>
     ensures { IfOk result (λ s. term_view s ≡ leaf_object nullable notes leaf) }
 {
-    let mut object = object(alloc, type_word(nullable, word_of(leaf.kind())), notes);
-    object.format = match leaf.format() {
+    let format = match leaf.format() {
         Some(name) => Some(Text::new(alloc, name)?),
         None => None,
     };
-    object.minimum = minimum_of(leaf.kind());
+    let word = type_word(nullable, word_of(leaf.kind()));
+    let object = Object {
+        format,
+        minimum: minimum_of(leaf.kind()),
+        ..object(alloc, word, notes)
+    };
     boxed(alloc, object)
+}
+
+/// A list of two schemas.
+fn both(alloc: Global, first: Term, second: Term) -> Result<List<Term>, AllocError>
+    ensures { IfOk result (λ items. tree_views leaf_view items
+        ≡ schema (term_view first) (schema (term_view second) no_schemas)) }
+{
+    let mut items = List::new(alloc);
+    items.push(first)?;
+    items.push(second)?;
+    Ok(items)
 }
 
 /// One of the schema and null.
@@ -135,9 +150,7 @@ fn one_of_null(alloc: Global, schema: Term, notes: Notes) -> Result<Term, AllocE
     ensures { IfOk result (λ s. term_view s ≡ one_of_null notes (term_view schema)) }
 {
     let null = only_word(alloc, TypeWord::One(SchemaTypeInner::Null), Notes::new())?;
-    let mut items = List::new(alloc);
-    items.push(schema)?;
-    items.push(null)?;
+    let items = both(alloc, schema, null)?;
     Ok(Tree::OneOf(Box::new(alloc, OneOfSchema { items, notes })?))
 }
 
@@ -160,9 +173,7 @@ fn beside(alloc: Global, description: &Option<Text>, schema: Term) -> Result<Ter
         return Ok(schema);
     }
     let said = only_word(alloc, TypeWord::Any, noted(alloc, false, description)?)?;
-    let mut items = List::new(alloc);
-    items.push(schema)?;
-    items.push(said)?;
+    let items = both(alloc, schema, said)?;
     let notes = Notes::new();
     Ok(Tree::AllOf(Box::new(alloc, AllOfSchema { items, notes })?))
 }

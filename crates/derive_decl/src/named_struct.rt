@@ -130,8 +130,8 @@ fn properties_of(alloc: Global, members: &[Member]) -> Result<List<(Text, Term)>
             deprecated: member.deprecated,
             description: &member.description,
         };
-        let schema = place_term(alloc, place, &member.ty)?;
-        properties.push((member.ident.text.copy(alloc)?, schema))?;
+        let name = member.ident.text.copy(alloc)?;
+        properties.push((name, place_term(alloc, place, &member.ty)?))?;
     }
     Ok(properties)
 }
@@ -200,9 +200,9 @@ impl NamedStructSchema {
         ensures { IfOk result (λ t. term_view t ≡ form_term self.now.deprecated self.now.description (named_view self.now)) }
     {
         let members = self.members.as_slice();
-        let properties = properties_of(alloc, members)?;
-        let required = required_of(alloc, members)?;
         let notes = noted(alloc, self.deprecated, &self.description)?;
+        let required = required_of(alloc, members)?;
+        let properties = properties_of(alloc, members)?;
         let object = object_of(properties, self.denies_others, required, notes);
         Ok(Tree::Object(Box::new(alloc, object)?))
     }

@@ -86,8 +86,8 @@ impl UnnamedStructSchema {
         }
         Ok(UnnamedStructSchema {
             deprecated: is_deprecated(root.attributes),
-            types: resolve_types(alloc, root.container, fields)?,
             description: description_of(alloc, root.attributes)?,
+            types: resolve_types(alloc, root.container, fields)?,
         })
     }
 }

@@ -7,7 +7,7 @@ use diag::{List, Text};
 use std::alloc::{AllocError, Global};
 
 /// What a schema says of itself. No value is refused for it.
-#[derive(Debug, Drop)]
+#[derive(Debug)]
 pub struct Notes {
     pub title: Option<Text>,
     pub description: Option<Text>,
@@ -19,6 +19,24 @@ pub struct Notes {
     pub write_only: Option<bool>,
     pub content_encoding: Option<Text>,
     pub content_media_type: Option<Text>,
+}
+
+// by hand, so that a function that lets notes go makes one call for it
+impl Drop for Notes {
+    fn drop(self) {
+        let Notes {
+            title: _,
+            description: _,
+            default: _,
+            example: _,
+            examples: _,
+            deprecated: _,
+            read_only: _,
+            write_only: _,
+            content_encoding: _,
+            content_media_type: _,
+        } = self;
+    }
 }
 
 impl Notes {

@@ -25,13 +25,26 @@ pub enum TypeWord {
 
 /// A schema whose leaves are of any type: what a term, a closed schema and a schema of the document have in common.
 #[cycle(tree)]
-#[derive(Drop)]
 pub enum Tree<L> {
     Object(Box<Object<L>>),
     Array(Box<Array<L>>),
     OneOf(Box<OneOfSchema<L>>),
     AllOf(Box<AllOfSchema<L>>),
     Leaf(L),
+}
+
+// by hand, so that a function that lets a tree go makes one call for it
+impl<L: Drop> Drop for Tree<L> {
+    #[cycle(tree)]
+    fn drop(self) {
+        match self {
+            Tree::Object(_) => {}
+            Tree::Array(_) => {}
+            Tree::OneOf(_) => {}
+            Tree::AllOf(_) => {}
+            Tree::Leaf(_) => {}
+        }
+    }
 }
 
 /// A schema of one type, with the keywords that bind values of that type.
