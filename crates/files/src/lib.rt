@@ -11,6 +11,3 @@ pub use file::{FileAnswer, FileBytes};
 pub use files::Files;
 pub use memory::{HonestFiles, MemoryFiles};
 pub use standard::StdFiles;
-
-#[cfg(test)]
-mod tests;

@@ -27,7 +27,7 @@ fn is_among(numbers: &[usize], number: usize) -> bool
 #[derive(Drop)]
 pub struct HonestFiles {
     files: Vec<(String, Vec<u8>)>,
-    pub(crate) faults: Faults,
+    faults: Faults,
 }
 
 impl HonestFiles {
@@ -86,7 +86,7 @@ impl Files for HonestFiles {
 /// Files in memory, of which chosen calls fail.
 #[derive(Drop)]
 pub struct MemoryFiles {
-    pub(crate) honest: HonestFiles,
+    honest: HonestFiles,
     fails: Vec<usize>,
     calls: usize,
 }

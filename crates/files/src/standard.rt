@@ -13,7 +13,7 @@ use streams::{ReadError, StdSource, read_all};
 #[derive(Drop)]
 pub struct StdFiles<R> {
     runtime: R,
-    pub(crate) faults: Faults,
+    faults: Faults,
 }
 
 impl<R: FileSystem> StdFiles<R> {
