@@ -6,6 +6,7 @@ mod composed;
 mod configured;
 mod grown;
 mod held;
+mod laws;
 mod moved;
 mod parts;
 mod refusals;
@@ -33,6 +34,7 @@ fn told<R: AllocGlobal + Files>(rt: &R, row: &Row) -> anyhow::Result<String> {
         "streams" => moved::told(alloc, call, given),
         "files" => held::told(rt, call, given),
         "compose" => composed::told(alloc, call, given),
+        "laws" => laws::called(alloc),
         other => bail!("no crate {other}"),
     }
 }

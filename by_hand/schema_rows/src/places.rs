@@ -1,16 +1,15 @@
 //! The schemas of places, by what rows say of them.
 
-ghost use Rattle.component.specs.Schemas.{IsScoped};
+ghost use Rattle.place_schemas.specs.Schemas.{IsScoped};
 ghost use Rattle.scopes.specs.Scopes.{IsScope};
 
 use crate::remarks::comments;
 use crate::terms::{named, term_text};
-use component::{
-    ComponentDescription, ComponentSchema, ComponentSchemaProps, Container, SchemaReference,
-    ToTerm, copy_term,
-};
+use component::{SchemaReference, ToTerm, copy_term};
 use diag::DeriveError;
+use place_schemas::{ComponentSchema, ComponentSchemaProps};
 use rows::given::is_said;
+use scopes::{ComponentDescription, Container};
 use serde_json::Value;
 use std::alloc::{AllocError, Global};
 use syntax::parse_type;

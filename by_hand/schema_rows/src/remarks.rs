@@ -3,11 +3,12 @@
 use crate::forms::form_text;
 use crate::notes::text;
 use crate::terms::term_text;
-use component::{ComponentDescription, Place, any_object, noted, null_default, place_term};
+use component::{Place, any_object, noted, null_default, place_term};
 use diag::{List, Text};
 use open_types::OpenType;
 use rows::given::{count_at, is_said, items_at};
 use schema_core::{Notes, RefLeaf, Tree};
+use scopes::ComponentDescription;
 use serde_json::Value;
 use std::alloc::{AllocError, Global};
 use syntax::CommentAttributes;

@@ -8,8 +8,8 @@ use Rattle.words.specs.declared.stopping.Stop.TheVariants as stop
 use Rattle.words.specs.declared.vocabulary.Sign.TheVariants.{Colons}
 use Rattle.words.specs.Words.{Word, sign}
 use Rattle.words.specs.Reading.{Fault, deep, wrong, Read, ◌>>=◌, taken, as_sign, sign_at, Fails}
-use Rattle.lists.proofs.Read.{bind_ok, bind_err, along, first_shallow}
-use Rattle.lists.proofs.Stands.{sign-is, as_sign-is}
+use Rattle.words.proofs.Read.{bind_ok, bind_err, along, first_shallow}
+use Rattle.words.proofs.Stands.{sign-is, as_sign-is}
 use Rattle.written_types.specs.Written.{WrittenPath}
 use Rattle.attributes.specs.AttributeWords.{as_ident, path_item}
 use Rattle.attributes.specs.AttributeGrammar.{IsPath, last_ident, more_idents}

@@ -9,8 +9,8 @@ use Rattle.words.specs.declared.stopping.Stop.{Stop}
 use Rattle.words.specs.declared.vocabulary.Sign.TheVariants.{Equals, Hash}
 use Rattle.words.specs.Words.{Word, name, underscore, keyword, sign, lifetime, literal, doc, group, words_of, cover}
 use Rattle.words.specs.Reading.{Fault, Read, ◌>>=◌, as_group, as_sign, sign_at, group_at, Fails}
-use Rattle.lists.proofs.Read.{bind_ok, ok_is, along}
-use Rattle.lists.proofs.Stands.{sign-is, as_sign-is, group-is}
+use Rattle.words.proofs.Read.{bind_ok, ok_is, along}
+use Rattle.words.proofs.Stands.{sign-is, as_sign-is, group-is}
 use Rattle.attributes.specs.declared.serde_item.SerdeItem.{SerdeItem}
 use Rattle.attributes.specs.Attributes.{MetaItem, value, items, AttributeItem, is_word}
 use Rattle.attributes.specs.Attributes as item

@@ -9,7 +9,7 @@ use Rattle.written_types.specs.declared.written.Ident.{Ident}
 use Rattle.written_types.specs.Written.{WrittenPath}
 use Rattle.words.specs.declared.vocabulary.Sign.TheVariants.{Colons, Equals, Hash}
 use Rattle.words.specs.Words.{Word, sign, literal, group, words_of, cover}
-use Rattle.lists.specs.Lists.{IsList}
+use Rattle.words.specs.Lists.{IsList}
 use Rattle.literal_values.specs.Values.{text_value}
 use Rattle.attributes.specs.declared.serde_item.SerdeItem.{SerdeItem}
 use Rattle.attributes.specs.Attributes.{MetaItem, word, value, items, AttributeItem, is_word}

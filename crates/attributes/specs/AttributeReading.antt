@@ -11,7 +11,7 @@ use Rattle.written_types.specs.Written.{WrittenPath}
 use Rattle.words.specs.declared.vocabulary.Sign.TheVariants.{Colons, Equals, Hash}
 use Rattle.words.specs.Words.{Word, group, words_of, cover}
 use Rattle.words.specs.Reading.{Fault, wrong, Read, ◌>>=◌, first_as, as_sign, literal_at, sign_at, group_at}
-use Rattle.lists.specs.Lists.{list_of}
+use Rattle.words.specs.Lists.{list_of}
 use Rattle.literal_values.specs.Values.{text_value}
 use Rattle.attributes.specs.declared.serde_item.SerdeItem.{SerdeItem}
 use Rattle.attributes.specs.declared.serde_item.SerdeText.{SerdeText}

@@ -4,7 +4,7 @@ ghost use Rattle.std.specs.Prelude.{◌≡◌, ◌<◌, ◌≤◌, length, map, 
 ghost use Rattle.tokens.specs.Trees.{trees_view};
 ghost use Rattle.words.specs.Words.{words_of, words_view, ident_of};
 ghost use Rattle.words.specs.Reading.{Gives};
-ghost use Rattle.lists.specs.Lists.{turn_at, list_of};
+ghost use Rattle.words.specs.Lists.{turn_at, list_of};
 ghost use Rattle.attributes.specs.Attributes.{attribute_view};
 ghost use Rattle.attributes.specs.Forms.{form_view};
 ghost use Rattle.attributes.specs.AttributeReading.{text_at, value_at, serde_item_at, serde_list, serde_items_in, serde_items};
@@ -14,11 +14,10 @@ use crate::meta::Form;
 use crate::path::ident_at;
 use crate::serde_item::{SerdeItem, SerdeText};
 use diag::{List, Span};
-use lists::after_comma;
 use literal_values::text_value;
 use std::alloc::{AllocError, Global};
 use tokens::{Group, TokenTree};
-use words::{Sign, Stop, ident_of, literal_at, optional_sign, stop_at};
+use words::{Sign, Stop, after_comma, ident_of, literal_at, optional_sign, stop_at};
 
 /// The text of a string literal, and what follows it.
 #[tactic(auto, unfolding(crate::specs::AttributeReading::text_at))]
@@ -65,7 +64,7 @@ fn serde_item_at(alloc: Global, trees: &[TokenTree]) -> Result<(SerdeItem, &[Tok
     Ok((SerdeItem { name, value }, rest))
 }
 
-#[tactic(auto, unfolding(lists::specs::Lists::turn_at))]
+#[tactic(auto, unfolding(words::specs::Lists::turn_at))]
 fn serde_turn(alloc: Global, trees: &[TokenTree]) -> Result<(SerdeItem, &[TokenTree]), Stop>
     ensures value { Gives (λ p. (p.0, words_view p.1.now)) result (turn_at serde_item_at (words_view trees.now)) }
     ensures shorter { IfOk result (λ p. length p.1.now < length trees.now) }

@@ -3,11 +3,10 @@
 
 mod accepted;
 mod arguments;
-mod laws;
 mod reported;
+mod single_words;
 mod terms;
 mod trees;
-mod single_words;
 mod written;
 
 use anyhow::bail;
@@ -33,7 +32,6 @@ fn told(alloc: Global, row: &Row) -> anyhow::Result<String> {
         "parse_format" => trees::format_value(alloc, given),
         "type_text" => arguments::text(alloc, given),
         "terms" | "place" => terms::of_source(alloc, row.call.as_str(), given),
-        "laws" => laws::called(alloc),
         other => bail!("no call {other}"),
     }
 }

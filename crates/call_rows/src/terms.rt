@@ -2,21 +2,20 @@
 
 ghost use Rattle.std.specs.Prelude.{◌≡◌, ℕ, List as Items};
 ghost use Rattle.std.specs.BTreeMap.{get_by_text};
-ghost use Rattle.component.specs.Schemas.{IsScoped};
+ghost use Rattle.place_schemas.specs.Schemas.{IsScoped};
 ghost use Rattle.scopes.specs.Names.{place_among};
 ghost use Rattle.scopes.specs.Scopes.{IsScope};
 ghost use Rattle.syntax.specs.Items.{declarations_view};
 
-use component::{
-    ComponentDescription, ComponentSchema, ComponentSchemaProps, Container, Term, ToTerm, copy_term,
-};
+use component::{Term, ToTerm, copy_term};
 use configuration::Config;
 use derive_decl::{Schema, SchemaVariant, Struct};
 use diag::{DeriveError, List};
+use place_schemas::{ComponentSchema, ComponentSchemaProps};
 use rows::given::{is_said, pair_of, text_of};
 use rows::refusal_text;
 use schema_core::Tree;
-use scopes::{Scope, declared_places};
+use scopes::{ComponentDescription, Container, Scope, declared_places};
 use serde_json::Value;
 use std::alloc::{AllocError, Global};
 use std::collections::BTreeMap;

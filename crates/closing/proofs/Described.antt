@@ -26,7 +26,7 @@ use Rattle.derive_decl.specs.Terms.{term}
 use Rattle.derive_decl.specs.Meaning.{leaf_shape, TermsAccept}
 use Rattle.derive_decl.specs.Whole.{MembersDiffer}
 use Rattle.inlining.specs.Inlining.{IsAtMost}
-use Rattle.inline_places.specs.Targets.{inlining_of, most_inlined}
+use Rattle.closing.specs.Targets.{inlining_of, most_inlined}
 use Rattle.closing.specs.Closed.{schema_of, put, closed, struct_schema}
 use Rattle.closing.specs.Described.{IsApart, AreComponents, HasComponent, Describes, TypesWithin, AreWithin, TargetsAreDeclared, ReferencesAccept}
 use Rattle.closing.proofs.Below.{Below, tree-below}

@@ -5,7 +5,7 @@ use Rattle.schema_core.specs.Schema.{SchemaOf, leaf, object, array, one_of, all_
 use Rattle.component.specs.Leaves.{LeafOf}
 use Rattle.component.specs.References.{ReferenceOf, leaf_references, named_leaves, schema_leaves, property_leaves, part_leaves}
 use Rattle.inlining.specs.Inlining.{IsAmong}
-use Rattle.inline_places.specs.Targets.{declaration_of, inlined_among}
+use Rattle.closing.specs.Targets.{declaration_of, inlined_among}
 
 -- ---- two facts at once
 

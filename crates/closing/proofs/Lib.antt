@@ -2,6 +2,7 @@ pub mod Below
 pub mod Bound
 pub mod Described
 pub mod Entered
+pub mod Found
 pub mod Leaves
 pub mod Made
 pub mod Targets

@@ -12,7 +12,7 @@ use Rattle.derive_decl.specs.Plain.{StandsInOne}
 use Rattle.derive_decl.specs.Terms.{term}
 use Rattle.derive_decl.specs.Views.{struct_view}
 use Rattle.inlining.specs.Inlining.{targets_of, IsAmong, IsAtMost}
-use Rattle.inline_places.specs.Targets.{inlining_of, most_inlined}
+use Rattle.closing.specs.Targets.{inlining_of, most_inlined}
 use Rattle.closing.specs.Closed.{any_value, put, closed, schema_in, struct_schema}
 use Rattle.closing.specs.Described.{AreWithin}
 use Rattle.closing.proofs.Described.{all-within}

@@ -11,7 +11,7 @@ use Rattle.derive_decl.specs.Structs.{StructOf, struct_at, types_of}
 use Rattle.derive_decl.specs.Plain.{StandsInOne, AreAllPlain}
 use Rattle.derive_decl.specs.Terms.{term}
 use Rattle.inlining.specs.Inlining.{targets_of, IsAmong, AreTargets, IsPath, IsAtMost}
-use Rattle.inline_places.specs.Targets.{inlined_among, inlining_of, most_inlined}
+use Rattle.closing.specs.Targets.{inlined_among, inlining_of, most_inlined}
 use Rattle.closing.specs.Closed.{put, closed}
 use Rattle.closing.proofs.Leaves.{each-both, bind-same, AtInlined, at-leaves, from-leaves}
 use Rattle.closing.proofs.Terms.{form-leaves}

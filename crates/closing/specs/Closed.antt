@@ -10,7 +10,7 @@ use Rattle.component.specs.Leaves.{LeafOf, param, named}
 use Rattle.component.specs.Places.{only_word}
 use Rattle.derive_decl.specs.Structs.{StructOf, struct_at}
 use Rattle.derive_decl.specs.Terms.{term}
-use Rattle.inline_places.specs.Targets.{most_inlined}
+use Rattle.closing.specs.Targets.{most_inlined}
 
 -- the name of the component of a declaration
 abbrev pub name_of : List StructOf → Open → List ℕ

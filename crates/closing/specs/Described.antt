@@ -16,7 +16,7 @@ use Rattle.derive_decl.specs.Shape.{HasShape}
 use Rattle.derive_decl.specs.Plain.{IsPlain}
 use Rattle.derive_decl.specs.Whole.{MembersDiffer}
 use Rattle.inlining.specs.Inlining.{AreTargets, IsAtMost}
-use Rattle.inline_places.specs.Targets.{inlining_of, most_inlined}
+use Rattle.closing.specs.Targets.{inlining_of, most_inlined}
 use Rattle.closing.specs.Closed.{struct_schema}
 
 -- no two declarations and no two members of one have one name

@@ -1,2 +1,3 @@
 pub mod Closed
 pub mod Described
+pub mod Targets

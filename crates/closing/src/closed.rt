@@ -8,7 +8,7 @@ ghost use Rattle.derive_decl.specs.Structs.{StructOf, struct_at};
 ghost use Rattle.derive_decl.specs.Terms.{term};
 ghost use Rattle.derive_decl.specs.Views.{struct_view};
 ghost use Rattle.inlining.specs.Inlining.{IsAtMost, IsOrder};
-ghost use Rattle.inline_places.specs.Targets.{inlining_of, most_inlined};
+ghost use Rattle.closing.specs.Targets.{inlining_of, most_inlined};
 ghost use Rattle.closing.specs.Closed.{any_value, name_of, schema_of, schema_in, struct_schema};
 ghost use Rattle.closing.specs.Described.{AreWithin};
 

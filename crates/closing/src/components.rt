@@ -7,7 +7,7 @@ ghost use Rattle.derive_decl.specs.Structs.{struct_names};
 ghost use Rattle.derive_decl.specs.Terms.{term};
 ghost use Rattle.derive_decl.specs.Views.{struct_view};
 ghost use Rattle.inlining.specs.Inlining.{IsAtMost, IsOrder};
-ghost use Rattle.inline_places.specs.Targets.{inlining_of, most_inlined};
+ghost use Rattle.closing.specs.Targets.{inlining_of, most_inlined};
 ghost use Rattle.closing.specs.Described.{AreComponents, AreWithin};
 
 use crate::closed::closed;

@@ -20,7 +20,7 @@ pub struct SchemaReference {
 }
 
 /// The declarations that the schema of a place of the type names, in the order in which it is made.
-pub(crate) fn references_of(
+pub fn references_of(
     alloc: Global,
     inline: bool,
     ty: &OpenType,

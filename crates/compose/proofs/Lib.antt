@@ -1,3 +1,5 @@
+pub mod Along
+pub mod Bounded
 pub mod First
 pub mod Faulty
 pub mod Parts

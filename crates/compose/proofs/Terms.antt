@@ -6,7 +6,7 @@ use Rattle.schema_core.specs.declared.tree.Tree.{Tree}
 use Rattle.derive_decl.specs.declared.structs.Struct.{Struct}
 use Rattle.derive_decl.specs.Terms.{term}
 use Rattle.derive_decl.specs.Views.{struct_view}
-use Rattle.inline_places.specs.Targets.{targets_in, inlining_of}
+use Rattle.closing.specs.Targets.{targets_in, inlining_of}
 
 all_targets : (structs : List Struct) → map targets_in (map (λ s. term (struct_view s)) structs) ≡ inlining_of (map struct_view structs)
 all_targets [] = refl

@@ -22,7 +22,7 @@ use Rattle.derive_decl.specs.Fields.{kept, written_idents}
 use Rattle.derive_decl.specs.Faults.{body_fields, kept_fields, container_items, fieldless_message, IsFaultyName}
 use Rattle.derive_decl.specs.Whole.{structs_of}
 use Rattle.closing.specs.Described.{IsApart, AreComponents}
-use Rattle.instances.specs.Bounds.{AreBounded, IsUnbounded}
+use Rattle.compose.specs.Bounds.{AreBounded, IsUnbounded}
 
 -- the fields of a form whose fields have names
 abbrev pub named_in : FieldItems → List FieldItem

@@ -11,7 +11,7 @@ use Rattle.open_types.specs.Open.{Open}
 use Rattle.open_types.specs.Open as types
 use Rattle.resolving.specs.Resolved.{type_of}
 use Rattle.scopes.specs.Names.{place_among}
-use Rattle.component.specs.Descriptions.{said}
+use Rattle.scopes.specs.Descriptions.{said}
 use Rattle.derive_decl.specs.Fields.{is_deprecated, FieldRules, field_rules, value_of, kept, written_name}
 
 -- a field by its name in JSON, whether its member must be there, whether it is deprecated, its description and its type

@@ -2,7 +2,7 @@
 use Rattle.std.specs.Prelude.{ℕ, List, Bool, Option, map}
 use Rattle.open_types.specs.Open.{open_view}
 use Rattle.scopes.specs.Scopes.{declared_in}
-use Rattle.component.specs.declared.container.Container.{Container}
+use Rattle.scopes.specs.declared.container.Container.{Container}
 use Rattle.derive_decl.specs.Structs.{MemberOf, FormOf, named_fields, unnamed_fields, no_fields, StructOf, Around, around_of}
 use Rattle.derive_decl.specs.declared.member.Member.{Member}
 use Rattle.derive_decl.specs.declared.named_struct.NamedStructSchema.{NamedStructSchema}

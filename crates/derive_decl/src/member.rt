@@ -13,11 +13,10 @@ ghost use Rattle.derive_decl.specs.Faults.{IsUnwritten, IsFaultyMember, IsSmall,
 ghost use Rattle.derive_decl.specs.Views.{known, member_view};
 
 use crate::remarks::{description_of, is_deprecated};
-use component::Container;
 use configuration::Config;
 use diag::{DeriveError, Diagnostics, Kind, RenameRule, Text};
 use open_types::OpenType;
-use scopes::{Named, resolve};
+use scopes::{Container, Named, resolve};
 use serde_rules::names::rename;
 use serde_rules::{FieldRename, SerdeContainer, SerdeValue, is_required, parse_value};
 use std::alloc::{AllocError, Global};

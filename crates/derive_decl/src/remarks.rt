@@ -5,8 +5,8 @@ ghost use Rattle.attributes.specs.Attributes.{attribute_view};
 ghost use Rattle.derive_decl.specs.Fields.{is_deprecated};
 ghost use Rattle.derive_decl.specs.Structs.{description_of};
 
-use component::ComponentDescription;
 use diag::Text;
+use scopes::ComponentDescription;
 use std::alloc::{AllocError, Global};
 use syntax::{Attribute, CommentAttributes};
 

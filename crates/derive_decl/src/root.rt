@@ -1,4 +1,4 @@
-use component::Container;
+use scopes::Container;
 use syntax::{Attribute, Ident};
 
 /// A declaration by its name and attributes, and where it stands.

@@ -14,9 +14,10 @@ ghost use Rattle.derive_decl.specs.Whole.{IsResolved};
 use crate::root::Root;
 use crate::schema_variant::SchemaVariant;
 use crate::structs::{Struct, types_of};
-use component::{Container, Term, ToTerm};
+use component::{Term, ToTerm};
 use diag::{DeriveError, List};
 use open_types::OpenType;
+use scopes::Container;
 use std::alloc::Global;
 use syntax::{Attribute, Body, Ident};
 

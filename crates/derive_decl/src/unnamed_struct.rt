@@ -17,11 +17,11 @@ ghost use Rattle.derive_decl.specs.Views.{known, unnamed_view};
 
 use crate::remarks::{description_of, is_deprecated};
 use crate::root::Root;
-use component::{Container, Place, Term, ToTerm, any_object, noted, place_term};
+use component::{Place, Term, ToTerm, any_object, noted, place_term};
 use diag::{DeriveError, Diagnostics, Kind, List, Span, Text};
 use open_types::OpenType;
 use schema_core::{Array, ArrayItems, Bound, Notes, Tree};
-use scopes::resolve;
+use scopes::{Container, resolve};
 use std::alloc::{AllocError, Global};
 use syntax::Field;
 

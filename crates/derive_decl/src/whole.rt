@@ -15,10 +15,9 @@ ghost use Rattle.derive_decl.specs.Whole.{structs_of, MembersDiffer, IsSmallItem
 
 use crate::schema::Schema;
 use crate::structs::Struct;
-use component::Container;
 use configuration::Config;
 use diag::{DeriveError, List};
-use scopes::Scope;
+use scopes::{Container, Scope};
 use std::alloc::Global;
 use std::collections::BTreeMap;
 use syntax::{Declaration, Declarations};

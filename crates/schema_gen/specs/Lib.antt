@@ -22,9 +22,9 @@ pub use Rattle.diag.specs.Span
 pub use Rattle.files.specs.Faults as FileFaults
 pub use Rattle.files.specs.Held
 pub use Rattle.files.specs.Memory as FileMemory
-pub use Rattle.inline_places.specs.Targets
+pub use Rattle.closing.specs.Targets
 pub use Rattle.inlining.specs.Inlining
-pub use Rattle.instances.specs.Bounds
+pub use Rattle.compose.specs.Bounds
 pub use Rattle.schema_core.specs.Document
 pub use Rattle.streams.specs.Faults as StreamFaults
 pub use Rattle.streams.specs.Memory

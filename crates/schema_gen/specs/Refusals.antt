@@ -18,7 +18,7 @@ use Rattle.configuration.specs.Configuration.{Configuration}
 use Rattle.configuration.specs.Form.{IsBadConfig}
 use Rattle.derive_decl.specs.Structs.{StructOf}
 use Rattle.derive_decl.specs.Whole.{structs_of}
-use Rattle.instances.specs.Bounds.{AreBounded}
+use Rattle.compose.specs.Bounds.{AreBounded}
 use Rattle.compose.specs.Faults.{IsRefused, AreClear}
 use Rattle.schema_gen.specs.Given.{Given, IsGiven, SaysNone}
 use Rattle.schema_gen.specs.Words.{IsDerive}

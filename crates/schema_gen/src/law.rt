@@ -5,7 +5,7 @@ ghost use Rattle.diag.specs.declared.error.DeriveError.{DeriveError};
 ghost use Rattle.configuration.specs.Configuration.{Configuration};
 ghost use Rattle.schema_gen.specs.Refusals.{IsRefusedSource, IsSound};
 
-use instances::bounded_are_not_refused;
+use compose::bounded_are_not_refused;
 use syntax::one_reading;
 
 /// Nothing refuses a source that is sound with a configuration.

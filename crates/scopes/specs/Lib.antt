@@ -1,3 +1,4 @@
+pub mod Descriptions
 pub mod Names
 pub mod Scopes
 pub mod Texts

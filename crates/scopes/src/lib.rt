@@ -1,11 +1,13 @@
 //! Where the names of a source are looked up: the places of its declarations, and what a written type stands for there.
 #![tactic(auto)]
 
+mod container;
 mod heads;
 mod names;
 mod scope;
 mod text;
 
+pub use container::{ComponentDescription, Container};
 pub use names::{Named, declared_places, places_of};
 pub use scope::{Scope, resolve};
 pub use text::type_text;

@@ -23,7 +23,7 @@ use Rattle.syntax.specs.Source.{Reads, NestsTooDeep, IsUnreadable, IsTooDeep}
 use Rattle.syntax.proofs.Types.{type_sound, type_complete, opens_deep, deep_enough}
 use Rattle.syntax.proofs.Sound.{source_sound}
 use Rattle.syntax.proofs.Deep.{source_deep}
-use Rattle.lists.proofs.Complete as lists
+use Rattle.words.proofs.Complete as lists
 use Rattle.syntax.proofs.Complete as complete
 
 -- a source has at most one list of trees

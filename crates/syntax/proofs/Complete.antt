@@ -17,7 +17,7 @@ use Rattle.words.specs.Reading.{wrong, Read, ◌>>=◌, as_sign, as_keyword, nam
 use Rattle.type_grammar.specs.Starts.{Stops, begins_type}
 use Rattle.type_grammar.specs.Grammar.{IsType}
 use Rattle.type_grammar.specs.Opening.{OpensType}
-use Rattle.lists.specs.Lists.{IsList, turn_at, itself, list_of}
+use Rattle.words.specs.Lists.{IsList, turn_at, itself, list_of}
 use Rattle.attributes.specs.Attributes.{AttributeItem}
 use Rattle.attributes.specs.AttributeWords.{is_inner_text}
 use Rattle.attributes.specs.AttributeGrammar.{IsAttributes}
@@ -31,9 +31,9 @@ use Rattle.syntax.specs.ItemReading.{is_scope, ends_item, after_visibility, fiel
 use Rattle.syntax.proofs.Fronts.{bool_cases, NoAttribute, scope-is, visibility_no_attribute, pub_left, scope_left, scope_passed, visibility_complete, NoInner, attributes_no_inner, visibility_no_inner, visibility_no_longer}
 use Rattle.syntax.proofs.Types.{Begins, type_begins, group_alone, opens_begins, scope_shallow}
 use Rattle.syntax.proofs.Inner.{inner_step, inner_stop}
-use Rattle.lists.proofs.Many.{Shortens, many_none}
-use Rattle.lists.proofs.Sound.{turn_shortens}
-use Rattle.lists.proofs.Complete.{Ends, at_end, at_comma, IsDeep, Finds, bind_deep, like_deep, like_finds, then_finds, turn_finds, turn_deep, more_finds, more_deep, first_deep, list_complete}
+use Rattle.words.proofs.Many.{Shortens, many_none}
+use Rattle.words.proofs.Sound.{turn_shortens}
+use Rattle.words.proofs.Complete.{Ends, at_end, at_comma, IsDeep, Finds, bind_deep, like_deep, like_finds, then_finds, turn_finds, turn_deep, more_finds, more_deep, first_deep, list_complete}
 use Rattle.syntax.proofs.Sound.{named_shorter, unnamed_shorter, use_shorter, struct_shorter, named_shortens, unnamed_shortens, item_shortens}
 
 -- ---- what a type begins with, and what ends an item of a list

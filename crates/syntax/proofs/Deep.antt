@@ -10,7 +10,7 @@ use Rattle.words.specs.declared.vocabulary.Sign.TheVariants.{Colon, Comma, Semic
 use Rattle.words.specs.Words.{Word, name, underscore, keyword, sign, lifetime, literal, doc, group, words_of}
 use Rattle.words.specs.Reading.{Fault, deep, Read, ◌>>=◌, first_as, as_name, as_keyword, as_sign, keyword_at, sign_at, group_at}
 use Rattle.type_grammar.specs.Reading.{type_at}
-use Rattle.lists.specs.Lists.{after_comma, turn_at, many_at, many_of, itself, list_of}
+use Rattle.words.specs.Lists.{after_comma, turn_at, many_at, many_of, itself, list_of}
 use Rattle.attributes.specs.Attributes.{AttributeItem}
 use Rattle.attributes.specs.AttributeWords.{is_inner_doc}
 use Rattle.attributes.specs.AttributeGrammar.{IsAttributes}
@@ -21,11 +21,11 @@ use Rattle.syntax.specs.ItemWords.{after_semicolon}
 use Rattle.syntax.specs.ItemGrammar.{IsVisibility, IsNamedField, IsUnnamedField}
 use Rattle.syntax.specs.ItemDepth.{most_levels, OpensNamed, in_named, OpensUnnamed, in_unnamed, OpensList, in_first, behind, OpensFields, in_named_fields, in_unnamed_fields, OpensItems, in_struct, behind_use, behind_struct, OpensSource, behind_inner_doc, behind_inner_attribute, in_items}
 use Rattle.syntax.specs.ItemReading.{after_visibility, named_field_at, unnamed_field_at, fields_in, fields_at, struct_at, left_by, use_or_struct, item_at, kept, after_inner_attribute, inner_at, inner_from, after_inner_within, after_inner, source_at}
-use Rattle.lists.proofs.Read.{bind_ok, bind_err, ok_is, first_shallow}
-use Rattle.lists.proofs.Stands.{name-is, keyword-is, sign-is, group-is}
+use Rattle.words.proofs.Read.{bind_ok, bind_err, ok_is, first_shallow}
+use Rattle.words.proofs.Stands.{name-is, keyword-is, sign-is, group-is}
 use Rattle.syntax.proofs.Fronts.{visibility_sound}
 use Rattle.syntax.proofs.Types.{type_sound, deep_opens}
-use Rattle.lists.proofs.Sound.{comma_read, turn_sound}
+use Rattle.words.proofs.Sound.{comma_read, turn_sound}
 use Rattle.syntax.proofs.Sound.{ItemRead}
 use Rattle.syntax.proofs.Sound as sound
 

@@ -2,7 +2,7 @@
 use Rattle.std.proofs.Common.{List, refl}
 use Rattle.std.specs.List.{AllByRecursion}
 use Rattle.words.specs.Words.{Word}
-use Rattle.lists.specs.Lists.{IsList, no_items, last_item, more_items}
+use Rattle.words.specs.Lists.{IsList, no_items, last_item, more_items}
 use Rattle.syntax.specs.Items.{FieldItem, FieldItems, DeclaredItem}
 use Rattle.syntax.specs.ItemGrammar.{IsNamedField, named_field, IsFields, named_fields, unnamed_fields, no_fields, IsStruct, struct_item, IsItems, nothing, used, declared, IsSource, inner_doc, inner_attribute, items}
 use Rattle.syntax.specs.Named.{HasName, HaveNames, IsNamedBody, AreNamed}

@@ -1,11 +1,11 @@
 -- Readers of items leave fewer words.
 use Rattle.type_grammar.specs.Reading.{type_at}
 use Rattle.syntax.specs.ItemDepth.{most_levels}
-use Rattle.lists.specs.Lists.{turn_at}
+use Rattle.words.specs.Lists.{turn_at}
 use Rattle.syntax.specs.ItemReading.{named_field_at, unnamed_field_at, item_at}
-use Rattle.lists.proofs.Many.{Shortens}
+use Rattle.words.proofs.Many.{Shortens}
 use Rattle.syntax.proofs.Types.{type_sound}
-use Rattle.lists.proofs.Sound.{turn_shortens}
+use Rattle.words.proofs.Sound.{turn_shortens}
 use Rattle.syntax.proofs.Sound as sound
 
 pub named_turn_shortens : Shortens (turn_at (named_field_at (type_at most_levels)))

@@ -11,7 +11,7 @@ use Rattle.words.specs.declared.vocabulary.Sign.TheVariants.{Colon, Semicolon, H
 use Rattle.words.specs.Words.{Word, name, underscore, keyword, sign, lifetime, literal, doc, group, words_of}
 use Rattle.words.specs.Reading.{Fault, Read, ◌>>=◌, as_sign, name_at, keyword_at, sign_at, group_at}
 use Rattle.type_grammar.specs.Grammar.{IsType}
-use Rattle.lists.specs.Lists.{many_at, many_of, list_of}
+use Rattle.words.specs.Lists.{many_at, many_of, list_of}
 use Rattle.attributes.specs.Attributes.{AttributeItem}
 use Rattle.attributes.specs.AttributeWords.{is_inner_doc}
 use Rattle.attributes.specs.AttributeGrammar.{IsAttributes}
@@ -21,12 +21,12 @@ use Rattle.syntax.specs.Items.{FieldItem, FieldItems, named, unnamed, unit, Decl
 use Rattle.syntax.specs.ItemWords.{after_semicolon}
 use Rattle.syntax.specs.ItemGrammar.{IsVisibility, IsNamedField, named_field, IsUnnamedField, unnamed_field, IsFields, named_fields, unnamed_fields, no_fields, IsUse, use_line, IsStruct, struct_item, IsItems, nothing, used, declared, IsSource, inner_doc, inner_attribute, items}
 use Rattle.syntax.specs.ItemReading.{after_visibility, field_of, named_field_at, unnamed_field_at, fields_in, fields_at, declared_of, struct_at, left_by, use_or_struct, item_at, kept, after_inner_attribute, inner_at, inner_from, after_inner_within, after_inner, source_at}
-use Rattle.lists.proofs.Read.{bind_ok, ok_is, along}
-use Rattle.lists.proofs.Stands.{name-is, keyword-is, sign-is, group-is}
+use Rattle.words.proofs.Read.{bind_ok, ok_is, along}
+use Rattle.words.proofs.Stands.{name-is, keyword-is, sign-is, group-is}
 use Rattle.syntax.proofs.Fronts.{visibility_sound, visibility_no_longer}
 use Rattle.syntax.proofs.Types.{type_shorter}
-use Rattle.lists.proofs.Many.{Shortens}
-use Rattle.lists.proofs.Sound.{list_sound}
+use Rattle.words.proofs.Many.{Shortens}
+use Rattle.words.proofs.Sound.{list_sound}
 
 -- ---- what an item is longer than
 pub named_shorter : {ws rest : List Word} {f : FieldItem} → IsNamedField ws f rest → length rest < length ws

@@ -10,7 +10,7 @@ use Rattle.words.specs.declared.vocabulary.Keyword.TheVariants.{Pub, Struct, Use
 use Rattle.words.specs.declared.vocabulary.Sign.TheVariants.{Colon, Semicolon, Hash, Exclamation}
 use Rattle.words.specs.Words.{Word, name, keyword, sign, doc, group, words_of}
 use Rattle.type_grammar.specs.Grammar.{IsType}
-use Rattle.lists.specs.Lists.{IsList}
+use Rattle.words.specs.Lists.{IsList}
 use Rattle.attributes.specs.Attributes.{AttributeItem}
 use Rattle.attributes.specs.AttributeWords.{is_inner_text}
 use Rattle.attributes.specs.AttributeGrammar.{IsAttributes}

@@ -14,7 +14,7 @@ use Rattle.words.specs.declared.stopping.Stop.{Stop}
 use Rattle.words.specs.declared.stopping.Stop.TheVariants as stop
 use Rattle.words.specs.Words.{Word, group, words_of}
 use Rattle.words.specs.Reading.{Fault, wrong, Read, ◌>>=◌, as_sign, name_at, keyword_at, sign_at, group_at}
-use Rattle.lists.specs.Lists.{many_of, list_of}
+use Rattle.words.specs.Lists.{many_of, list_of}
 use Rattle.attributes.specs.Attributes.{AttributeItem}
 use Rattle.attributes.specs.AttributeWords.{is_inner_doc}
 use Rattle.attributes.specs.AttributeReading.{attributes_at}

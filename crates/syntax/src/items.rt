@@ -6,7 +6,7 @@ ghost use Rattle.tokens.specs.Trees.{trees_view};
 ghost use Rattle.words.specs.Words.{words_of, words_view};
 ghost use Rattle.words.specs.Reading.{Gives};
 ghost use Rattle.type_grammar.specs.Reading.{type_at};
-ghost use Rattle.lists.specs.Lists.{turn_at, list_of};
+ghost use Rattle.words.specs.Lists.{turn_at, list_of};
 ghost use Rattle.attributes.specs.Attributes.{attribute_view};
 ghost use Rattle.syntax.specs.Items.{field_view, fields_view, declaration_view};
 ghost use Rattle.syntax.specs.ItemDepth.{most_levels};
@@ -16,12 +16,12 @@ use crate::item::{Body, Declaration, Field, Fields};
 use crate::scope::{after_semicolon, after_visibility, spanning};
 use attributes::{Attribute, attributes_at};
 use diag::List;
-use lists::after_comma;
 use std::alloc::Global;
 use tokens::{Bracket, Group, TokenTree};
 use type_grammar::{MAX_LEVELS, type_at};
 use words::{
-    Keyword, Sign, Stop, ident_of, keyword_at, name_at, optional_keyword, sign_at, stop_at,
+    Keyword, Sign, Stop, after_comma, ident_of, keyword_at, name_at, optional_keyword, sign_at,
+    stop_at,
 };
 
 #[tactic(auto, unfolding(crate::specs::ItemReading::named_field_at))]
@@ -65,7 +65,7 @@ fn unnamed_field_at(alloc: Global, trees: &[TokenTree]) -> Result<(Field, &[Toke
     ))
 }
 
-#[tactic(auto, unfolding(lists::specs::Lists::turn_at))]
+#[tactic(auto, unfolding(words::specs::Lists::turn_at))]
 fn named_turn(alloc: Global, trees: &[TokenTree]) -> Result<(Field, &[TokenTree]), Stop>
     ensures value { Gives (λ p. (field_view p.0, words_view p.1.now)) result (turn_at (named_field_at (type_at most_levels)) (words_view trees.now)) }
     ensures shorter { IfOk result (λ p. length p.1.now < length trees.now) }
@@ -75,7 +75,7 @@ fn named_turn(alloc: Global, trees: &[TokenTree]) -> Result<(Field, &[TokenTree]
     Ok((field, rest))
 }
 
-#[tactic(auto, unfolding(lists::specs::Lists::turn_at))]
+#[tactic(auto, unfolding(words::specs::Lists::turn_at))]
 fn unnamed_turn(alloc: Global, trees: &[TokenTree]) -> Result<(Field, &[TokenTree]), Stop>
     ensures value { Gives (λ p. (field_view p.0, words_view p.1.now)) result (turn_at (unnamed_field_at (type_at most_levels)) (words_view trees.now)) }
     ensures shorter { IfOk result (λ p. length p.1.now < length trees.now) }

@@ -1,3 +1,9 @@
 pub mod Lengths
 pub mod Same
 pub mod Signs
+pub mod Read
+pub mod Stands
+pub mod Turns
+pub mod Many
+pub mod Sound
+pub mod Complete

@@ -1,12 +1,14 @@
-//! Words: what a token tree is to the grammar, and the readers of single words.
+//! Words: what a token tree is to the grammar, the readers of single words, and lists with commas between their items.
 #![tactic(auto)]
 
+mod comma;
 mod keywords;
 mod readers;
 mod stopping;
 mod tree_word;
 mod vocabulary;
 
+pub use comma::after_comma;
 pub use readers::{
     group_at, keyword_at, lifetime_at, literal_at, name_at, optional_keyword, optional_lifetime,
     optional_sign, path_word_at, sign_at,

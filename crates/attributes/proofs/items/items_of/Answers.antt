@@ -1,8 +1,8 @@
 use Rattle.std.proofs.Common.{sym, ◌∙◌}
 use Rattle.std.proofs.lemmas.Result.{err_from_is_err_and}
 use Rattle.words.specs.Words.{words_view}
-use Rattle.lists.specs.Lists.{itself, turn_at}
-use Rattle.lists.proofs.Many.{ends, goes_on, many_done, many_turn, many_fails}
+use Rattle.words.specs.Lists.{itself, turn_at}
+use Rattle.words.proofs.Many.{ends, goes_on, many_done, many_turn, many_fails}
 use Rattle.attributes.specs.AttributeReading.{serde_item_at}
 use Rattle.attributes.proofs.Serde.{serde_turn_shortens}
 use Rattle.attributes.proofs.items.items_of.Goals as goal

@@ -1,6 +1,6 @@
 use Rattle.std.proofs.Common.{◌≡◌, length}
 use Rattle.words.specs.Words.{words_view}
-use Rattle.lists.specs.Lists.{list_of, with_front}
+use Rattle.words.specs.Lists.{list_of, with_front}
 use Rattle.attributes.specs.AttributeReading.{serde_item_at}
 use Rattle.attributes.proofs.items.items_of.Given as goal
 

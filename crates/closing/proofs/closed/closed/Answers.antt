@@ -3,7 +3,7 @@ use Rattle.std.proofs.lemmas.List.{take_all, length-set}
 use Rattle.schema_core.specs.Schema.{schema_view}
 use Rattle.derive_decl.specs.Views.{struct_view}
 use Rattle.inlining.specs.Inlining.{targets_of}
-use Rattle.inline_places.specs.Targets.{inlining_of}
+use Rattle.closing.specs.Targets.{inlining_of}
 use Rattle.closing.specs.Closed.{struct_schema}
 use Rattle.closing.proofs.Made.{AreMade, made_more, as_many_terms, next_schema, struct_place, struct_place_back}
 use Rattle.closing.proofs.closed.closed.Goals as goal

@@ -4,7 +4,7 @@ use Rattle.component.specs.Leaves.{term_view}
 use Rattle.component.specs.declared.term.TermLeaf.{TermLeaf}
 use Rattle.derive_decl.specs.Views.{struct_view}
 use Rattle.inlining.specs.Inlining.{AreTargets}
-use Rattle.inline_places.specs.Targets.{targets_in, inlining_of}
+use Rattle.closing.specs.Targets.{targets_in, inlining_of}
 use Rattle.compose.proofs.Terms.{targets_are}
 use Rattle.compose.proofs.derive.bounded_components.Goals as goal
 

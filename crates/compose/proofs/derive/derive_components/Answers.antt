@@ -15,7 +15,7 @@ use Rattle.derive_decl.specs.declared.structs.Struct.{Struct}
 use Rattle.derive_decl.specs.Structs.{StructOf, struct_names}
 use Rattle.derive_decl.specs.Views.{struct_view}
 use Rattle.closing.specs.Described.{AreComponents}
-use Rattle.instances.specs.Bounds.{AreBounded, IsUnbounded}
+use Rattle.compose.specs.Bounds.{AreBounded, IsUnbounded}
 use Rattle.compose.specs.Faults.{IsDerived}
 use Rattle.compose.specs.Settled.{IsSettled}
 use Rattle.compose.specs.Types.{declared, AreTypesOf}

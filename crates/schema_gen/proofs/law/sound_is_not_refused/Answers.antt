@@ -5,7 +5,7 @@ use Rattle.syntax.specs.Source.{Reads}
 use Rattle.configuration.specs.Configuration.{Configuration}
 use Rattle.derive_decl.specs.Structs.{StructOf}
 use Rattle.derive_decl.specs.Whole.{structs_of}
-use Rattle.instances.specs.Bounds.{AreBounded, BoundedAreNotRefused}
+use Rattle.compose.specs.Bounds.{AreBounded, BoundedAreNotRefused}
 use Rattle.compose.specs.Faults.{AreAtFault, IsBeyond, IsRefused, AreClear}
 use Rattle.schema_gen.specs.Refusals.{most_bytes, IsSound, IsRefusedSource}
 use Rattle.schema_gen.proofs.law.sound_is_not_refused.Goals as goal

@@ -8,9 +8,9 @@ use Rattle.syntax.specs.declared.item.Declaration.{Declaration}
 use Rattle.type_grammar.specs.Reading.{type_at}
 use Rattle.syntax.specs.Items.{DeclaredItem, declaration_view}
 use Rattle.syntax.specs.ItemDepth.{most_levels}
-use Rattle.lists.specs.Lists.{with_front}
+use Rattle.words.specs.Lists.{with_front}
 use Rattle.syntax.specs.ItemReading.{kept, item_at, items_at}
-use Rattle.lists.proofs.Many.{ends, goes_on, many_done, many_turn, many_fails}
+use Rattle.words.proofs.Many.{ends, goes_on, many_done, many_turn, many_fails}
 use Rattle.syntax.proofs.Shortening.{item_shortens}
 use Rattle.syntax.proofs.items.items_of.Goals as goal
 

@@ -3,7 +3,7 @@ use Rattle.words.specs.Words.{words_view}
 use Rattle.type_grammar.specs.Reading.{type_at}
 use Rattle.syntax.specs.Items.{declaration_view}
 use Rattle.syntax.specs.ItemDepth.{most_levels}
-use Rattle.lists.specs.Lists.{with_front}
+use Rattle.words.specs.Lists.{with_front}
 use Rattle.syntax.specs.ItemReading.{items_at}
 use Rattle.syntax.proofs.items.items_of.Given as goal
 

@@ -5,9 +5,9 @@ use Rattle.words.specs.Words.{words_view}
 use Rattle.type_grammar.specs.Reading.{type_at}
 use Rattle.syntax.specs.Items.{field_view}
 use Rattle.syntax.specs.ItemDepth.{most_levels}
-use Rattle.lists.specs.Lists.{itself, turn_at}
+use Rattle.words.specs.Lists.{itself, turn_at}
 use Rattle.syntax.specs.ItemReading.{named_field_at}
-use Rattle.lists.proofs.Many.{ends, goes_on, many_done, many_turn, many_fails}
+use Rattle.words.proofs.Many.{ends, goes_on, many_done, many_turn, many_fails}
 use Rattle.syntax.proofs.Shortening.{named_turn_shortens}
 use Rattle.syntax.proofs.items.named_fields.Goals as goal
 

@@ -3,7 +3,7 @@ use Rattle.words.specs.Words.{words_view}
 use Rattle.type_grammar.specs.Reading.{type_at}
 use Rattle.syntax.specs.Items.{field_view}
 use Rattle.syntax.specs.ItemDepth.{most_levels}
-use Rattle.lists.specs.Lists.{list_of, with_front}
+use Rattle.words.specs.Lists.{list_of, with_front}
 use Rattle.syntax.specs.ItemReading.{named_field_at}
 use Rattle.syntax.proofs.items.named_fields.Given as goal
 

@@ -1,0 +1,64 @@
+//! Laws, which are proved and do nothing when they run.
+
+use std::alloc::Global;
+
+/// The laws of what reads a source.
+fn of_reading() {
+    literals::literals_are_longest();
+    literals::literals_have_quotes();
+    lexing::one_cut();
+    lexing::deep_brackets_nest_deep();
+    tokens::trees_are_equal_by_text();
+    written_types::types_are_equal_by_text();
+    type_grammar::types_are_read();
+    type_grammar::types_begin();
+    type_grammar::one_type();
+    type_grammar::bounds_are_read();
+    type_grammar::one_bound();
+    attributes::attributes_are_read();
+    syntax::one_reading();
+    syntax::one_type_reading();
+    syntax::read_fields_are_named();
+}
+
+/// The laws of types, of schemas and of what they accept.
+fn of_schemas() {
+    open_types::closed_types_stay();
+    open_types::same_types_are_equal();
+    resolving::resolved_have_no_fault();
+    resolving::resolved_are_within();
+    type_tree::trees_are_equal_by_text();
+    acceptance::accepts_deeper();
+    acceptance::components_alone();
+    schema_core::forms_accept();
+    schema_core::forms_refer();
+    schema_core::documents_hold();
+    component::references_are_leaves();
+    derive_decl::terms_accept();
+    derive_decl::shapes_deepen();
+}
+
+/// The laws of what is reported and configured, and of whole documents.
+fn of_documents() {
+    diag::suggestions_are_ordered();
+    diag::rules_have_own_names();
+    configuration::configurations_are_one();
+    serde_rules::lists_are_one();
+    serde_rules::last_text_counts();
+    serde_rules::rules_are_found_by_name();
+    serde_rules::container_rules_are_one();
+    inlining::orders_stand();
+    compose::bounded_are_not_refused();
+    closing::targets_are_declared();
+    closing::components_describe();
+    closing::references_accept();
+    schema_gen::sound_is_not_refused();
+}
+
+/// Each law returns.
+pub(crate) fn called(alloc: Global) -> anyhow::Result<String> {
+    of_reading();
+    of_schemas();
+    of_documents();
+    Ok(String::from_str(alloc, "hold")?)
+}

@@ -1,0 +1,5 @@
+use Rattle.compose.proofs.Bounded.{not_refused}
+use Rattle.compose.proofs.law.bounded_are_not_refused.Goals as goal
+
+pub returns : goal.returns
+returns c = not_refused

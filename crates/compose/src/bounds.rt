@@ -1,0 +1,150 @@
+//! The bounds on instances.
+
+ghost use Rattle.std.specs.Prelude.{◌≡◌, ◌<◌, ◌≤◌, ◌⊎◌, length, map, IfOk, IfErr};
+ghost use Rattle.diag.specs.Refusal.{IsRefusal};
+ghost use Rattle.diag.specs.Span.{no_span};
+ghost use Rattle.syntax.specs.Items.{declaration_view};
+ghost use Rattle.scopes.specs.Names.{declared_names};
+ghost use Rattle.derive_decl.specs.Structs.{struct_names};
+ghost use Rattle.derive_decl.specs.Views.{struct_view};
+ghost use Rattle.inlining.specs.Inlining.{AreTargets, IsAtMost, IsOrder, IsPath, all_copies};
+ghost use Rattle.closing.specs.Targets.{inlining_of, most_inlined};
+ghost use Rattle.compose.specs.Bounds.{AreBounded, IsCrowded, IsDeep, IsUnbounded, IsRefusalOf, crowded_message, deep_message, copied_message, names_along};
+
+use configuration::Config;
+use derive_decl::Struct;
+use diag::{DeriveError, Diagnostics, Kind, List, Span};
+use inlining::{Depth, are_more_copies, inline_order};
+use std::alloc::{AllocError, Global};
+use syntax::Declaration;
+
+/// An inline path has at most so many declarations.
+const MOST_INLINED: usize = 32;
+
+/// The refusal of more instances than may be reachable, at the name of one.
+fn crowded(alloc: Global, span: Span, limit: usize) -> Result<DeriveError, AllocError>
+    ensures { IfOk result (λ e. IsRefusal Kind.TooManyInstances span (crowded_message limit) e) }
+{
+    let message = format!(in alloc; "more than {} instances are reachable", limit)?;
+    let diagnostics = Diagnostics::with_span(
+        alloc,
+        Kind::TooManyInstances,
+        span,
+        message.as_str(),
+    )?;
+    Ok(DeriveError::Refused(diagnostics))
+}
+
+/// Refuses more declarations than instances may be reachable: each is one.
+fn few_instances(
+    alloc: Global,
+    declarations: &[Declaration],
+    config: &Config,
+) -> Result<(), DeriveError>
+    ensures few { IfOk result (λ _. length declarations.now ≤ config.now.limit) }
+    ensures refused { IfErr result (λ e. (e ≡ DeriveError.Memory) ⊎ IsCrowded config.now (map declaration_view declarations.now) e) }
+{
+    let limit = config.limit();
+    if declarations.len() <= limit {
+        return Ok(());
+    }
+    Err(crowded(alloc, declarations[limit].ident.span, limit)?)
+}
+
+/// The refusal of an inline path that is too long, whose instances are the names along it.
+fn deep(
+    alloc: Global,
+    span: Span,
+    structs: &[Struct],
+    path: &[usize],
+) -> Result<DeriveError, AllocError>
+    requires { IsPath (inlining_of (map struct_view structs.now)) path.now }
+    ensures { IfOk result (λ e. IsRefusalOf Kind.InlineDepth span deep_message (names_along (map struct_view structs.now) path.now) e) }
+{
+    let message = "types are inlined deeper than 32";
+    let mut diagnostics = Diagnostics::with_span(alloc, Kind::InlineDepth, span, message)?;
+    for place in path {
+        diagnostics = diagnostics.instance(structs[*place].name.as_str())?;
+    }
+    Ok(DeriveError::Refused(diagnostics))
+}
+
+/// An order in which each declaration stands behind its targets; refuses an inline path that is too long.
+fn shallow_order(
+    alloc: Global,
+    declarations: &[Declaration],
+    structs: &[Struct],
+    targets: &[List<usize>],
+) -> Result<List<usize>, DeriveError>
+    requires names { struct_names (map struct_view structs.now) ≡ declared_names (map declaration_view declarations.now) }
+    requires targets { targets.now ≡ inlining_of (map struct_view structs.now) }
+    requires declared { AreTargets targets.now }
+    ensures shallow { IfOk result (λ _. IsAtMost most_inlined targets.now) }
+    ensures order { IfOk result (λ order. IsOrder targets.now order) }
+    ensures refused { IfErr result (λ e. (e ≡ DeriveError.Memory) ⊎ IsDeep (map declaration_view declarations.now) (map struct_view structs.now) e) }
+{
+    match inline_order(alloc, targets, MOST_INLINED)? {
+        Depth::Within(order) => Ok(order),
+        Depth::Beyond(path) => {
+            let path = path.as_slice();
+            let span = declarations[path[0]].ident.span;
+            Err(deep(alloc, span, structs, path)?)
+        }
+    }
+}
+
+/// The refusal of more copies than may be inlined.
+fn copied(alloc: Global, copies: usize) -> Result<DeriveError, AllocError>
+    ensures { IfOk result (λ e. IsRefusal Kind.TooManyCopies no_span (copied_message copies) e) }
+{
+    let message = format!(in alloc; "more than {} copies are inlined", copies)?;
+    let span = Span::nowhere();
+    let diagnostics = Diagnostics::with_span(alloc, Kind::TooManyCopies, span, message.as_str())?;
+    Ok(DeriveError::Refused(diagnostics))
+}
+
+/// Refuses more copies than may be inlined.
+fn few_copies(
+    alloc: Global,
+    targets: &[List<usize>],
+    order: &[usize],
+    config: &Config,
+) -> Result<(), DeriveError>
+    requires shallow { IsAtMost most_inlined targets.now }
+    requires order { IsOrder targets.now order.now }
+    ensures few { IfOk result (λ _. all_copies targets.now most_inlined ≤ config.now.copies) }
+    ensures refused { IfErr result (λ e. (e ≡ DeriveError.Memory) ⊎ ((config.now.copies < all_copies targets.now most_inlined) × IsRefusal Kind.TooManyCopies no_span (copied_message config.now.copies) e)) }
+{
+    let copies = config.copies();
+    if are_more_copies(alloc, targets, order, MOST_INLINED, copies)? {
+        return Err(copied(alloc, copies)?);
+    }
+    Ok(())
+}
+
+/// The declarations in an order in which each stands behind those whose schemas stand in its own, where `targets` has these
+/// for each declaration.
+///
+/// A refusal is of kind `TooManyInstances`, at a declaration's name, where more instances are reachable than the
+/// configuration's limit; else `InlineDepth`, at the name of the first of 33 declarations of which the schema of each stands
+/// in that of the one before, and which are the instances of the refusal; else `TooManyCopies`, without a span, where more
+/// schemas stand in the components than the configuration's copies.
+pub fn inline_order_of(
+    alloc: Global,
+    declarations: &[Declaration],
+    structs: &[Struct],
+    targets: &[List<usize>],
+    config: &Config,
+) -> Result<List<usize>, DeriveError>
+    requires names { struct_names (map struct_view structs.now) ≡ declared_names (map declaration_view declarations.now) }
+    requires targets { targets.now ≡ inlining_of (map struct_view structs.now) }
+    requires declared { AreTargets targets.now }
+    ensures bounded { IfOk result (λ _. AreBounded config.now (map declaration_view declarations.now) (map struct_view structs.now)) }
+    ensures order { IfOk result (λ order. IsOrder (inlining_of (map struct_view structs.now)) order) }
+    ensures refused { IfErr result (λ e. (e ≡ DeriveError.Memory) ⊎ IsUnbounded config.now (map declaration_view declarations.now) (map struct_view structs.now) e) }
+{
+    few_instances(alloc, declarations, config)?;
+    let order = shallow_order(alloc, declarations, structs, targets)?;
+    few_copies(alloc, targets, order.as_slice(), config)?;
+    Ok(order)
+}

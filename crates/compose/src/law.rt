@@ -1,0 +1,8 @@
+//! What rests on the definitions alone: laws that callers rely on, as contracts of functions that do nothing.
+
+ghost use Rattle.compose.specs.Bounds.{BoundedAreNotRefused};
+
+/// Where nothing is beyond its bound, no error refuses the instances.
+pub fn bounded_are_not_refused()
+    ensures { BoundedAreNotRefused }
+{}

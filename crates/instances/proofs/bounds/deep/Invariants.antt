@@ -1,9 +1,0 @@
-use Rattle.std.proofs.Common.{◌≡◌, map, take}
-use Rattle.derive_decl.specs.Views.{struct_view}
-use Rattle.instances.specs.Bounds.{names_along}
-use Rattle.instances.proofs.Along.{deep_with}
-use Rattle.instances.proofs.bounds.deep.Given as goal
-
--- the names so far are the instances
-abbrev pub invariant-loop-place : goal.invariant-loop-place
-invariant-loop-place l = l.diagnostics ≡ deep_with l.fn.span (names_along (map struct_view l.structs) (take l.place-index l.path))

@@ -1,8 +1,0 @@
-//! What rests on the definitions alone: laws that callers rely on, as contracts of functions that do nothing.
-
-ghost use Rattle.instances.specs.Bounds.{BoundedAreNotRefused};
-
-/// Where nothing is beyond its bound, no error refuses the instances.
-pub fn bounded_are_not_refused()
-    ensures { BoundedAreNotRefused }
-{}

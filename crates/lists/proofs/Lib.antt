@@ -1,6 +1,0 @@
-pub mod Read
-pub mod Stands
-pub mod Turns
-pub mod Many
-pub mod Sound
-pub mod Complete

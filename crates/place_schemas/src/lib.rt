@@ -1,0 +1,6 @@
+//! The schema of a place by its written type: what it stands for, its term and the declarations that it names.
+#![tactic(auto)]
+
+mod component_schema;
+
+pub use component_schema::{ComponentSchema, ComponentSchemaProps};
