@@ -51,7 +51,7 @@ fn told(alloc: Global, call: &str, given: &Value) -> anyhow::Result<String> {
         "noted" => Ok(remarks::noted_form(alloc, given)?),
         "any_object" => Ok(remarks::object_form(alloc, given)?),
         "null_default" => Ok(remarks::null_form(alloc, given)?),
-        "structs_of" => of_source(alloc, None, given),
+        "resolved_declarations" => of_source(alloc, None, given),
         _ => of_source(alloc, Some(question(call)?), given),
     }
 }

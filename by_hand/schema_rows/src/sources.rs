@@ -9,7 +9,7 @@ use crate::declared::{OfDeclaration, of_declaration};
 use crate::places::{OfPlace, of_place};
 use crate::structs::structs_text;
 use configuration::Config;
-use derive_decl::{Root, structs_of};
+use derive_decl::{Root, resolved_declarations};
 use diag::DeriveError;
 use rows::refusal_text;
 use scopes::{Container, Scope, declared_places};
@@ -73,7 +73,7 @@ fn structs(
     requires { (name : List ℕ) → get_by_text places.now name ≡ place_among (declarations_view declarations.now) name }
 {
     let config = Config::new(alloc);
-    let structs = structs_of(alloc, declarations, places, &config)?;
+    let structs = resolved_declarations(alloc, declarations, places, &config)?;
     Ok(structs_text(alloc, structs.as_slice())?)
 }
 

@@ -1,6 +1,6 @@
 //! What declarations are resolved to.
 
-use derive_decl::{Member, SchemaVariant, Struct};
+use derive_decl::{Member, SchemaVariant, Resolved};
 use diag::Text;
 use std::alloc::{AllocError, Global};
 
@@ -59,14 +59,14 @@ fn push_form(text: &mut String, form: &SchemaVariant) -> Result<(), AllocError> 
 }
 
 /// The form of the struct, its members, and what is said of it.
-pub(crate) fn struct_text(alloc: Global, of: &Struct) -> Result<String, AllocError> {
+pub(crate) fn struct_text(alloc: Global, of: &Resolved) -> Result<String, AllocError> {
     let mut text = String::from_str(alloc, of.name.as_str())?;
     push_form(&mut text, &of.form)?;
     Ok(text)
 }
 
 /// The structs, one behind the other.
-pub(crate) fn structs_text(alloc: Global, structs: &[Struct]) -> Result<String, AllocError> {
+pub(crate) fn structs_text(alloc: Global, structs: &[Resolved]) -> Result<String, AllocError> {
     let mut text = String::new(alloc);
     for of in structs {
         if !text.is_empty() {

@@ -9,7 +9,7 @@ ghost use Rattle.syntax.specs.Items.{declarations_view};
 
 use component::{Term, ToTerm, copy_term};
 use configuration::Config;
-use derive_decl::{Schema, SchemaVariant, Struct};
+use derive_decl::{Resolved, Schema, SchemaVariant};
 use diag::{DeriveError, List};
 use place_schemas::{ComponentSchema, ComponentSchemaProps};
 use rows::given::{is_said, pair_of, text_of};
@@ -46,7 +46,7 @@ fn push_made<T: ToTerm>(alloc: Global, text: &mut String, made: &T) -> Result<()
 }
 
 /// Adds the forms of the struct, of its form, and of what its form holds.
-fn push_struct(alloc: Global, text: &mut String, of: &Struct) -> Result<(), DeriveError> {
+fn push_resolved(alloc: Global, text: &mut String, of: &Resolved) -> Result<(), DeriveError> {
     push_made(alloc, text, of)?;
     push_made(alloc, text, &of.form)?;
     match &of.form {
@@ -68,7 +68,7 @@ fn of_declaration(
     let mut text = schema.place_types(alloc)?.len().to_string(alloc)?;
     push_made(alloc, &mut text, &schema)?;
     let of = schema.resolve(alloc)?;
-    push_struct(alloc, &mut text, &of)?;
+    push_resolved(alloc, &mut text, &of)?;
     Ok(text)
 }
 

@@ -1,4 +1,4 @@
--- A document of components describes the structs.
+-- A document of components describes the declarations.
 use Rattle.std.proofs.Common.{ℕ, zero, suc, ◌+◌, ◌*◌, ◌<◌, ◌≤◌, List, [], ◌∷◌, length, Bool, true, false, ◌||◌, Option, Some, None, option_map, is_some, IsTrue, nat_cmp, Less, is_eq, ◌≡◌, refl, ap, sym, subst, ◌∙◌, inl, inr, ◌↔◌, arith}
 use Rattle.std.specs.Cmp.Lexicographic.{slice_cmp}
 use Rattle.std.specs.List.{AllByRecursion}
@@ -19,7 +19,7 @@ use Rattle.open_types.specs.Open.{Open, Opens, leaf, any_value, free_object, uni
 use Rattle.open_types.specs.Open as types
 use Rattle.resolving.specs.Resolved.{IsWithin, AreWithin as OpensWithin}
 use Rattle.component.specs.Leaves.{LeafOf, param, named}
-use Rattle.derive_decl.specs.Structs.{StructOf, struct_at, names_of as member_names_of, types_of}
+use Rattle.derive_decl.specs.Resolved.{DeclarationOf, declaration_at, names_of as member_names_of, types_of}
 use Rattle.derive_decl.specs.Shape.{shape, HasShape}
 use Rattle.derive_decl.specs.Plain.{StandsIn, StandsAmong, StandsInOne, itself, through_place, IsPlain}
 use Rattle.derive_decl.specs.Terms.{term}
@@ -27,7 +27,7 @@ use Rattle.derive_decl.specs.Meaning.{leaf_shape, TermsAccept}
 use Rattle.derive_decl.specs.Whole.{MembersDiffer}
 use Rattle.inlining.specs.Inlining.{IsAtMost}
 use Rattle.closing.specs.Targets.{inlining_of, most_inlined}
-use Rattle.closing.specs.Closed.{schema_of, put, closed, struct_schema}
+use Rattle.closing.specs.Closed.{schema_of, put, closed, declared_schema}
 use Rattle.closing.specs.Described.{IsApart, AreComponents, HasComponent, Describes, TypesWithin, AreWithin, TargetsAreDeclared, ReferencesAccept}
 use Rattle.closing.proofs.Below.{Below, tree-below}
 use Rattle.closing.proofs.Bound.{bind-proper, bind-leaves, bind-accepts}
@@ -44,13 +44,13 @@ unfolding IsStrictlySortedBy
 distinct [] o = tt
 distinct (n ∷ ns) o = (absent n ns o.0, distinct ns o.1)
 
--- ---- what holds of the struct at a place
-differs-at : (ss : List StructOf) (d : ℕ) → MembersDiffer ss → IsDistinct (member_names_of (struct_at ss d).form)
+-- ---- what holds of the declaration at a place
+differs-at : (ss : List DeclarationOf) (d : ℕ) → MembersDiffer ss → IsDistinct (member_names_of (declaration_at ss d).form)
 differs-at [] d h = tt
 differs-at (s ∷ ss) zero h = h.0
 differs-at (s ∷ ss) (suc d) h = differs-at ss d h.1
 
-within-at : (n : ℕ) (ss : List StructOf) (d : ℕ) → AreWithin n ss → TypesWithin n (types_of (struct_at ss d).form)
+within-at : (n : ℕ) (ss : List DeclarationOf) (d : ℕ) → AreWithin n ss → TypesWithin n (types_of (declaration_at ss d).form)
 within-at n [] d h = tt
 within-at n (s ∷ ss) zero h = h.0
 within-at n (s ∷ ss) (suc d) h = within-at n ss d h.1
@@ -85,27 +85,27 @@ module _ (n d : ℕ) where
   stands-within (t ∷ ts) h (inr s) = stands-within ts h.1 s
 
 -- each declaration that stands in the types of one is a declaration
-pub all-within : (ss : List StructOf) → AreWithin (length ss) ss → (d e : ℕ) → StandsInOne e (types_of (struct_at ss d).form) → e < length ss
-all-within ss within d e = stands-within (length ss) e (types_of (struct_at ss d).form) (within-at (length ss) ss d within)
+pub all-within : (ss : List DeclarationOf) → AreWithin (length ss) ss → (d e : ℕ) → StandsInOne e (types_of (declaration_at ss d).form) → e < length ss
+all-within ss within d e = stands-within (length ss) e (types_of (declaration_at ss d).form) (within-at (length ss) ss d within)
 
 pub declared_targets : TargetsAreDeclared
 declared_targets ss within = are-targets ss (all-within ss within)
 
--- ---- the schema of a struct
+-- ---- the schema of a declaration
 
 schema_of-proper : (inner : ℕ → SchemaOf RefLeaf) → ((e : ℕ) → IsProper (inner e)) → (t : Open) → IsProper (schema_of inner t)
 schema_of-proper inner h (types.named d ts) = h d
 schema_of-proper inner h _ = (tt, (tt, (tt, tt)))
 
-put-proper : (ss : List StructOf) (inner : ℕ → SchemaOf RefLeaf) → ((e : ℕ) → IsProper (inner e)) → (x : LeafOf) → IsProper (put ss inner x)
+put-proper : (ss : List DeclarationOf) (inner : ℕ → SchemaOf RefLeaf) → ((e : ℕ) → IsProper (inner e)) → (x : LeafOf) → IsProper (put ss inner x)
 put-proper ss inner h (param i) = (tt, (tt, (tt, tt)))
 put-proper ss inner h (named t true notes) = schema_of-proper inner h t
 put-proper ss inner h (named t false notes) = tt
 
-closed-proper : (ss : List StructOf) → MembersDiffer ss → (n d : ℕ) → IsProper (closed ss n d)
+closed-proper : (ss : List DeclarationOf) → MembersDiffer ss → (n d : ℕ) → IsProper (closed ss n d)
 closed-proper ss differ zero d = (tt, (tt, (tt, tt)))
 closed-proper ss differ (suc n) d =
-    bind-proper (put ss (closed ss n)) (put-proper ss (closed ss n) (closed-proper ss differ n)) (term (struct_at ss d)) (form-proper (struct_at ss d).deprecated (struct_at ss d).description (struct_at ss d).form (differs-at ss d differ))
+    bind-proper (put ss (closed ss n)) (put-proper ss (closed ss n) (closed-proper ss differ n)) (term (declaration_at ss d)) (form-proper (declaration_at ss d).deprecated (declaration_at ss d).description (declaration_at ss d).form (differs-at ss d differ))
 
 -- ---- references
 
@@ -117,7 +117,7 @@ references_accept forms ss cs made d l notes s v e = (there, back)
     doc = document cs
 
     name : List ℕ
-    name = (struct_at ss d).name
+    name = (declaration_at ss d).name
 
     reference : SchemaOf RefLeaf
     reference = tree.leaf (record { name = name; notes = notes })
@@ -134,23 +134,23 @@ references_accept forms ss cs made d l notes s v e = (there, back)
 
 -- ---- the document
 module _ (forms_accept : FormsAccept) (forms_refer : FormsRefer) (documents_hold : DocumentsHold) (terms_accept : TermsAccept)
-    (ss : List StructOf) (cs : List Entry) (apart : IsApart ss) (within : AreWithin (length ss) ss) (most : IsAtMost most_inlined (inlining_of ss)) (made : AreComponents ss cs) where
+    (ss : List DeclarationOf) (cs : List Entry) (apart : IsApart ss) (within : AreWithin (length ss) ss) (most : IsAtMost most_inlined (inlining_of ss)) (made : AreComponents ss cs) where
   abbrev doc : Json
   doc = document cs
 
   abbrev name_at : ℕ → List ℕ
-  name_at d = (struct_at ss d).name
+  name_at d = (declaration_at ss d).name
 
   schema_under : (name : List ℕ) → component_schema doc name ≡ option_map form (find name cs)
   schema_under = documents_hold cs (distinct (names_of cs) made.order)
 
-  schema_at : (d : ℕ) → d < length ss → component_schema doc (name_at d) ≡ Some (form (struct_schema ss d))
+  schema_at : (d : ℕ) → d < length ss → component_schema doc (name_at d) ≡ Some (form (declared_schema ss d))
   schema_at d l = schema_under (name_at d) ∙ ap (option_map form) (made.roots d l)
 
   root : (d : ℕ) → d < length ss → HasComponent doc (name_at d)
   root d l = subst (λ o. IsTrue (is_some o)) (sym (schema_at d l)) refl
 
-  stands : (d e : ℕ) → StandsInOne e (types_of (struct_at ss d).form) → e < length ss
+  stands : (d e : ℕ) → StandsInOne e (types_of (declaration_at ss d).form) → e < length ss
   stands = all-within ss within
 
   -- ---- references
@@ -164,11 +164,11 @@ module _ (forms_accept : FormsAccept) (forms_refer : FormsRefer) (documents_hold
   closed-found : (n d : ℕ) → Found (closed ss n d)
   closed-found zero d = (tt, (tt, tt))
   closed-found (suc n) d =
-      bind-leaves (put ss (closed ss n)) (λ r. HasComponent doc r.name) (term (struct_at ss d))
+      bind-leaves (put ss (closed ss n)) (λ r. HasComponent doc r.name) (term (declaration_at ss d))
       (form-leaves (λ x. Found (put ss (closed ss n) x)) ⊥ (λ e. e < length ss) (put-found (closed ss n) (closed-found n)) (λ i h. (tt, (tt, tt)))
-      (struct_at ss d).deprecated (struct_at ss d).description (struct_at ss d).form (stands d) (λ a. absurd a))
+      (declaration_at ss d).deprecated (declaration_at ss d).description (declaration_at ss d).form (stands d) (λ a. absurd a))
 
-  refers : (t : SchemaOf RefLeaf) (d : ℕ) → t ≡ struct_schema ss d → EachReference (HasComponent doc) (form t)
+  refers : (t : SchemaOf RefLeaf) (d : ℕ) → t ≡ declared_schema ss d → EachReference (HasComponent doc) (form t)
   refers t d e = forms_refer (λ name. is_some (component_schema doc name)) t (subst Found (sym e) (closed-found most_inlined d))
 
   some-same : {A : Type 0} {x y : A} → Some x ≡ Some y → x ≡ y
@@ -178,7 +178,7 @@ module _ (forms_accept : FormsAccept) (forms_refer : FormsRefer) (documents_hold
   references-found name s None f e = cc
   references-found name s (Some t) f e =
       let is : (d : ℕ) × (d < length ss) × (name ≡ name_at d) = made.only name (subst (λ p. IsTrue (is_some p)) (sym f) refl) in
-      let same : Some t ≡ Some (struct_schema ss is.0) = sym f ∙ ap (λ k. find k cs) is.2 ∙ made.roots is.0 is.1 in
+      let same : Some t ≡ Some (declared_schema ss is.0) = sym f ∙ ap (λ k. find k cs) is.2 ∙ made.roots is.0 is.1 in
       subst (EachReference (HasComponent doc)) (some-same e) (refers t is.0 (some-same same))
 
   references : (name : List ℕ) (s : Json) → component_schema doc name ≡ Some s → EachReference (HasComponent doc) s
@@ -197,13 +197,13 @@ module _ (forms_accept : FormsAccept) (forms_refer : FormsRefer) (documents_hold
   abbrev put_accepts : ℕ → ℕ → LeafOf → Json → Bool
   put_accepts depth n x = tree_accepts (said_at depth) (put ss (closed ss n) x)
 
-  form-accepts : (depth d : ℕ) (v : Json) → accepts_with (component_accepts doc depth) (form (struct_schema ss d)) v ≡ accepted depth most_inlined d v
-  form-accepts depth d v = forms_accept (component_accepts doc depth) (struct_schema ss d) (closed-proper ss apart.1 most_inlined d) v
+  form-accepts : (depth d : ℕ) (v : Json) → accepts_with (component_accepts doc depth) (form (declared_schema ss d)) v ≡ accepted depth most_inlined d v
+  form-accepts depth d v = forms_accept (component_accepts doc depth) (declared_schema ss d) (closed-proper ss apart.1 most_inlined d) v
 
   followed : (depth d : ℕ) (v : Json) → d < length ss → component_accepts doc (suc depth) (name_at d) v ≡ accepted depth most_inlined d v
   followed depth d v l = (λ i. if_component (schema_at d l i) (λ s. accepts_with (component_accepts doc depth) s v)) ∙ form-accepts depth d v
 
-  plain-through : (d e : ℕ) → IsPlain ss d → StandsInOne e (types_of (struct_at ss d).form) → IsPlain ss e
+  plain-through : (d e : ℕ) → IsPlain ss d → StandsInOne e (types_of (declaration_at ss d).form) → IsPlain ss e
   plain-through d e p s f r = p f (through_place d e f s r)
 
   -- a declaration to which the induction applies
@@ -213,21 +213,21 @@ module _ (forms_accept : FormsAccept) (forms_refer : FormsRefer) (documents_hold
   -- a relation between what stands at a leaf and the shape of its declaration holds at each leaf where it holds of both kinds of leaves
   good-leaves : (S : LeafOf → Type 0) (n d : ℕ) → d < length ss → IsPlain ss d → IsShort ss (suc n) d →
       ((e : ℕ) (ts : Opens) (notes : Notes) → IsGood e → IsShort ss n e → S (named (types.named e ts) true notes)) →
-      ((e : ℕ) (ts : Opens) (notes : Notes) → IsGood e → S (named (types.named e ts) false notes)) → EachLeaf S (term (struct_at ss d))
+      ((e : ℕ) (ts : Opens) (notes : Notes) → IsGood e → S (named (types.named e ts) false notes)) → EachLeaf S (term (declaration_at ss d))
   good-leaves S n d l p short inlined referred =
-      at-each S (Unit {0}) IsGood (IsShort ss n) inlined referred (λ i h. absurd (h tt)) (struct_at ss d)
-      (λ e s. (stands d e s, plain-through d e p s)) (λ a. plain-types (struct_at ss d).form (p d (itself d))) (shorter ss n d l short)
+      at-each S (Unit {0}) IsGood (IsShort ss n) inlined referred (λ i h. absurd (h tt)) (declaration_at ss d)
+      (λ e s. (stands d e s, plain-through d e p s)) (λ a. plain-types (declaration_at ss d).form (p d (itself d))) (shorter ss n d l short)
 
   -- What is accepted has the shape: a reference and an inline schema each take a step of the shape, but only a reference one of acceptance.
   sound : (k depth n d : ℕ) → n + 32 * depth ≤ k → d < length ss → IsPlain ss d → IsShort ss n d → Below (accepted depth n d) (shape ss k d)
   sound k depth zero d bound l p short = absurd (never-short ss d l short)
   sound zero depth (suc n) d bound l p short = absurd (omega (arith, bound))
   sound (suc k) depth (suc n) d bound l p short = λ v h.
-      subst IsTrue (terms_accept (shape ss k) (struct_at ss d) (p d (itself d)) v)
-      (tree-below (put_accepts depth n) (leaf_shape (shape ss k)) (term (struct_at ss d))
+      subst IsTrue (terms_accept (shape ss k) (declaration_at ss d) (p d (itself d)) v)
+      (tree-below (put_accepts depth n) (leaf_shape (shape ss k)) (term (declaration_at ss d))
       (good-leaves (λ x. Below (put_accepts depth n x) (leaf_shape (shape ss k) x)) n d l p short
       (λ e ts notes good s. sound k depth n e (omega (arith, bound)) good.0 good.1 s)
-      (λ e ts notes good. by depth bound e good (λ deep e. sound k deep 32 e))) v (subst IsTrue (bind-accepts (put ss (closed ss n)) (said_at depth) (term (struct_at ss d)) v) h))
+      (λ e ts notes good. by depth bound e good (λ deep e. sound k deep 32 e))) v (subst IsTrue (bind-accepts (put ss (closed ss n)) (said_at depth) (term (declaration_at ss d)) v) h))
     where
       by : (deep : ℕ) → suc n + 32 * deep ≤ suc k → (e : ℕ) → IsGood e →
           ((deep e : ℕ) → 32 + 32 * deep ≤ k → e < length ss → IsPlain ss e → IsShort ss 32 e → Below (accepted deep 32 e) (shape ss k e)) → Below (component_accepts doc deep (name_at e)) (shape ss k e)
@@ -239,11 +239,11 @@ module _ (forms_accept : FormsAccept) (forms_refer : FormsRefer) (documents_hold
   whole k depth zero d bound l p short = absurd (never-short ss d l short)
   whole zero depth (suc n) d bound l p short = λ v h. cc
   whole (suc k) depth (suc n) d bound l p short = λ v h.
-      subst IsTrue (sym (bind-accepts (put ss (closed ss n)) (said_at depth) (term (struct_at ss d)) v))
-      (tree-below (leaf_shape (shape ss k)) (put_accepts depth n) (term (struct_at ss d))
+      subst IsTrue (sym (bind-accepts (put ss (closed ss n)) (said_at depth) (term (declaration_at ss d)) v))
+      (tree-below (leaf_shape (shape ss k)) (put_accepts depth n) (term (declaration_at ss d))
       (good-leaves (λ x. Below (leaf_shape (shape ss k) x) (put_accepts depth n x)) n d l p short
       (λ e ts notes good s. whole k depth n e (omega (arith, bound)) good.0 good.1 s)
-      (λ e ts notes good. by depth bound e good (λ deep e. whole k deep 32 e))) v (subst IsTrue (sym (terms_accept (shape ss k) (struct_at ss d) (p d (itself d)) v)) h))
+      (λ e ts notes good. by depth bound e good (λ deep e. whole k deep 32 e))) v (subst IsTrue (sym (terms_accept (shape ss k) (declaration_at ss d) (p d (itself d)) v)) h))
     where
       by : (deep : ℕ) → suc k ≤ deep → (e : ℕ) → IsGood e →
           ((deep e : ℕ) → k ≤ deep → e < length ss → IsPlain ss e → IsShort ss 32 e → Below (shape ss k e) (accepted deep 32 e)) → Below (shape ss k e) (component_accepts doc deep (name_at e))

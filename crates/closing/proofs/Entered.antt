@@ -1,4 +1,4 @@
--- Components of structs that are entered one after another.
+-- Components of declarations that are entered one after another.
 use Rattle.std.proofs.Common.{ℕ, zero, suc, ◌<◌, ◌≤◌, List, [], ◌∷◌, Option, Some, None, is_some, IsTrue, Bool, true, false, cond, bytes_eq, length, map, get_or, nat_cmp, Ordering, Less, Equal, Greater, is_eq, ◌≡◌, refl, ap, sym, subst, ◌∙◌, arith, ◌⊎◌, inl, inr, ◌||◌, option_map, ◌↔◌}
 use Rattle.std.specs.Cmp.Lexicographic.{slice_cmp}
 use Rattle.std.specs.Ordering.{match_ordering, ordering_reverse}
@@ -14,28 +14,28 @@ use Rattle.schema_core.specs.Schema.{SchemaOf}
 use Rattle.schema_core.specs.Document.{Entry}
 use Rattle.schema_core.specs.Entries.{find, names_of, with_entry, IsInOrder}
 use Rattle.scopes.specs.Names.{place_in}
-use Rattle.derive_decl.specs.declared.structs.Struct.{Struct}
-use Rattle.derive_decl.specs.Structs.{StructOf, struct_at, struct_names}
-use Rattle.derive_decl.specs.Views.{struct_view}
-use Rattle.closing.specs.Closed.{struct_schema}
+use Rattle.derive_decl.specs.declared.resolved.Resolved.{Resolved}
+use Rattle.derive_decl.specs.Resolved.{DeclarationOf, declaration_at, declaration_names}
+use Rattle.derive_decl.specs.Views.{resolved_view}
+use Rattle.closing.specs.Closed.{declared_schema}
 use Rattle.closing.specs.Described.{AreComponents}
 use Rattle.acceptance.specs.Json.{is_in}
 use Rattle.schema_core.specs.Meaning.{IsDistinct}
 
-pub struct_at-view : (structs : List Struct) (d : ℕ) (x : Struct) → d < length structs → struct_at (map struct_view structs) d ≡ struct_view (get_or structs d x)
-struct_at-view [] d x l = absurd (omega arith)
-struct_at-view (s ∷ structs) zero x l = refl
-struct_at-view (s ∷ structs) (suc d) x l = struct_at-view structs d x (omega arith)
+pub declaration_at-view : (resolved : List Resolved) (d : ℕ) (x : Resolved) → d < length resolved → declaration_at (map resolved_view resolved) d ≡ resolved_view (get_or resolved d x)
+declaration_at-view [] d x l = absurd (omega arith)
+declaration_at-view (s ∷ resolved) zero x l = refl
+declaration_at-view (s ∷ resolved) (suc d) x l = declaration_at-view resolved d x (omega arith)
 
--- past the end a struct has no name
-pub struct_past : (structs : List Struct) (d : ℕ) → length structs ≤ d → (struct_at (map struct_view structs) d).name ≡ []
-struct_past [] d l = refl
-struct_past (s ∷ structs) zero l = absurd (omega arith)
-struct_past (s ∷ structs) (suc d) l = struct_past structs d (omega arith)
+-- past the end a declaration has no name
+pub declaration_past : (resolved : List Resolved) (d : ℕ) → length resolved ≤ d → (declaration_at (map resolved_view resolved) d).name ≡ []
+declaration_past [] d l = refl
+declaration_past (s ∷ resolved) zero l = absurd (omega arith)
+declaration_past (s ∷ resolved) (suc d) l = declaration_past resolved d (omega arith)
 
--- each component is of a struct, under its name, and they are in order
-pub record AreKnown (ss : List StructOf) (components : List Entry) : Type 0 where
-  pub known : (name : List ℕ) (s : SchemaOf RefLeaf) → find name components ≡ Some s → (d : ℕ) × (d < length ss) × (name ≡ (struct_at ss d).name) × (s ≡ struct_schema ss d)
+-- each component is of a declaration, under its name, and they are in order
+pub record AreKnown (ss : List DeclarationOf) (components : List Entry) : Type 0 where
+  pub known : (name : List ℕ) (s : SchemaOf RefLeaf) → find name components ≡ Some s → (d : ℕ) × (d < length ss) × (name ≡ (declaration_at ss d).name) × (s ≡ declared_schema ss d)
   pub order : IsInOrder (names_of components)
 
 -- ---- places
@@ -54,18 +54,18 @@ not_same k n e = by (bytes_eq n k) refl
     by false t = refl
     by true t = absurd (false≢true (sym e ∙ (bytes_eq-Decides k n).1 (sym ((bytes_eq-Decides n k).0 t))))
 
-not_among : (ss : List StructOf) (k : List ℕ) (d : ℕ) → is_in k (struct_names ss) ≡ false → d < length ss → bytes_eq k (struct_at ss d).name ≡ false
+not_among : (ss : List DeclarationOf) (k : List ℕ) (d : ℕ) → is_in k (declaration_names ss) ≡ false → d < length ss → bytes_eq k (declaration_at ss d).name ≡ false
 not_among [] k d e l = absurd (omega arith)
-not_among (s ∷ ss) k zero e l = (or_false (bytes_eq k s.name) (is_in k (struct_names ss)) e).0
-not_among (s ∷ ss) k (suc d) e l = not_among ss k d (or_false (bytes_eq k s.name) (is_in k (struct_names ss)) e).1 (omega arith)
+not_among (s ∷ ss) k zero e l = (or_false (bytes_eq k s.name) (is_in k (declaration_names ss)) e).0
+not_among (s ∷ ss) k (suc d) e l = not_among ss k d (or_false (bytes_eq k s.name) (is_in k (declaration_names ss)) e).1 (omega arith)
 
 -- of distinct names each has its own place
-pub root_place : (ss : List StructOf) (d : ℕ) → IsDistinct (struct_names ss) → d < length ss → place_in (struct_at ss d).name (struct_names ss) ≡ Some d
+pub root_place : (ss : List DeclarationOf) (d : ℕ) → IsDistinct (declaration_names ss) → d < length ss → place_in (declaration_at ss d).name (declaration_names ss) ≡ Some d
 root_place [] d h l = absurd (omega arith)
-root_place (s ∷ ss) zero h l = ap (λ b. cond b (Some 0) (option_map suc (place_in s.name (struct_names ss)))) (same_text s.name)
+root_place (s ∷ ss) zero h l = ap (λ b. cond b (Some 0) (option_map suc (place_in s.name (declaration_names ss)))) (same_text s.name)
 root_place (s ∷ ss) (suc d) h l =
-    let n = (struct_at ss d).name in
-    ap (λ b. cond b (Some 0) (option_map suc (place_in n (struct_names ss)))) (not_same s.name n (not_among ss s.name d h.0 (omega arith)))
+    let n = (declaration_at ss d).name in
+    ap (λ b. cond b (Some 0) (option_map suc (place_in n (declaration_names ss)))) (not_same s.name n (not_among ss s.name d h.0 (omega arith)))
     ∙ ap (option_map suc) (root_place ss d h.1 (omega arith))
 
 -- ---- one entry more
@@ -130,13 +130,13 @@ given : {A : Type 0} (o : Option A) → (o ≡ None → ⊥) → IsTrue (is_some
 given None h = absurd (h refl)
 given (Some x) h = refl
 
-pub known_none : (ss : List StructOf) → AreKnown ss []
+pub known_none : (ss : List DeclarationOf) → AreKnown ss []
 unfolding IsStrictlySortedBy
 known_none ss = record { known = λ name s e. absurd (none-some s e); order = tt }
 
--- the components after a struct's schema was put in under its name
-pub known_more : (ss : List StructOf) (d : ℕ) (name : List ℕ) (s : SchemaOf RefLeaf) (added : Bool) (components after : List Entry) →
-    d < length ss → name ≡ (struct_at ss d).name → s ≡ struct_schema ss d → (IsTrue added ↔ (find name components ≡ None)) → after ≡ cond added (with_entry name s components) components →
+-- the components after a declaration's schema was put in under its name
+pub known_more : (ss : List DeclarationOf) (d : ℕ) (name : List ℕ) (s : SchemaOf RefLeaf) (added : Bool) (components after : List Entry) →
+    d < length ss → name ≡ (declaration_at ss d).name → s ≡ declared_schema ss d → (IsTrue added ↔ (find name components ≡ None)) → after ≡ cond added (with_entry name s components) components →
     AreKnown ss components → AreKnown ss after
 known_more ss d name s false components after l n e new is h = subst (AreKnown ss) (sym is) h
 known_more ss d name s true components after l n e new is h = subst (AreKnown ss) (sym is) (record {
@@ -145,7 +145,7 @@ known_more ss d name s true components after l n e new is h = subst (AreKnown ss
 })
   where
     by : (k : List ℕ) (t : SchemaOf RefLeaf) (b : Bool) → bytes_eq k name ≡ b → cond b (Some s) (find k components) ≡ Some t →
-        (q : ℕ) × (q < length ss) × (k ≡ (struct_at ss q).name) × (t ≡ struct_schema ss q)
+        (q : ℕ) × (q < length ss) × (k ≡ (declaration_at ss q).name) × (t ≡ declared_schema ss q)
     by k t true u f = (d, l, (bytes_eq-Decides k name).0 u ∙ n, sym (same_Some s t f) ∙ e)
     by k t false u f = h.known k t f
 
@@ -162,40 +162,40 @@ there : (s : SchemaOf RefLeaf) (name : List ℕ) (components : List Entry) (adde
 there s name components false g = given (find name components) (λ e. false≢true (g.1 e))
 there s name components true g = subst (λ o. IsTrue (is_some o)) (sym (find-entered name s components (g.0 refl) name ∙ ap (λ b. cond b (Some s) (find name components)) (same_text name))) refl
 
--- each struct from the place on has a component
-abbrev pub AreThere : List StructOf → ℕ → List Entry → Type 0
-AreThere ss from components = (d : ℕ) → from ≤ d → d < length ss → IsTrue (is_some (find (struct_at ss d).name components))
+-- each declaration from the place on has a component
+abbrev pub AreThere : List DeclarationOf → ℕ → List Entry → Type 0
+AreThere ss from components = (d : ℕ) → from ≤ d → d < length ss → IsTrue (is_some (find (declaration_at ss d).name components))
 
-pub there_more : (ss : List StructOf) (from : ℕ) (name : List ℕ) (s : SchemaOf RefLeaf) (added : Bool) (components after : List Entry) →
-    name ≡ (struct_at ss from).name → (IsTrue added ↔ (find name components ≡ None)) → after ≡ cond added (with_entry name s components) components → AreThere ss (suc from) components → AreThere ss from after
-there_more ss from name s added components after named new is h d l m = subst (λ es. IsTrue (is_some (find (struct_at ss d).name es))) (sym is) (by (cases_lt from d))
+pub there_more : (ss : List DeclarationOf) (from : ℕ) (name : List ℕ) (s : SchemaOf RefLeaf) (added : Bool) (components after : List Entry) →
+    name ≡ (declaration_at ss from).name → (IsTrue added ↔ (find name components ≡ None)) → after ≡ cond added (with_entry name s components) components → AreThere ss (suc from) components → AreThere ss from after
+there_more ss from name s added components after named new is h d l m = subst (λ es. IsTrue (is_some (find (declaration_at ss d).name es))) (sym is) (by (cases_lt from d))
   where
-    by : (from < d) ⊎ (d ≤ from) → IsTrue (is_some (find (struct_at ss d).name (cond added (with_entry name s components) components)))
+    by : (from < d) ⊎ (d ≤ from) → IsTrue (is_some (find (declaration_at ss d).name (cond added (with_entry name s components) components)))
     by (inr few) =
         let same : from ≡ d = omega (arith, l, few) in
-        subst (λ n. IsTrue (is_some (find n (cond added (with_entry name s components) components)))) (named ∙ ap (λ e. (struct_at ss e).name) same) (there s name components added new)
-    by (inl more) = still (struct_at ss d).name s name components added new (h d (omega (arith, more)) m)
+        subst (λ n. IsTrue (is_some (find n (cond added (with_entry name s components) components)))) (named ∙ ap (λ e. (declaration_at ss e).name) same) (there s name components added new)
+    by (inl more) = still (declaration_at ss d).name s name components added new (h d (omega (arith, more)) m)
 
 -- ---- the end
 
--- components that are known, one for each struct, are those of the structs
-pub all_entered : (ss : List StructOf) (components : List Entry) → IsDistinct (struct_names ss) → AreKnown ss components → AreThere ss 0 components → AreComponents ss components
+-- components that are known, one for each declaration, are those of the declarations
+pub all_entered : (ss : List DeclarationOf) (components : List Entry) → IsDistinct (declaration_names ss) → AreKnown ss components → AreThere ss 0 components → AreComponents ss components
 all_entered ss components distinct h all = record { roots = roots; only = only; order = h.order }
   where
     found : (o : Option (SchemaOf RefLeaf)) → IsTrue (is_some o) → (s : SchemaOf RefLeaf) × (o ≡ Some s)
     found None f = absurd (false≢true f)
     found (Some s) f = (s, refl)
 
-    only : (name : List ℕ) → IsTrue (is_some (find name components)) → (d : ℕ) × (d < length ss) × (name ≡ (struct_at ss d).name)
+    only : (name : List ℕ) → IsTrue (is_some (find name components)) → (d : ℕ) × (d < length ss) × (name ≡ (declaration_at ss d).name)
     only name f =
         let s = found (find name components) f in
         let k = h.known name s.0 s.1 in
         (k.0, k.1, k.2)
 
-    roots : (d : ℕ) → d < length ss → find (struct_at ss d).name components ≡ Some (struct_schema ss d)
+    roots : (d : ℕ) → d < length ss → find (declaration_at ss d).name components ≡ Some (declared_schema ss d)
     roots d l =
-        let name = (struct_at ss d).name in
+        let name = (declaration_at ss d).name in
         let s = found (find name components) (all d (omega arith) l) in
         let k = h.known name s.0 s.1 in
-        let same : k.0 ≡ d = same_Some k.0 d (sym (root_place ss k.0 distinct k.1) ∙ sym (ap (λ n. place_in n (struct_names ss)) k.2) ∙ root_place ss d distinct l) in
-        s.1 ∙ ap Some k.3 ∙ ap (λ q. Some (struct_schema ss q)) same
+        let same : k.0 ≡ d = same_Some k.0 d (sym (root_place ss k.0 distinct k.1) ∙ sym (ap (λ n. place_in n (declaration_names ss)) k.2) ∙ root_place ss d distinct l) in
+        s.1 ∙ ap Some k.3 ∙ ap (λ q. Some (declared_schema ss q)) same

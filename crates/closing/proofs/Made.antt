@@ -6,22 +6,22 @@ use Rattle.schema_core.specs.declared.tree.Tree.{Tree}
 use Rattle.schema_core.specs.Schema.{SchemaOf, schema_view, bind}
 use Rattle.component.specs.Leaves.{term_view}
 use Rattle.component.specs.declared.term.TermLeaf.{TermLeaf}
-use Rattle.derive_decl.specs.declared.structs.Struct.{Struct}
-use Rattle.derive_decl.specs.Structs.{StructOf, struct_at, types_of}
+use Rattle.derive_decl.specs.declared.resolved.Resolved.{Resolved}
+use Rattle.derive_decl.specs.Resolved.{DeclarationOf, declaration_at, types_of}
 use Rattle.derive_decl.specs.Plain.{StandsInOne}
 use Rattle.derive_decl.specs.Terms.{term}
-use Rattle.derive_decl.specs.Views.{struct_view}
+use Rattle.derive_decl.specs.Views.{resolved_view}
 use Rattle.inlining.specs.Inlining.{targets_of, IsAmong, IsAtMost}
 use Rattle.closing.specs.Targets.{inlining_of, most_inlined}
-use Rattle.closing.specs.Closed.{any_value, put, closed, schema_in, struct_schema}
+use Rattle.closing.specs.Closed.{any_value, put, closed, schema_in, declared_schema}
 use Rattle.closing.specs.Described.{AreWithin}
 use Rattle.closing.proofs.Described.{all-within}
 use Rattle.closing.proofs.Leaves.{among_cases}
 use Rattle.closing.proofs.Targets.{IsShort, targets-are, as_many-targets, shorter, all-short, same-term, closed-stays}
 
 -- the schemas of these declarations are made
-abbrev pub AreMade : List StructOf → List (Tree RefLeaf) → List ℕ → Type 0
-AreMade ss made ds = (d : ℕ) → IsAmong d ds → schema_in (map schema_view made) d ≡ struct_schema ss d
+abbrev pub AreMade : List DeclarationOf → List (Tree RefLeaf) → List ℕ → Type 0
+AreMade ss made ds = (d : ℕ) → IsAmong d ds → schema_in (map schema_view made) d ≡ declared_schema ss d
 
 pub schema_at : (made : List (Tree RefLeaf)) (d : ℕ) (x : Tree RefLeaf) → d < length made → schema_in (map schema_view made) d ≡ schema_view (get_or made d x)
 schema_at [] d x l = absurd (omega arith)
@@ -46,25 +46,25 @@ kept (y ∷ made) (suc i) (suc d) s = by (kept made i d s)
     by (inr e) = inr e
 
 -- one schema more
-pub made_more : (ss : List StructOf) (made : List (Tree RefLeaf)) (ds : List ℕ) (i : ℕ) (s : Tree RefLeaf) → i < length ds → get_or ds i 0 < length made → schema_view s ≡ struct_schema ss (get_or ds i 0) → AreMade ss made (take i ds) →
+pub made_more : (ss : List DeclarationOf) (made : List (Tree RefLeaf)) (ds : List ℕ) (i : ℕ) (s : Tree RefLeaf) → i < length ds → get_or ds i 0 < length made → schema_view s ≡ declared_schema ss (get_or ds i 0) → AreMade ss made (take i ds) →
     AreMade ss (set made (get_or ds i 0) s) (take (i + 1) ds)
 made_more ss made ds i s h l e all d among = by (kept made (get_or ds i 0) d s) (among_cases d (take i ds) (get_or ds i 0 ∷ []) (subst (IsAmong d) (take_more ds i 0 h) among))
   where
-    here : d ≡ get_or ds i 0 → schema_in (map schema_view (set made (get_or ds i 0) s)) d ≡ struct_schema ss d
-    here same = subst (λ k. schema_in (map schema_view (set made (get_or ds i 0) s)) k ≡ struct_schema ss k) (sym same) (put_in made (get_or ds i 0) s l ∙ e)
+    here : d ≡ get_or ds i 0 → schema_in (map schema_view (set made (get_or ds i 0) s)) d ≡ declared_schema ss d
+    here same = subst (λ k. schema_in (map schema_view (set made (get_or ds i 0) s)) k ≡ declared_schema ss k) (sym same) (put_in made (get_or ds i 0) s l ∙ e)
 
     by : (d ≡ get_or ds i 0) ⊎ (schema_in (map schema_view (set made (get_or ds i 0) s)) d ≡ schema_in (map schema_view made) d) → IsAmong d (take i ds) ⊎ IsAmong d (get_or ds i 0 ∷ []) →
-        schema_in (map schema_view (set made (get_or ds i 0) s)) d ≡ struct_schema ss d
+        schema_in (map schema_view (set made (get_or ds i 0) s)) d ≡ declared_schema ss d
     by (inl same) j = here same
     by (inr other) (inl j) = other ∙ all d j
     by (inr other) (inr (inl same)) = here same
     by (inr other) (inr (inr none)) = absurd none
 
 -- where the schemas of its targets are made, so is that of a declaration
-pub schema_is : (ss : List StructOf) → ((d e : ℕ) → StandsInOne e (types_of (struct_at ss d).form) → e < length ss) → IsAtMost most_inlined (inlining_of ss) → (made : List (Tree RefLeaf)) (d : ℕ) → d < length ss →
-    AreMade ss made (targets_of (inlining_of ss) d) → bind (put ss (schema_in (map schema_view made))) (term (struct_at ss d)) ≡ struct_schema ss d
+pub schema_is : (ss : List DeclarationOf) → ((d e : ℕ) → StandsInOne e (types_of (declaration_at ss d).form) → e < length ss) → IsAtMost most_inlined (inlining_of ss) → (made : List (Tree RefLeaf)) (d : ℕ) → d < length ss →
+    AreMade ss made (targets_of (inlining_of ss) d) → bind (put ss (schema_in (map schema_view made))) (term (declaration_at ss d)) ≡ declared_schema ss d
 schema_is ss within most made d l all =
-    same-term ss within (schema_in (map schema_view made)) (closed ss 31) (λ e. (schema_in (map schema_view made) e ≡ struct_schema ss e) × IsShort ss 31 e)
+    same-term ss within (schema_in (map schema_view made)) (closed ss 31) (λ e. (schema_in (map schema_view made) e ≡ declared_schema ss e) × IsShort ss 31 e)
     (λ e k t. t.0 ∙ closed-stays ss within 31 e k t.1) d
     (λ e among. (all e (subst (IsAmong e) (sym (targets-are ss d)) among), shorter ss 31 d l (all-short ss most d) e among))
 
@@ -76,33 +76,33 @@ schema_past (s ∷ made) (suc d) l = schema_past made d (omega arith)
 
 -- ---- terms
 
-term_at : (terms : List (Tree TermLeaf)) (structs : List Struct) (d : ℕ) (x : Tree TermLeaf) → map term_view terms ≡ map (λ s. term (struct_view s)) structs → d < length terms → term_view (get_or terms d x) ≡ term (struct_at (map struct_view structs) d)
-term_at [] structs d x e l = absurd (omega arith)
+term_at : (terms : List (Tree TermLeaf)) (resolved : List Resolved) (d : ℕ) (x : Tree TermLeaf) → map term_view terms ≡ map (λ s. term (resolved_view s)) resolved → d < length terms → term_view (get_or terms d x) ≡ term (declaration_at (map resolved_view resolved) d)
+term_at [] resolved d x e l = absurd (omega arith)
 term_at (t ∷ terms) [] d x e l = cc
-term_at (t ∷ terms) (s ∷ structs) zero x e l = cc
-term_at (t ∷ terms) (s ∷ structs) (suc d) x e l = let rest : map term_view terms ≡ map (λ s. term (struct_view s)) structs = cc in term_at terms structs d x rest (omega arith)
+term_at (t ∷ terms) (s ∷ resolved) zero x e l = cc
+term_at (t ∷ terms) (s ∷ resolved) (suc d) x e l = let rest : map term_view terms ≡ map (λ s. term (resolved_view s)) resolved = cc in term_at terms resolved d x rest (omega arith)
 
-pub as_many_terms : (terms : List (Tree TermLeaf)) (structs : List Struct) → map term_view terms ≡ map (λ s. term (struct_view s)) structs → length terms ≡ length structs
-as_many_terms terms structs e = sym (length-map terms term_view) ∙ ap length e ∙ length-map structs (λ s. term (struct_view s))
+pub as_many_terms : (terms : List (Tree TermLeaf)) (resolved : List Resolved) → map term_view terms ≡ map (λ s. term (resolved_view s)) resolved → length terms ≡ length resolved
+as_many_terms terms resolved e = sym (length-map terms term_view) ∙ ap length e ∙ length-map resolved (λ s. term (resolved_view s))
 
 -- the schema that is put together at a place of the order
-pub next_schema : (structs : List Struct) (terms : List (Tree TermLeaf)) (made now : List (Tree RefLeaf)) (d : ℕ) (x : Tree TermLeaf) (s : SchemaOf RefLeaf) → map term_view terms ≡ map (λ s. term (struct_view s)) structs →
-    AreWithin (length (map struct_view structs)) (map struct_view structs) → IsAtMost most_inlined (inlining_of (map struct_view structs)) → d < length structs → AreMade (map struct_view structs) made (targets_of (inlining_of (map struct_view structs)) d) →
-    now ≡ made → x ≡ get_or terms d x → s ≡ bind (put (map struct_view structs) (schema_in (map schema_view now))) (term_view x) → s ≡ struct_schema (map struct_view structs) d
-next_schema structs terms made now d x s are within most l all same at is =
-    let ss = map struct_view structs in
-    let here : d < length terms = subst (λ n. d < n) (sym (as_many_terms terms structs are)) l in
+pub next_schema : (resolved : List Resolved) (terms : List (Tree TermLeaf)) (made now : List (Tree RefLeaf)) (d : ℕ) (x : Tree TermLeaf) (s : SchemaOf RefLeaf) → map term_view terms ≡ map (λ s. term (resolved_view s)) resolved →
+    AreWithin (length (map resolved_view resolved)) (map resolved_view resolved) → IsAtMost most_inlined (inlining_of (map resolved_view resolved)) → d < length resolved → AreMade (map resolved_view resolved) made (targets_of (inlining_of (map resolved_view resolved)) d) →
+    now ≡ made → x ≡ get_or terms d x → s ≡ bind (put (map resolved_view resolved) (schema_in (map schema_view now))) (term_view x) → s ≡ declared_schema (map resolved_view resolved) d
+next_schema resolved terms made now d x s are within most l all same at is =
+    let ss = map resolved_view resolved in
+    let here : d < length terms = subst (λ n. d < n) (sym (as_many_terms terms resolved are)) l in
     is
     ∙ ap (λ m. bind (put ss (schema_in (map schema_view m))) (term_view x)) same
-    ∙ ap (bind (put ss (schema_in (map schema_view made)))) (ap term_view at ∙ term_at terms structs d x are here)
-    ∙ schema_is ss (all-within ss within) most made d (subst (λ n. d < n) (sym (length-map structs struct_view)) l) all
+    ∙ ap (bind (put ss (schema_in (map schema_view made)))) (ap term_view at ∙ term_at terms resolved d x are here)
+    ∙ schema_is ss (all-within ss within) most made d (subst (λ n. d < n) (sym (length-map resolved resolved_view)) l) all
 
--- a place of the order is that of a struct
-pub struct_place : (structs : List Struct) (d : ℕ) → d < length (inlining_of (map struct_view structs)) → d < length structs
-struct_place structs d l = subst (λ n. d < n) (as_many-targets (map struct_view structs) ∙ length-map structs struct_view) l
+-- a place of the order is that of a declaration
+pub declaration_place : (resolved : List Resolved) (d : ℕ) → d < length (inlining_of (map resolved_view resolved)) → d < length resolved
+declaration_place resolved d l = subst (λ n. d < n) (as_many-targets (map resolved_view resolved) ∙ length-map resolved resolved_view) l
 
-pub struct_place_back : (structs : List Struct) (d : ℕ) → d < length structs → d < length (inlining_of (map struct_view structs))
-struct_place_back structs d l = subst (λ n. d < n) (sym (as_many-targets (map struct_view structs) ∙ length-map structs struct_view)) l
+pub declaration_place_back : (resolved : List Resolved) (d : ℕ) → d < length resolved → d < length (inlining_of (map resolved_view resolved))
+declaration_place_back resolved d l = subst (λ n. d < n) (sym (as_many-targets (map resolved_view resolved) ∙ length-map resolved resolved_view)) l
 
 -- ---- the last schema
 

@@ -7,7 +7,7 @@ use Rattle.open_types.specs.Open.{Opens}
 use Rattle.open_types.specs.Open as types
 use Rattle.component.specs.Leaves.{LeafOf, param, named}
 use Rattle.component.specs.References.{leaf_references, named_leaves}
-use Rattle.derive_decl.specs.Structs.{StructOf, struct_at, types_of}
+use Rattle.derive_decl.specs.Resolved.{DeclarationOf, declaration_at, types_of}
 use Rattle.derive_decl.specs.Plain.{StandsInOne, AreAllPlain}
 use Rattle.derive_decl.specs.Terms.{term}
 use Rattle.inlining.specs.Inlining.{targets_of, IsAmong, AreTargets, IsPath, IsAtMost}
@@ -17,15 +17,15 @@ use Rattle.closing.proofs.Leaves.{each-both, bind-same, AtInlined, at-leaves, fr
 use Rattle.closing.proofs.Terms.{form-leaves}
 
 -- the declarations that are inline in the term of a declaration
-abbrev pub targets_at : List StructOf → ℕ → List ℕ
-targets_at ss d = inlined_among (named_leaves (term (struct_at ss d)))
+abbrev pub targets_at : List DeclarationOf → ℕ → List ℕ
+targets_at ss d = inlined_among (named_leaves (term (declaration_at ss d)))
 
-pub targets-are : (ss : List StructOf) (d : ℕ) → targets_of (inlining_of ss) d ≡ targets_at ss d
+pub targets-are : (ss : List DeclarationOf) (d : ℕ) → targets_of (inlining_of ss) d ≡ targets_at ss d
 targets-are [] d = refl
 targets-are (s ∷ ss) zero = refl
 targets-are (s ∷ ss) (suc d) = targets-are ss d
 
-pub as_many-targets : (ss : List StructOf) → length (inlining_of ss) ≡ length ss
+pub as_many-targets : (ss : List DeclarationOf) → length (inlining_of ss) ≡ length ss
 as_many-targets [] = refl
 as_many-targets (s ∷ ss) = ap suc (as_many-targets ss)
 
@@ -41,7 +41,7 @@ module _ (S : LeafOf → Type 0) (ToBePlain : Type 0) (P T : ℕ → Type 0) (in
   at_named e ts true notes p t = inlined e ts notes p (t e (inl refl))
   at_named e ts false notes p t = referred e ts notes p
 
-  pub at-each : (s : StructOf) → ((e : ℕ) → StandsInOne e (types_of s.form) → P e) → (ToBePlain → AreAllPlain (types_of s.form)) → AtInlined T (named_leaves (term s)) → EachLeaf S (term s)
+  pub at-each : (s : DeclarationOf) → ((e : ℕ) → StandsInOne e (types_of s.form) → P e) → (ToBePlain → AreAllPlain (types_of s.form)) → AtInlined T (named_leaves (term s)) → EachLeaf S (term s)
   at-each s stands plain inline =
       each-both Follows (λ x. AtInlined T (leaf_references x)) S (λ x f t. f t) (term s)
       (form-leaves Follows ToBePlain P at_named (λ i h t. at_param i h) s.deprecated s.description s.form stands plain) (at-leaves T (term s) inline)
@@ -49,17 +49,17 @@ module _ (S : LeafOf → Type 0) (ToBePlain : Type 0) (P T : ℕ → Type 0) (in
 -- ---- short paths
 
 -- an inline path from the declaration has at most n declarations
-abbrev pub IsShort : List StructOf → ℕ → ℕ → Type 0
+abbrev pub IsShort : List DeclarationOf → ℕ → ℕ → Type 0
 IsShort ss n d = (path : List ℕ) → IsPath (inlining_of ss) (d ∷ path) → length path < n
 
-module _ (ss : List StructOf) where
+module _ (ss : List DeclarationOf) where
   here : (d : ℕ) → d < length ss → d < length (inlining_of ss)
   here d l = subst (λ m. d < m) (sym (as_many-targets ss)) l
 
   pub never-short : (d : ℕ) → d < length ss → IsShort ss 0 d → ⊥
   never-short d l short = let none = short [] (here d l) in omega (arith, none)
 
-  pub shorter : (n d : ℕ) → d < length ss → IsShort ss (suc n) d → AtInlined (IsShort ss n) (named_leaves (term (struct_at ss d)))
+  pub shorter : (n d : ℕ) → d < length ss → IsShort ss (suc n) d → AtInlined (IsShort ss n) (named_leaves (term (declaration_at ss d)))
   shorter n d l short e among path p = let longer = short (e ∷ path) (here d l, subst (IsAmong e) (sym (targets-are ss d)) among, p) in omega (arith, longer)
 
   pub all-short : IsAtMost most_inlined (inlining_of ss) → (d : ℕ) → IsShort ss most_inlined d
@@ -67,13 +67,13 @@ module _ (ss : List StructOf) where
 
   -- ---- the schema of a declaration does not change beyond its depth
 
-  module _ (within : (d e : ℕ) → StandsInOne e (types_of (struct_at ss d).form) → e < length ss) where
+  module _ (within : (d e : ℕ) → StandsInOne e (types_of (declaration_at ss d).form) → e < length ss) where
     -- two tables that have the same schemas for what is inline put the same at each leaf
-    pub same-term : (f g : ℕ → SchemaOf RefLeaf) (T : ℕ → Type 0) → ((e : ℕ) → e < length ss → T e → f e ≡ g e) → (d : ℕ) → AtInlined T (named_leaves (term (struct_at ss d))) →
-        bind (put ss f) (term (struct_at ss d)) ≡ bind (put ss g) (term (struct_at ss d))
+    pub same-term : (f g : ℕ → SchemaOf RefLeaf) (T : ℕ → Type 0) → ((e : ℕ) → e < length ss → T e → f e ≡ g e) → (d : ℕ) → AtInlined T (named_leaves (term (declaration_at ss d))) →
+        bind (put ss f) (term (declaration_at ss d)) ≡ bind (put ss g) (term (declaration_at ss d))
     same-term f g T same d inline =
-        bind-same (put ss f) (put ss g) (term (struct_at ss d))
-        (at-each (λ x. put ss f x ≡ put ss g x) ⊥ (λ e. e < length ss) T (λ e ts notes l t. same e l t) (λ e ts notes l. refl) (λ i h. refl) (struct_at ss d) (within d) (λ a. absurd a) inline)
+        bind-same (put ss f) (put ss g) (term (declaration_at ss d))
+        (at-each (λ x. put ss f x ≡ put ss g x) ⊥ (λ e. e < length ss) T (λ e ts notes l t. same e l t) (λ e ts notes l. refl) (λ i h. refl) (declaration_at ss d) (within d) (λ a. absurd a) inline)
 
     pub closed-stays : (n d : ℕ) → d < length ss → IsShort ss n d → closed ss (suc n) d ≡ closed ss n d
     closed-stays zero d l short = absurd (never-short d l short)
@@ -83,8 +83,8 @@ module _ (ss : List StructOf) where
     pub are-targets : AreTargets (inlining_of ss)
     are-targets d t among =
         subst (λ m. t < m) (sym (as_many-targets ss))
-        (from-leaves (λ e. e < length ss) (term (struct_at ss d))
-        (form-leaves (λ x. AtInlined (λ e. e < length ss) (leaf_references x)) ⊥ (λ e. e < length ss) at_named (λ i h e a. absurd a) (struct_at ss d).deprecated (struct_at ss d).description (struct_at ss d).form (within d) (λ a. absurd a)) t
+        (from-leaves (λ e. e < length ss) (term (declaration_at ss d))
+        (form-leaves (λ x. AtInlined (λ e. e < length ss) (leaf_references x)) ⊥ (λ e. e < length ss) at_named (λ i h e a. absurd a) (declaration_at ss d).deprecated (declaration_at ss d).description (declaration_at ss d).form (within d) (λ a. absurd a)) t
         (subst (IsAmong t) (targets-are ss d) among))
       where
         at_named : (e : ℕ) (ts : Opens) (inline : Bool) (notes : Notes) → e < length ss → AtInlined (λ e. e < length ss) (leaf_references (named (types.named e ts) inline notes))

@@ -9,7 +9,7 @@ use Rattle.open_types.specs.Open.{Open, Opens, leaf, any_value, free_object, uni
 use Rattle.open_types.specs.Open as types
 use Rattle.component.specs.Leaves.{LeafOf, param, named}
 use Rattle.component.specs.Places.{described, or_null, in_place, declared, argument, place, inline_places}
-use Rattle.derive_decl.specs.Structs.{MemberOf, FormOf, named_fields, unnamed_fields, no_fields, names_of, member_names, member_types, types_of}
+use Rattle.derive_decl.specs.Resolved.{MemberOf, FormOf, named_fields, unnamed_fields, no_fields, names_of, member_names, member_types, types_of}
 use Rattle.derive_decl.specs.Plain.{StandsIn, StandsAmong, StandsInOne, IsTextKey, IsPlainType, ArePlainTypes, AreAllPlain, IsPlainForm}
 use Rattle.derive_decl.specs.Terms.{properties_of, are_all, any_object, unnamed_term, form_term}
 

@@ -8,13 +8,13 @@ use Rattle.open_types.specs.Open.{Open}
 use Rattle.open_types.specs.Open as types
 use Rattle.component.specs.Leaves.{LeafOf, param, named}
 use Rattle.component.specs.Places.{only_word}
-use Rattle.derive_decl.specs.Structs.{StructOf, struct_at}
+use Rattle.derive_decl.specs.Resolved.{DeclarationOf, declaration_at}
 use Rattle.derive_decl.specs.Terms.{term}
 use Rattle.closing.specs.Targets.{most_inlined}
 
 -- the name of the component of a declaration
-abbrev pub name_of : List StructOf → Open → List ℕ
-name_of ss (types.named d ts) = (struct_at ss d).name
+abbrev pub name_of : List DeclarationOf → Open → List ℕ
+name_of ss (types.named d ts) = (declaration_at ss d).name
 name_of ss _ = []
 
 -- nothing is said
@@ -33,16 +33,16 @@ schema_of closed (types.named d ts) = closed d
 schema_of closed _ = any_value
 
 -- What stands at a leaf of a term: the schema of its declaration where it is inline, else a reference to its component. A parameter without an argument is any value.
-abbrev pub put : List StructOf → (ℕ → SchemaOf RefLeaf) → LeafOf → SchemaOf RefLeaf
+abbrev pub put : List DeclarationOf → (ℕ → SchemaOf RefLeaf) → LeafOf → SchemaOf RefLeaf
 put ss closed (param i) = any_value
 put ss closed (named t true notes) = schema_of closed t
 put ss closed (named t false notes) = leaf (record { name = name_of ss t; notes = notes })
 
 -- the schema of a declaration, where schemas stand in it no deeper than the number
-abbrev pub closed : List StructOf → ℕ → ℕ → SchemaOf RefLeaf
+abbrev pub closed : List DeclarationOf → ℕ → ℕ → SchemaOf RefLeaf
 closed ss zero d = any_value
-closed ss (suc n) d = bind (put ss (closed ss n)) (term (struct_at ss d))
+closed ss (suc n) d = bind (put ss (closed ss n)) (term (declaration_at ss d))
 
 -- The schema of the component of a declaration.
-abbrev pub struct_schema : List StructOf → ℕ → SchemaOf RefLeaf
-struct_schema ss d = closed ss most_inlined d
+abbrev pub declared_schema : List DeclarationOf → ℕ → SchemaOf RefLeaf
+declared_schema ss d = closed ss most_inlined d

@@ -1,4 +1,4 @@
--- The components of structs, and what their document says.
+-- The components of declarations, and what their document says.
 use Rattle.std.specs.Prelude.{◌≡◌, ◌<◌, ◌↔◌, ℕ, List, [], ◌∷◌, length, Some, is_some, IsTrue}
 use Rattle.acceptance.specs.Json.{Json}
 use Rattle.acceptance.specs.Acceptance.{component_schema, Accepts}
@@ -11,53 +11,53 @@ use Rattle.schema_core.specs.Entries.{find, names_of, IsInOrder}
 use Rattle.schema_core.specs.Meaning.{IsDistinct}
 use Rattle.open_types.specs.Open.{Open}
 use Rattle.resolving.specs.Resolved.{IsWithin}
-use Rattle.derive_decl.specs.Structs.{StructOf, struct_at, struct_names, types_of}
+use Rattle.derive_decl.specs.Resolved.{DeclarationOf, declaration_at, declaration_names, types_of}
 use Rattle.derive_decl.specs.Shape.{HasShape}
 use Rattle.derive_decl.specs.Plain.{IsPlain}
 use Rattle.derive_decl.specs.Whole.{MembersDiffer}
 use Rattle.inlining.specs.Inlining.{AreTargets, IsAtMost}
 use Rattle.closing.specs.Targets.{inlining_of, most_inlined}
-use Rattle.closing.specs.Closed.{struct_schema}
+use Rattle.closing.specs.Closed.{declared_schema}
 
 -- no two declarations and no two members of one have one name
-abbrev pub IsApart : List StructOf → Type 0
-IsApart ss = IsDistinct (struct_names ss) × MembersDiffer ss
+abbrev pub IsApart : List DeclarationOf → Type 0
+IsApart ss = IsDistinct (declaration_names ss) × MembersDiffer ss
 
--- The components of the structs: each is a root, under its name, and there are no others; in byte order of the names.
-pub record AreComponents (ss : List StructOf) (components : List Entry) : Type 0 where
-  pub roots : (d : ℕ) → d < length ss → find (struct_at ss d).name components ≡ Some (struct_schema ss d)
-  pub only : (name : List ℕ) → IsTrue (is_some (find name components)) → (d : ℕ) × (d < length ss) × (name ≡ (struct_at ss d).name)
+-- The components of the declarations: each is a root, under its name, and there are no others; in byte order of the names.
+pub record AreComponents (ss : List DeclarationOf) (components : List Entry) : Type 0 where
+  pub roots : (d : ℕ) → d < length ss → find (declaration_at ss d).name components ≡ Some (declared_schema ss d)
+  pub only : (name : List ℕ) → IsTrue (is_some (find name components)) → (d : ℕ) × (d < length ss) × (name ≡ (declaration_at ss d).name)
   pub order : IsInOrder (names_of components)
 
--- ---- what a document says of structs
+-- ---- what a document says of declarations
 
 abbrev pub HasComponent : Json → List ℕ → Type 0
 HasComponent doc name = IsTrue (is_some (component_schema doc name))
 
 -- Every root and every reference has its component, and the component of each plain declaration accepts exactly what has its shape.
-pub record Describes (ss : List StructOf) (doc : Json) : Type 0 where
-  pub roots : (d : ℕ) → d < length ss → HasComponent doc (struct_at ss d).name
+pub record Describes (ss : List DeclarationOf) (doc : Json) : Type 0 where
+  pub roots : (d : ℕ) → d < length ss → HasComponent doc (declaration_at ss d).name
   pub references : (name : List ℕ) (s : Json) → component_schema doc name ≡ Some s → EachReference (HasComponent doc) s
-  pub accepts : (d : ℕ) → d < length ss → IsPlain ss d → (s v : Json) → component_schema doc (struct_at ss d).name ≡ Some s → Accepts doc s v ↔ HasShape ss d v
+  pub accepts : (d : ℕ) → d < length ss → IsPlain ss d → (s v : Json) → component_schema doc (declaration_at ss d).name ≡ Some s → Accepts doc s v ↔ HasShape ss d v
 
 -- each declaration that the types name is one of the first n
 abbrev pub TypesWithin : ℕ → List Open → Type 0
 TypesWithin n [] = Unit {0}
 TypesWithin n (t ∷ ts) = IsWithin n t × TypesWithin n ts
 
-abbrev pub AreWithin : ℕ → List StructOf → Type 0
+abbrev pub AreWithin : ℕ → List DeclarationOf → Type 0
 AreWithin n [] = Unit {0}
 AreWithin n (s ∷ ss) = TypesWithin n (types_of s.form) × AreWithin n ss
 
--- The law: a document of components describes the structs, where each name leads to one of them, and no inline path is longer than it may be.
+-- The law: a document of components describes the declarations, where each name leads to one of them, and no inline path is longer than it may be.
 abbrev pub ComponentsDescribe : Type 0
-ComponentsDescribe = (ss : List StructOf) (components : List Entry) → IsApart ss → AreWithin (length ss) ss → IsAtMost most_inlined (inlining_of ss) → AreComponents ss components → Describes ss (document components)
+ComponentsDescribe = (ss : List DeclarationOf) (components : List Entry) → IsApart ss → AreWithin (length ss) ss → IsAtMost most_inlined (inlining_of ss) → AreComponents ss components → Describes ss (document components)
 
--- The law: what is inline in the terms of structs is declared, where each name leads to one of them.
+-- The law: what is inline in the terms of declarations is declared, where each name leads to one of them.
 abbrev pub TargetsAreDeclared : Type 0
-TargetsAreDeclared = (ss : List StructOf) → AreWithin (length ss) ss → AreTargets (inlining_of ss)
+TargetsAreDeclared = (ss : List DeclarationOf) → AreWithin (length ss) ss → AreTargets (inlining_of ss)
 
 -- The law: a reference to the component of a declaration accepts what the schema of that component accepts, whatever its notes are.
 abbrev pub ReferencesAccept : Type 0
-ReferencesAccept = (ss : List StructOf) (components : List Entry) → AreComponents ss components → (d : ℕ) → d < length ss → (notes : Notes) (s v : Json) → component_schema (document components) (struct_at ss d).name ≡ Some s →
-    Accepts (document components) (form (leaf (record { name = (struct_at ss d).name; notes = notes }))) v ↔ Accepts (document components) s v
+ReferencesAccept = (ss : List DeclarationOf) (components : List Entry) → AreComponents ss components → (d : ℕ) → d < length ss → (notes : Notes) (s v : Json) → component_schema (document components) (declaration_at ss d).name ≡ Some s →
+    Accepts (document components) (form (leaf (record { name = (declaration_at ss d).name; notes = notes }))) v ↔ Accepts (document components) s v

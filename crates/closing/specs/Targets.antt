@@ -4,7 +4,7 @@ use Rattle.schema_core.specs.Schema.{SchemaOf}
 use Rattle.open_types.specs.Open.{Open, named}
 use Rattle.component.specs.Leaves.{LeafOf}
 use Rattle.component.specs.References.{ReferenceOf, named_leaves}
-use Rattle.derive_decl.specs.Structs.{StructOf}
+use Rattle.derive_decl.specs.Resolved.{DeclarationOf}
 use Rattle.derive_decl.specs.Terms.{term}
 
 -- the declaration that the type names, where it names one
@@ -22,7 +22,7 @@ abbrev pub targets_in : SchemaOf LeafOf → List ℕ
 targets_in t = inlined_among (named_leaves t)
 
 -- the targets of each declaration
-abbrev pub inlining_of : List StructOf → List (List ℕ)
+abbrev pub inlining_of : List DeclarationOf → List (List ℕ)
 inlining_of [] = []
 inlining_of (s ∷ ss) = targets_in (term s) ∷ inlining_of ss
 

@@ -4,16 +4,16 @@ ghost use Rattle.std.specs.Prelude.{◌≡◌, ◌<◌, ℕ, length, map, get_or
 ghost use Rattle.schema_core.specs.Schema.{schema_view, leaf};
 ghost use Rattle.open_types.specs.Open.{open_view};
 ghost use Rattle.component.specs.Leaves.{term_view};
-ghost use Rattle.derive_decl.specs.Structs.{StructOf, struct_at};
+ghost use Rattle.derive_decl.specs.Resolved.{DeclarationOf, declaration_at};
 ghost use Rattle.derive_decl.specs.Terms.{term};
-ghost use Rattle.derive_decl.specs.Views.{struct_view};
+ghost use Rattle.derive_decl.specs.Views.{resolved_view};
 ghost use Rattle.inlining.specs.Inlining.{IsAtMost, IsOrder};
 ghost use Rattle.closing.specs.Targets.{inlining_of, most_inlined};
-ghost use Rattle.closing.specs.Closed.{any_value, name_of, schema_of, schema_in, struct_schema};
+ghost use Rattle.closing.specs.Closed.{any_value, name_of, schema_of, schema_in, declared_schema};
 ghost use Rattle.closing.specs.Described.{AreWithin};
 
 use component::{Term, TermLeaf};
-use derive_decl::Struct;
+use derive_decl::Resolved;
 use diag::{List, Text};
 use filling::{Fill, copy_schema, filled};
 use open_types::OpenType;
@@ -23,28 +23,28 @@ use std::alloc::{AllocError, Global};
 /// What stands at the leaves of a term: the schemas of declarations, as far as they are made, and references to components.
 #[derive(Clone, Copy)]
 pub(crate) struct Closing<'s> {
-    pub(crate) structs: &'s [Struct],
+    pub(crate) resolved: &'s [Resolved],
     /// The schema of each declaration; of one that is not made yet, one that says nothing.
     pub(crate) made: &'s [Schema],
 }
 
 /// The name of the component of the declaration at a place; past the end, an empty one.
-fn name_at(alloc: Global, structs: &[Struct], place: usize) -> Result<Text, AllocError>
-    ensures { IfOk result (λ name. name ≡ (struct_at (map struct_view structs.now) place).name) }
+fn name_at(alloc: Global, resolved: &[Resolved], place: usize) -> Result<Text, AllocError>
+    ensures { IfOk result (λ name. name ≡ (declaration_at (map resolved_view resolved.now) place).name) }
 {
-    if place < structs.len() {
-        structs[place].name.copy(alloc)
+    if place < resolved.len() {
+        resolved[place].name.copy(alloc)
     } else {
         Text::new(alloc, "")
     }
 }
 
 /// The name of the component of the type's declaration; of another type, an empty one.
-fn name_of(alloc: Global, structs: &[Struct], ty: &OpenType) -> Result<Text, AllocError>
-    ensures { IfOk result (λ name. name ≡ name_of (map struct_view structs.now) (open_view ty.now)) }
+fn name_of(alloc: Global, resolved: &[Resolved], ty: &OpenType) -> Result<Text, AllocError>
+    ensures { IfOk result (λ name. name ≡ name_of (map resolved_view resolved.now) (open_view ty.now)) }
 {
     match ty {
-        OpenType::Named(place, _) => name_at(alloc, structs, *place),
+        OpenType::Named(place, _) => name_at(alloc, resolved, *place),
         _ => Text::new(alloc, ""),
     }
 }
@@ -91,14 +91,14 @@ fn schema_of(alloc: Global, made: &[Schema], ty: &OpenType) -> Result<Schema, Al
 /// A reference with the notes to the component of the type's declaration.
 fn reference_to(
     alloc: Global,
-    structs: &[Struct],
+    resolved: &[Resolved],
     ty: &OpenType,
     notes: &Notes,
 ) -> Result<Schema, AllocError>
-    ensures { IfOk result (λ s. schema_view s ≡ leaf (record { name = name_of (map struct_view structs.now) (open_view ty.now); notes = notes.now })) }
+    ensures { IfOk result (λ s. schema_view s ≡ leaf (record { name = name_of (map resolved_view resolved.now) (open_view ty.now); notes = notes.now })) }
 {
     Ok(Tree::Leaf(RefLeaf {
-        name: name_of(alloc, structs, ty)?,
+        name: name_of(alloc, resolved, ty)?,
         notes: notes.copy(alloc)?,
     }))
 }
@@ -108,7 +108,7 @@ impl Fill for Closing<'_> {
     ghost use Rattle.schema_core.specs.declared.tree.RefLeaf.{RefLeaf as AnyReference};
     ghost use Rattle.schema_core.specs.Schema.{schema_view};
     ghost use Rattle.component.specs.Leaves.{LeafOf, leaf_view};
-    ghost use Rattle.derive_decl.specs.Views.{struct_view};
+    ghost use Rattle.derive_decl.specs.Views.{resolved_view};
     ghost use Rattle.closing.specs.Closed.{put, schema_in};
 
     type Hole = TermLeaf;
@@ -123,7 +123,7 @@ impl Fill for Closing<'_> {
 
     ghost meaning = { λ l. l };
 
-    ghost put = { λ c l. put (map struct_view c.structs.now) (schema_in (map schema_view c.made.now)) l };
+    ghost put = { λ c l. put (map resolved_view c.resolved.now) (schema_in (map schema_view c.made.now)) l };
 
     fn fill(&self, alloc: Global, leaf: &TermLeaf) -> Result<Schema, AllocError> {
         match leaf {
@@ -132,19 +132,19 @@ impl Fill for Closing<'_> {
                 if *inline {
                     schema_of(alloc, self.made, of)
                 } else {
-                    reference_to(alloc, self.structs, of, notes)
+                    reference_to(alloc, self.resolved, of, notes)
                 }
             }
         }
     }
 }
 
-/// As many schemas that say nothing as there are structs.
-fn none_made(alloc: Global, structs: &[Struct]) -> Result<Vec<Schema>, AllocError>
-    ensures { IfOk result (λ made. length made.items ≡ length structs.now) }
+/// As many schemas that say nothing as there are declarations.
+fn none_made(alloc: Global, resolved: &[Resolved]) -> Result<Vec<Schema>, AllocError>
+    ensures { IfOk result (λ made. length made.items ≡ length resolved.now) }
 {
     let mut made = Vec::new(alloc);
-    for _ in 0..structs.len() {
+    for _ in 0..resolved.len() {
         made.push(any_value(alloc)?)?;
     }
     Ok(made)
@@ -153,22 +153,22 @@ fn none_made(alloc: Global, structs: &[Struct]) -> Result<Vec<Schema>, AllocErro
 /// The schema of each declaration, where `order` has each behind those whose schemas stand in its own.
 pub(crate) fn closed(
     alloc: Global,
-    structs: &[Struct],
+    resolved: &[Resolved],
     terms: &[Term],
     order: &[usize],
 ) -> Result<Vec<Schema>, AllocError>
-    requires terms { map term_view terms.now ≡ map (λ s. term (struct_view s)) structs.now }
-    requires within { AreWithin (length (map struct_view structs.now)) (map struct_view structs.now) }
-    requires depth { IsAtMost most_inlined (inlining_of (map struct_view structs.now)) }
-    requires order { IsOrder (inlining_of (map struct_view structs.now)) order.now }
-    ensures many { IfOk result (λ made. length made.items ≡ length structs.now) }
-    ensures schemas { IfOk result (λ made. (d : ℕ) → d < length structs.now → schema_in (map schema_view made.items) d ≡ struct_schema (map struct_view structs.now) d) }
+    requires terms { map term_view terms.now ≡ map (λ s. term (resolved_view s)) resolved.now }
+    requires within { AreWithin (length (map resolved_view resolved.now)) (map resolved_view resolved.now) }
+    requires depth { IsAtMost most_inlined (inlining_of (map resolved_view resolved.now)) }
+    requires order { IsOrder (inlining_of (map resolved_view resolved.now)) order.now }
+    ensures many { IfOk result (λ made. length made.items ≡ length resolved.now) }
+    ensures schemas { IfOk result (λ made. (d : ℕ) → d < length resolved.now → schema_in (map schema_view made.items) d ≡ declared_schema (map resolved_view resolved.now) d) }
 {
     inlining::orders_stand();
-    let mut made = none_made(alloc, structs)?;
+    let mut made = none_made(alloc, resolved)?;
     for place in order {
         let closing = Closing {
-            structs,
+            resolved,
             made: made.as_slice(),
         };
         let schema = filled(alloc, &terms[*place], &closing)?;

@@ -5,22 +5,22 @@ ghost use Rattle.schema_core.specs.Schema.{object_view, tree_views, named_views,
 ghost use Rattle.component.specs.Leaves.{leaf_view, term_view};
 ghost use Rattle.component.specs.References.{leaf_references, schema_leaves, property_leaves, part_leaves};
 ghost use Rattle.derive_decl.specs.Terms.{term};
-ghost use Rattle.derive_decl.specs.Views.{struct_view};
+ghost use Rattle.derive_decl.specs.Views.{resolved_view};
 ghost use Rattle.closing.specs.Targets.{inlined_among, targets_in};
 
 use component::{Term, TermLeaf};
-use derive_decl::Struct;
+use derive_decl::Resolved;
 use diag::{List, Text};
 use open_types::OpenType;
 use schema_core::{Additional, Array, ArrayItems, Object, Tree};
 use std::alloc::{AllocError, Global};
 
-/// The terms of the structs, in their order.
-pub fn terms_of(alloc: Global, structs: &[Struct]) -> Result<List<Term>, AllocError>
-    ensures { IfOk result (λ terms. map term_view terms ≡ map (λ s. term (struct_view s)) structs.now) }
+/// The terms of the declarations, in their order.
+pub fn terms_of(alloc: Global, resolved: &[Resolved]) -> Result<List<Term>, AllocError>
+    ensures { IfOk result (λ terms. map term_view terms ≡ map (λ s. term (resolved_view s)) resolved.now) }
 {
     let mut terms = List::new(alloc);
-    for of in structs {
+    for of in resolved {
         terms.push(of.term(alloc)?)?;
     }
     Ok(terms)

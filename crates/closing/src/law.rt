@@ -2,7 +2,7 @@
 
 ghost use Rattle.closing.specs.Described.{ComponentsDescribe, ReferencesAccept, TargetsAreDeclared};
 
-/// A document of the components of structs describes them: every root and every reference has its component, and the
+/// A document of the components of declarations describes them: every root and every reference has its component, and the
 /// component of a plain declaration accepts a value exactly if the value has its shape.
 pub fn components_describe()
     ensures { ComponentsDescribe }
@@ -18,7 +18,7 @@ pub fn targets_are_declared()
     ensures { TargetsAreDeclared }
 {}
 
-/// In a document of the components of structs a reference accepts what the schema of its target accepts.
+/// In a document of the components of declarations a reference accepts what the schema of its target accepts.
 pub fn references_accept()
     ensures { ReferencesAccept }
 {

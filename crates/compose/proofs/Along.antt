@@ -9,9 +9,9 @@ use Rattle.syntax.specs.declared.item.Declaration.{Declaration}
 use Rattle.syntax.specs.Items.{declaration_view}
 use Rattle.resolving.specs.Resolved.{Somewhere}
 use Rattle.scopes.specs.Names.{declared_names}
-use Rattle.derive_decl.specs.declared.structs.Struct.{Struct}
-use Rattle.derive_decl.specs.Structs.{StructOf, struct_at, struct_names}
-use Rattle.derive_decl.specs.Views.{struct_view}
+use Rattle.derive_decl.specs.declared.resolved.Resolved.{Resolved}
+use Rattle.derive_decl.specs.Resolved.{DeclarationOf, declaration_at, declaration_names}
+use Rattle.derive_decl.specs.Views.{resolved_view}
 use Rattle.inlining.specs.declared.order.Depth.{Depth}
 use Rattle.inlining.specs.declared.order.Depth.TheVariants.{Beyond}
 use Rattle.inlining.specs.Depths.{IsDepth}
@@ -25,29 +25,29 @@ somewhere_at P f [] i x l p = absurd (omega arith)
 somewhere_at P f (y ∷ ys) zero x l p = inl p
 somewhere_at P f (y ∷ ys) (suc i) x l p = inr (somewhere_at P f ys i x (omega arith) p)
 
--- ---- structs and declarations
+-- ---- declarations and declarations
 
-struct_at-view : (structs : List Struct) (d : ℕ) (x : Struct) → d < length structs → struct_at (map struct_view structs) d ≡ struct_view (get_or structs d x)
-struct_at-view [] d x l = absurd (omega arith)
-struct_at-view (s ∷ structs) zero x l = refl
-struct_at-view (s ∷ structs) (suc d) x l = struct_at-view structs d x (omega arith)
+declaration_at-view : (resolved : List Resolved) (d : ℕ) (x : Resolved) → d < length resolved → declaration_at (map resolved_view resolved) d ≡ resolved_view (get_or resolved d x)
+declaration_at-view [] d x l = absurd (omega arith)
+declaration_at-view (s ∷ resolved) zero x l = refl
+declaration_at-view (s ∷ resolved) (suc d) x l = declaration_at-view resolved d x (omega arith)
 
--- as many structs as declarations, where their names are the same
-pub same_length : (structs : List Struct) (ds : List Declaration) → struct_names (map struct_view structs) ≡ declared_names (map declaration_view ds) → length structs ≡ length ds
+-- as many declarations as declarations, where their names are the same
+pub same_length : (resolved : List Resolved) (ds : List Declaration) → declaration_names (map resolved_view resolved) ≡ declared_names (map declaration_view ds) → length resolved ≡ length ds
 same_length [] [] e = refl
 same_length [] (d ∷ ds) e = cc
-same_length (s ∷ structs) [] e = cc
-same_length (s ∷ structs) (d ∷ ds) e =
-    let rest : struct_names (map struct_view structs) ≡ declared_names (map declaration_view ds) = cc in
-    ap suc (same_length structs ds rest)
+same_length (s ∷ resolved) [] e = cc
+same_length (s ∷ resolved) (d ∷ ds) e =
+    let rest : declaration_names (map resolved_view resolved) ≡ declared_names (map declaration_view ds) = cc in
+    ap suc (same_length resolved ds rest)
 
-same_name : (structs : List Struct) (ds : List Declaration) (i : ℕ) (x : Declaration) → struct_names (map struct_view structs) ≡ declared_names (map declaration_view ds) → i < length ds → (get_or ds i x).ident.text ≡ (struct_at (map struct_view structs) i).name
-same_name structs [] i x e l = absurd (omega arith)
+same_name : (resolved : List Resolved) (ds : List Declaration) (i : ℕ) (x : Declaration) → declaration_names (map resolved_view resolved) ≡ declared_names (map declaration_view ds) → i < length ds → (get_or ds i x).ident.text ≡ (declaration_at (map resolved_view resolved) i).name
+same_name resolved [] i x e l = absurd (omega arith)
 same_name [] (d ∷ ds) i x e l = cc
-same_name (s ∷ structs) (d ∷ ds) zero x e l = cc
-same_name (s ∷ structs) (d ∷ ds) (suc i) x e l =
-    let rest : struct_names (map struct_view structs) ≡ declared_names (map declaration_view ds) = cc in
-    same_name structs ds i x rest (omega arith)
+same_name (s ∷ resolved) (d ∷ ds) zero x e l = cc
+same_name (s ∷ resolved) (d ∷ ds) (suc i) x e l =
+    let rest : declaration_names (map resolved_view resolved) ≡ declared_names (map declaration_view ds) = cc in
+    same_name resolved ds i x rest (omega arith)
 
 -- ---- paths
 
@@ -59,30 +59,30 @@ along g (c ∷ []) (suc i) d p l = absurd (omega arith)
 along g (c ∷ e ∷ es) zero d p l = p.0
 along g (c ∷ e ∷ es) (suc i) d p l = along g (e ∷ es) i d p.2 (omega arith)
 
-length-inlining : (structs : List Struct) → length (inlining_of (map struct_view structs)) ≡ length structs
+length-inlining : (resolved : List Resolved) → length (inlining_of (map resolved_view resolved)) ≡ length resolved
 length-inlining [] = refl
-length-inlining (s ∷ structs) = ap suc (length-inlining structs)
+length-inlining (s ∷ resolved) = ap suc (length-inlining resolved)
 
-pub struct_along : (structs : List Struct) (path : List ℕ) (i d : ℕ) → IsPath (inlining_of (map struct_view structs)) path → i < length path → get_or path i d < length structs
-struct_along structs path i d p l =
-    let within = along (inlining_of (map struct_view structs)) path i d p l in
-    omega (arith, within, length-inlining structs)
+pub declaration_along : (resolved : List Resolved) (path : List ℕ) (i d : ℕ) → IsPath (inlining_of (map resolved_view resolved)) path → i < length path → get_or path i d < length resolved
+declaration_along resolved path i d p l =
+    let within = along (inlining_of (map resolved_view resolved)) path i d p l in
+    omega (arith, within, length-inlining resolved)
 
 -- a path that is too long, which begins at a declaration
-pub deep_path : (structs : List Struct) (ds : List Declaration) (g : List (List ℕ)) (depth : Depth) (found path : List ℕ) → struct_names (map struct_view structs) ≡ declared_names (map declaration_view ds) → g ≡ inlining_of (map struct_view structs) → IsDepth most_inlined g depth → depth ≡ Beyond found → path ≡ found →
-    IsPath (inlining_of (map struct_view structs)) path × (length path ≡ suc most_inlined) × (get_or path 0 0 < length ds)
-deep_path structs ds g depth found path names targets is beyond same =
+pub deep_path : (resolved : List Resolved) (ds : List Declaration) (g : List (List ℕ)) (depth : Depth) (found path : List ℕ) → declaration_names (map resolved_view resolved) ≡ declared_names (map declaration_view ds) → g ≡ inlining_of (map resolved_view resolved) → IsDepth most_inlined g depth → depth ≡ Beyond found → path ≡ found →
+    IsPath (inlining_of (map resolved_view resolved)) path × (length path ≡ suc most_inlined) × (get_or path 0 0 < length ds)
+deep_path resolved ds g depth found path names targets is beyond same =
     let here = subst (IsDepth most_inlined g) beyond is in
-    let is_path : IsPath (inlining_of (map struct_view structs)) path = rw (same, ← targets) here.0 in
+    let is_path : IsPath (inlining_of (map resolved_view resolved)) path = rw (same, ← targets) here.0 in
     let long : length path ≡ suc most_inlined = rw same here.1 in
-    let within = struct_along structs path 0 0 is_path (omega (arith, long)) in
-    (is_path, long, omega (arith, within, same_length structs ds names))
+    let within = declaration_along resolved path 0 0 is_path (omega (arith, long)) in
+    (is_path, long, omega (arith, within, same_length resolved ds names))
 
 -- the first name is that of the first declaration
-pub first_along : (structs : List Struct) (ds : List Declaration) (path : List ℕ) (d : ℕ) (x : Declaration) → struct_names (map struct_view structs) ≡ declared_names (map declaration_view ds) → 0 < length path → get_or path 0 d < length ds →
-    IsFirst (get_or ds (get_or path 0 d) x).ident.text (names_along (map struct_view structs) path)
-first_along structs ds [] d x e l w = absurd (omega arith)
-first_along structs ds (p ∷ path) d x e l w = same_name structs ds p x e w
+pub first_along : (resolved : List Resolved) (ds : List Declaration) (path : List ℕ) (d : ℕ) (x : Declaration) → declaration_names (map resolved_view resolved) ≡ declared_names (map declaration_view ds) → 0 < length path → get_or path 0 d < length ds →
+    IsFirst (get_or ds (get_or path 0 d) x).ident.text (names_along (map resolved_view resolved) path)
+first_along resolved ds [] d x e l w = absurd (omega arith)
+first_along resolved ds (p ∷ path) d x e l w = same_name resolved ds p x e w
 
 -- ---- instances
 
@@ -91,8 +91,8 @@ abbrev pub deep_with : Span → List (List ℕ) → List DiangosticsInner
 deep_with span names = record (diagnostic InlineDepth span deep_message) { instances = names } ∷ []
 
 -- one declaration more
-pub names_more : (structs : List Struct) (path : List ℕ) (i d : ℕ) (x : Struct) → i < length path → get_or path i d < length structs →
-    names_along (map struct_view structs) (take i path) ++ (get_or structs (get_or path i d) x).name ∷ [] ≡ names_along (map struct_view structs) (take (i + 1) path)
-names_more structs path i d x l w =
-    ap (λ (s : StructOf). names_along (map struct_view structs) (take i path) ++ s.name ∷ []) (sym (struct_at-view structs (get_or path i d) x w))
-    ∙ sym (map_more (λ p. (struct_at (map struct_view structs) p).name) path i d l)
+pub names_more : (resolved : List Resolved) (path : List ℕ) (i d : ℕ) (x : Resolved) → i < length path → get_or path i d < length resolved →
+    names_along (map resolved_view resolved) (take i path) ++ (get_or resolved (get_or path i d) x).name ∷ [] ≡ names_along (map resolved_view resolved) (take (i + 1) path)
+names_more resolved path i d x l w =
+    ap (λ (s : DeclarationOf). names_along (map resolved_view resolved) (take i path) ++ s.name ∷ []) (sym (declaration_at-view resolved (get_or path i d) x w))
+    ∙ sym (map_more (λ p. (declaration_at (map resolved_view resolved) p).name) path i d l)

@@ -3,10 +3,10 @@ use Rattle.std.proofs.Common.{inl, inr, List, arith}
 use Rattle.diag.specs.declared.error.DeriveError.{DeriveError}
 use Rattle.syntax.specs.Items.{DeclaredItem}
 use Rattle.configuration.specs.Configuration.{Configuration}
-use Rattle.derive_decl.specs.Structs.{StructOf}
+use Rattle.derive_decl.specs.Resolved.{DeclarationOf}
 use Rattle.compose.specs.Bounds.{AreBounded, IsUnbounded}
 
-pub not_refused : (c : Configuration) (ds : List DeclaredItem) (ss : List StructOf) (e : DeriveError) → AreBounded c ds ss → ¬ IsUnbounded c ds ss e
+pub not_refused : (c : Configuration) (ds : List DeclaredItem) (ss : List DeclarationOf) (e : DeriveError) → AreBounded c ds ss → ¬ IsUnbounded c ds ss e
 not_refused c ds ss e bounded (inl crowded) = omega (arith, bounded.few, crowded.0)
 not_refused c ds ss e bounded (inr (inl deep)) = omega (arith, bounded.shallow deep.1.0 deep.1.1, deep.1.2)
 not_refused c ds ss e bounded (inr (inr copied)) = omega (arith, bounded.copied, copied.2.0)

@@ -15,7 +15,7 @@ use Rattle.syntax.specs.Named.{HasName, IsNamedBody, AreNamed}
 use Rattle.resolving.specs.Resolved.{Fault, IsFault, IsRefusedFor, Somewhere}
 use Rattle.scopes.specs.Names.{Repeats, duplicate_message}
 use Rattle.derive_decl.specs.Fields.{FieldRules, field_rules, is_kept, kept, written_idents}
-use Rattle.derive_decl.specs.Structs.{Around, around_of}
+use Rattle.derive_decl.specs.Resolved.{Around, around_of}
 use Rattle.derive_decl.specs.Faults.{kept_fields, container_items, fieldless_message, IsFaultyName, IsFaultyType, IsFaultyMember, IsFaultyBody, IsFaultyItem}
 use Rattle.compose.specs.Faults.{kept_named, member_idents, IsFaulty, IsRowless, IsDisallowed}
 

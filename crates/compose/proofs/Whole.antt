@@ -1,4 +1,4 @@
--- What the resolved structs of all declarations say: their names, that each place is within them, and that no condition of a refusal holds.
+-- What the resolved declarations of all declarations say: their names, that each place is within them, and that no condition of a refusal holds.
 use Rattle.std.proofs.Common.{ℕ, suc, ◌<◌, List, [], ◌∷◌, ◌++◌, Option, Some, None, option_map, option_and_then, Bool, true, false, cond, ◌||◌, bytes_eq, length, ◌≡◌, refl, ap, sym, subst, ◌∙◌, inl, inr, IsTrue, arith}
 use Rattle.std.specs.List.{AllByRecursion, cons_option}
 use Rattle.std.proofs.lemmas.Bool.{false≢true}
@@ -19,9 +19,9 @@ use Rattle.open_types.specs.Open.{Open}
 use Rattle.resolving.specs.Resolved.{type_of, Fault, IsFault, Somewhere, ResolvedHaveNoFault, ResolvedAreWithin}
 use Rattle.scopes.specs.Names.{declared_names, declared_idents, place_in, texts, Repeats}
 use Rattle.derive_decl.specs.Fields.{FieldRules, field_rules, value_of, kept, name_by, written_name, named_at, written_ident, written_idents}
-use Rattle.derive_decl.specs.Structs.{MemberOf, FormOf, named_fields, unnamed_fields, no_fields, StructOf, Around, around_of, member_names, member_types, names_of, types_of, struct_names, all_of, member_from, member_as, member_of, form_of, body_form, struct_from, struct_of}
+use Rattle.derive_decl.specs.Resolved.{MemberOf, FormOf, named_fields, unnamed_fields, no_fields, DeclarationOf, Around, around_of, member_names, member_types, names_of, types_of, declaration_names, all_of, member_from, member_as, member_of, form_of, body_form, declaration_from, resolved_of}
 use Rattle.derive_decl.specs.Faults.{kept_in, kept_fields, IsSmall, IsUnwritten, IsFaultyName}
-use Rattle.derive_decl.specs.Whole.{structs_of, MembersDiffer, IsSmallItem, IsAllowedItem}
+use Rattle.derive_decl.specs.Whole.{resolved_declarations, MembersDiffer, IsSmallItem, IsAllowedItem}
 use Rattle.closing.specs.Described.{TypesWithin, AreWithin}
 use Rattle.compose.specs.Faults.{named_in, kept_named, member_idents, IsAttributed, IsRowless, IsDisallowed}
 use Rattle.compose.specs.Settled.{IsSettled}
@@ -43,7 +43,7 @@ below_names k (n ∷ ns) p e = by (bytes_eq k n) (place_in k ns) e (below_names 
     by false None h later = absurd (none-some p h)
     by false (Some r) h later = let l = later r refl in subst (λ q. q < suc (length ns)) (same_Some (suc r) p h) (omega (arith, l))
 
-many_names : (ss : List StructOf) → length (struct_names ss) ≡ length ss
+many_names : (ss : List DeclarationOf) → length (declaration_names ss) ≡ length ss
 many_names [] = refl
 many_names (s ∷ ss) = ap suc (many_names ss)
 
@@ -108,21 +108,21 @@ members-are around rules (f ∷ fs) ms e =
     sym (ap member_names j.4) ∙ ap (λ ns. j.0.name ∷ ns) (members-are around rules fs j.1 j.3)
     ∙ sym (ap (λ o. texts (cons_option o (written_idents around.rows rules.rule fs))) (member_ident around rules f j.0 m))
 
--- ---- structs
+-- ---- declarations
 
--- the struct of a declaration
-struct_parts : (around : Around) (d : DeclaredItem) (s : StructOf) → struct_of around d ≡ Some s → (s.name ≡ d.ident.text) × (body_form around (field_rules (serde_items d.attrs)) d.body ≡ Some s.form)
-struct_parts around d s e =
-    let m = mapped (struct_from d.attrs d.ident) (body_form around (field_rules (serde_items d.attrs)) d.body) s e in
-    (sym (ap (λ (r : StructOf). r.name) m.2), m.1 ∙ ap (λ (r : StructOf). Some r.form) m.2)
+-- the declaration of a declaration
+declaration_parts : (around : Around) (d : DeclaredItem) (s : DeclarationOf) → resolved_of around d ≡ Some s → (s.name ≡ d.ident.text) × (body_form around (field_rules (serde_items d.attrs)) d.body ≡ Some s.form)
+declaration_parts around d s e =
+    let m = mapped (declaration_from d.attrs d.ident) (body_form around (field_rules (serde_items d.attrs)) d.body) s e in
+    (sym (ap (λ (r : DeclarationOf). r.name) m.2), m.1 ∙ ap (λ (r : DeclarationOf). Some r.form) m.2)
 
 module _ (around : Around) where
-  -- the structs have the names of the declarations
-  pub struct_names-are : (ds : List DeclaredItem) (ss : List StructOf) → all_of (struct_of around) ds ≡ Some ss → struct_names ss ≡ declared_names ds
-  struct_names-are [] ss e = ap struct_names (sym (same_Some [] ss e))
-  struct_names-are (d ∷ ds) ss e =
-      let j = joined (struct_of around d) (all_of (struct_of around) ds) ss e in
-      sym (ap struct_names j.4) ∙ ap (λ n. n ∷ struct_names j.1) (struct_parts around d j.0 j.2).0 ∙ ap (λ ns. d.ident.text ∷ ns) (struct_names-are ds j.1 j.3)
+  -- the declarations have the names of the declarations
+  pub declaration_names-are : (ds : List DeclaredItem) (ss : List DeclarationOf) → all_of (resolved_of around) ds ≡ Some ss → declaration_names ss ≡ declared_names ds
+  declaration_names-are [] ss e = ap declaration_names (sym (same_Some [] ss e))
+  declaration_names-are (d ∷ ds) ss e =
+      let j = joined (resolved_of around d) (all_of (resolved_of around) ds) ss e in
+      sym (ap declaration_names j.4) ∙ ap (λ n. n ∷ declaration_names j.1) (declaration_parts around d j.0 j.2).0 ∙ ap (λ ns. d.ident.text ∷ ns) (declaration_names-are ds j.1 j.3)
 
   module _ (rules : FieldRules) where
     form_names : (fs : FieldItems) (form : FormOf) → form_of around rules fs ≡ Some form → names_of form ≡ texts (written_idents around.rows rules.rule (kept (named_in fs)))
@@ -170,11 +170,11 @@ module _ (around : Around) where
     body_within : (rules : FieldRules) (b : BodyItem) (form : FormOf) → body_form around rules b ≡ Some form → TypesWithin n (types_of form)
     body_within rules (struct_body fs) form e = form_within rules fs form e
 
-    pub are_within : (ds : List DeclaredItem) (ss : List StructOf) → all_of (struct_of around) ds ≡ Some ss → AreWithin n ss
+    pub are_within : (ds : List DeclaredItem) (ss : List DeclarationOf) → all_of (resolved_of around) ds ≡ Some ss → AreWithin n ss
     are_within [] ss e = subst (AreWithin n) (same_Some [] ss e) tt
     are_within (d ∷ ds) ss e =
-        let j = joined (struct_of around d) (all_of (struct_of around) ds) ss e in
-        subst (AreWithin n) j.4 (body_within (field_rules (serde_items d.attrs)) d.body j.0.form (struct_parts around d j.0 j.2).1, are_within ds j.1 j.3)
+        let j = joined (resolved_of around d) (all_of (resolved_of around) ds) ss e in
+        subst (AreWithin n) j.4 (body_within (field_rules (serde_items d.attrs)) d.body j.0.form (declaration_parts around d j.0 j.2).1, are_within ds j.1 j.3)
 
   -- ---- no fault
 
@@ -192,26 +192,26 @@ module _ (around : Around) where
     body_sound : (rules : FieldRules) (b : BodyItem) (form : FormOf) → body_form around rules b ≡ Some form → AllByRecursion IsSmall (kept_fields b) → Somewhere (λ f. IsFault around.place_of f.ty fault) (kept_fields b) → ⊥
     body_sound rules (struct_body fs) form e l h = form_sound rules fs form e l h
 
-    pub none_faulty : (ds : List DeclaredItem) (ss : List StructOf) → all_of (struct_of around) ds ≡ Some ss → AllByRecursion IsSmallItem ds → Somewhere (λ d. Somewhere (λ f. IsFault around.place_of f.ty fault) (kept_fields d.body)) ds → ⊥
+    pub none_faulty : (ds : List DeclaredItem) (ss : List DeclarationOf) → all_of (resolved_of around) ds ≡ Some ss → AllByRecursion IsSmallItem ds → Somewhere (λ d. Somewhere (λ f. IsFault around.place_of f.ty fault) (kept_fields d.body)) ds → ⊥
     none_faulty ds ss e l h =
-        none_among (struct_of around) (λ d. Somewhere (λ f. IsFault around.place_of f.ty fault) (kept_fields d.body)) IsSmallItem
-        (λ d s is small w. body_sound (field_rules (serde_items d.attrs)) d.body s.form (struct_parts around d s is).1 small w) ds ss e l h
+        none_among (resolved_of around) (λ d. Somewhere (λ f. IsFault around.place_of f.ty fault) (kept_fields d.body)) IsSmallItem
+        (λ d s is small w. body_sound (field_rules (serde_items d.attrs)) d.body s.form (declaration_parts around d s is).1 small w) ds ss e l h
 
   -- ---- each form has its fields, and each named field its row
 
   empty_form : (rules : FieldRules) (b : BodyItem) (form : FormOf) → body_form around rules b ≡ Some form → b ≡ struct_body (unnamed []) → ⊥
   empty_form rules b form e h = none-some form (sym (ap (body_form around rules) h) ∙ e)
 
-  pub none_fieldless : (x : Ident) (ds : List DeclaredItem) (ss : List StructOf) → all_of (struct_of around) ds ≡ Some ss → Somewhere (λ d. (x ≡ d.ident) × (d.body ≡ struct_body (unnamed []))) ds → ⊥
+  pub none_fieldless : (x : Ident) (ds : List DeclaredItem) (ss : List DeclarationOf) → all_of (resolved_of around) ds ≡ Some ss → Somewhere (λ d. (x ≡ d.ident) × (d.body ≡ struct_body (unnamed []))) ds → ⊥
   none_fieldless x ds ss e h =
-      none_anywhere (struct_of around) (λ d. (x ≡ d.ident) × (d.body ≡ struct_body (unnamed [])))
-      (λ d s is w. empty_form (field_rules (serde_items d.attrs)) d.body s.form (struct_parts around d s is).1 w.1) ds ss e h
+      none_anywhere (resolved_of around) (λ d. (x ≡ d.ident) × (d.body ≡ struct_body (unnamed [])))
+      (λ d s is w. empty_form (field_rules (serde_items d.attrs)) d.body s.form (declaration_parts around d s is).1 w.1) ds ss e h
 
-  pub none_rowless : (refusal : DeriveError) (ds : List DeclaredItem) (ss : List StructOf) → all_of (struct_of around) ds ≡ Some ss → IsRowless around.rows ds refusal → ⊥
+  pub none_rowless : (refusal : DeriveError) (ds : List DeclaredItem) (ss : List DeclarationOf) → all_of (resolved_of around) ds ≡ Some ss → IsRowless around.rows ds refusal → ⊥
   none_rowless refusal ds ss e h =
-      none_anywhere (struct_of around) (λ d. Somewhere (λ f. IsFaultyName around.rows (rename_rule (serde_items d.attrs)) f refusal) (kept_named d.body))
+      none_anywhere (resolved_of around) (λ d. Somewhere (λ f. IsFaultyName around.rows (rename_rule (serde_items d.attrs)) f refusal) (kept_named d.body))
       (λ d s is w. let rules = field_rules (serde_items d.attrs) in
-      body_none rules (λ f. IsFaultyName around.rows rules.rule f refusal) (named_member around rules refusal) d.body s.form (struct_parts around d s is).1 w) ds ss e h
+      body_none rules (λ f. IsFaultyName around.rows rules.rule f refusal) (named_member around rules refusal) d.body s.form (declaration_parts around d s is).1 w) ds ss e h
 
 -- serde's items that are allowed are not refused
 none_disallowed : (ds : List DeclaredItem) (e : DeriveError) → AllByRecursion IsAllowedItem ds → IsDisallowed ds e → ⊥
@@ -240,12 +240,12 @@ twice x (y ∷ before) behind d h = by (bytes_eq x.text y.text) refl h (twice x 
 none_repeats : (xs : List Ident) (x : Ident) → IsDistinct (texts xs) → Repeats xs x → ⊥
 none_repeats xs x d r = twice x r.0 r.1 (subst (λ ys. IsDistinct (texts ys)) r.2 d) r.3
 
-members_differ : (around : Around) (x : Ident) (ds : List DeclaredItem) (ss : List StructOf) → all_of (struct_of around) ds ≡ Some ss → MembersDiffer ss → Somewhere (λ d. Repeats (member_idents around.rows d) x) ds → ⊥
+members_differ : (around : Around) (x : Ident) (ds : List DeclaredItem) (ss : List DeclarationOf) → all_of (resolved_of around) ds ≡ Some ss → MembersDiffer ss → Somewhere (λ d. Repeats (member_idents around.rows d) x) ds → ⊥
 members_differ around x [] ss e differ h = h
 members_differ around x (d ∷ ds) ss e differ h =
-    let j = joined (struct_of around d) (all_of (struct_of around) ds) ss e in
+    let j = joined (resolved_of around d) (all_of (resolved_of around) ds) ss e in
     let apart : IsDistinct (names_of j.0.form) × MembersDiffer j.1 = subst MembersDiffer (sym j.4) differ in
-    let names : names_of j.0.form ≡ texts (member_idents around.rows d) = body_names around (field_rules (serde_items d.attrs)) d.body j.0.form (struct_parts around d j.0 j.2).1 in
+    let names : names_of j.0.form ≡ texts (member_idents around.rows d) = body_names around (field_rules (serde_items d.attrs)) d.body j.0.form (declaration_parts around d j.0 j.2).1 in
     elim h [
       | inl w ↦ none_repeats (member_idents around.rows d) x (subst IsDistinct names apart.0) w
       | inr w ↦ members_differ around x ds j.1 j.3 apart.1 w
@@ -253,17 +253,17 @@ members_differ around x (d ∷ ds) ss e differ h =
 
 -- ---- all of it
 
--- declarations that have structs, whose types are small, whose names differ and whose attributes are allowed
-pub settled : ResolvedHaveNoFault → ResolvedAreWithin → (rows : List RenameRow) (ds : List DeclaredItem) (ss : List StructOf) → structs_of rows ds ≡ Some ss → AllByRecursion IsSmallItem ds → AllByRecursion IsAllowedItem ds →
+-- declarations that have declarations, whose types are small, whose names differ and whose attributes are allowed
+pub settled : ResolvedHaveNoFault → ResolvedAreWithin → (rows : List RenameRow) (ds : List DeclaredItem) (ss : List DeclarationOf) → resolved_declarations rows ds ≡ Some ss → AllByRecursion IsSmallItem ds → AllByRecursion IsAllowedItem ds →
     IsDistinct (declared_names ds) → MembersDiffer ss → ((span : Span) → IsAttributed ds span → ⊥) → IsSettled rows ds ss
 settled sound within rows ds ss e small allowed distinct differ derivable = record {
-  resolved = e;
+  resolves = e;
   clear = record {
     distinct = λ x h. elim h [
       | inl r ↦ none_repeats (declared_idents ds) x (subst IsDistinct (sym (texts-declared ds)) distinct) r
       | inr r ↦ members_differ around x ds ss e differ r
     ];
-    resolved = λ fault h. none_faulty around sound fault ds ss e small h;
+    resolves = λ fault h. none_faulty around sound fault ds ss e small h;
     fielded = λ x h. none_fieldless around x ds ss e h;
     derivable = derivable;
     written = λ refusal h. none_rowless around refusal ds ss e h;
@@ -277,5 +277,5 @@ settled sound within rows ds ss e small allowed distinct differ derivable = reco
     around : Around
     around = around_of rows ds
 
-    names : struct_names ss ≡ declared_names ds
-    names = struct_names-are around ds ss e
+    names : declaration_names ss ≡ declared_names ds
+    names = declaration_names-are around ds ss e

@@ -12,12 +12,12 @@ use Rattle.diag.specs.declared.span.Span.{Span}
 use Rattle.syntax.specs.Items.{DeclaredItem}
 use Rattle.resolving.specs.Resolved.{Somewhere}
 use Rattle.configuration.specs.Configuration.{Configuration}
-use Rattle.derive_decl.specs.Structs.{StructOf, struct_at}
+use Rattle.derive_decl.specs.Resolved.{DeclarationOf, declaration_at}
 use Rattle.inlining.specs.Inlining.{IsPath, IsAtMost, all_copies}
 use Rattle.closing.specs.Targets.{inlining_of, most_inlined}
 
 -- Nothing is beyond its bound: the instances, of which each declaration is one, the declarations of an inline path, and the copies of schemas.
-pub record AreBounded (c : Configuration) (ds : List DeclaredItem) (ss : List StructOf) : Type 0 where
+pub record AreBounded (c : Configuration) (ds : List DeclaredItem) (ss : List DeclarationOf) : Type 0 where
   pub few : length ds ≤ c.limit
   pub shallow : IsAtMost most_inlined (inlining_of ss)
   pub copied : all_copies (inlining_of ss) most_inlined ≤ c.copies
@@ -43,8 +43,8 @@ abbrev pub IsCrowded : Configuration → List DeclaredItem → DeriveError → T
 IsCrowded c ds e = (c.limit < length ds) × Somewhere (λ d. IsRefusal TooManyInstances d.ident.span (crowded_message c.limit) e) ds
 
 -- the names of the declarations of a path
-abbrev pub names_along : List StructOf → List ℕ → List (List ℕ)
-names_along ss path = map (λ d. (struct_at ss d).name) path
+abbrev pub names_along : List DeclarationOf → List ℕ → List (List ℕ)
+names_along ss path = map (λ d. (declaration_at ss d).name) path
 
 -- the name is the first
 abbrev pub IsFirst : List ℕ → List (List ℕ) → Type 0
@@ -52,19 +52,19 @@ IsFirst name [] = ⊥
 IsFirst name (n ∷ ns) = name ≡ n
 
 -- an inline path has one declaration more than may be; the instances are its declarations, and the span is the name of the first
-abbrev pub IsDeep : List DeclaredItem → List StructOf → DeriveError → Type 0
+abbrev pub IsDeep : List DeclaredItem → List DeclarationOf → DeriveError → Type 0
 IsDeep ds ss e =
     (path : List ℕ) × IsPath (inlining_of ss) path × (length path ≡ suc most_inlined)
     × Somewhere (λ d. IsFirst d.ident.text (names_along ss path) × IsRefusalOf InlineDepth d.ident.span deep_message (names_along ss path) e) ds
 
 -- more copies of schemas stand in the components than may be
-abbrev pub IsCopied : Configuration → List StructOf → DeriveError → Type 0
+abbrev pub IsCopied : Configuration → List DeclarationOf → DeriveError → Type 0
 IsCopied c ss e = (c.copies < all_copies (inlining_of ss) most_inlined) × IsRefusal TooManyCopies no_span (copied_message c.copies) e
 
 -- The error refuses what is beyond a bound: the instances, or else an inline path, or else the copies.
-abbrev pub IsUnbounded : Configuration → List DeclaredItem → List StructOf → DeriveError → Type 0
+abbrev pub IsUnbounded : Configuration → List DeclaredItem → List DeclarationOf → DeriveError → Type 0
 IsUnbounded c ds ss e = IsCrowded c ds e ⊎ ((length ds ≤ c.limit) × IsDeep ds ss e) ⊎ ((length ds ≤ c.limit) × IsAtMost most_inlined (inlining_of ss) × IsCopied c ss e)
 
 -- The law: what is bounded is not refused.
 abbrev pub BoundedAreNotRefused : Type 0
-BoundedAreNotRefused = (c : Configuration) (ds : List DeclaredItem) (ss : List StructOf) (e : DeriveError) → AreBounded c ds ss → ¬ IsUnbounded c ds ss e
+BoundedAreNotRefused = (c : Configuration) (ds : List DeclaredItem) (ss : List DeclarationOf) (e : DeriveError) → AreBounded c ds ss → ¬ IsUnbounded c ds ss e

@@ -17,10 +17,10 @@ use Rattle.syntax.specs.Source.{Reads, IsUnreadable, IsTooDeep, NestsTooDeep}
 use Rattle.resolving.specs.Resolved.{Fault, IsFault, IsRefusedFor, Somewhere}
 use Rattle.scopes.specs.Names.{declared_idents, place_among, Repeats, duplicate_message}
 use Rattle.configuration.specs.Configuration.{Configuration}
-use Rattle.derive_decl.specs.Structs.{StructOf}
+use Rattle.derive_decl.specs.Resolved.{DeclarationOf}
 use Rattle.derive_decl.specs.Fields.{kept, written_idents}
 use Rattle.derive_decl.specs.Faults.{body_fields, kept_fields, container_items, fieldless_message, IsFaultyName}
-use Rattle.derive_decl.specs.Whole.{structs_of}
+use Rattle.derive_decl.specs.Whole.{resolved_declarations}
 use Rattle.closing.specs.Described.{IsApart, AreComponents}
 use Rattle.compose.specs.Bounds.{AreBounded, IsUnbounded}
 
@@ -82,7 +82,7 @@ IsDisallowed ds e = Somewhere (λ d. IsContainerRefusal (container_items d.attrs
 -- no such condition holds of the declarations, where names become what the rows say
 pub record AreClear (rows : List RenameRow) (ds : List DeclaredItem) : Type 0 where
   pub distinct : (x : Ident) → ¬ IsDuplicate rows ds x
-  pub resolved : (fault : Fault) → ¬ IsFaultOf ds fault
+  pub resolves : (fault : Fault) → ¬ IsFaultOf ds fault
   pub fielded : (x : Ident) → ¬ IsFieldless ds x
   pub derivable : (span : Span) → ¬ IsAttributed ds span
   pub written : (e : DeriveError) → ¬ IsRowless rows ds e
@@ -109,7 +109,7 @@ AreAtFault rows ds e = IsUnderivable ds e ⊎ (((span : Span) → ¬ IsAttribute
 
 -- the error refuses declarations of which no condition holds: their instances are beyond a bound
 abbrev pub IsBeyond : Configuration → List DeclaredItem → DeriveError → Type 0
-IsBeyond c ds e = AreClear c.renames ds × ((ss : List StructOf) × (structs_of c.renames ds ≡ Some ss) × IsUnbounded c ds ss e)
+IsBeyond c ds e = AreClear c.renames ds × ((ss : List DeclarationOf) × (resolved_declarations c.renames ds ≡ Some ss) × IsUnbounded c ds ss e)
 
 -- the error refuses a source that is read and nests no deeper than it may, whose declarations are at fault or beyond a bound
 abbrev pub IsFaultySource : Configuration → List ℕ → DeriveError → Type 0
@@ -119,14 +119,14 @@ IsFaultySource c source e = (ds : List DeclaredItem) × Reads source ds × ((spa
 abbrev pub IsRefused : Configuration → List ℕ → DeriveError → Type 0
 IsRefused c source e = IsTooDeep source e ⊎ IsUnreadable source e ⊎ IsFaultySource c source e
 
--- The components are those of the structs that the source declares, and no condition of a refusal holds.
+-- The components are those of the declarations that the source declares, and no condition of a refusal holds.
 pub record IsDerived (c : Configuration) (source : List ℕ) (components : List Entry) : Type 0 where
   pub declarations : List DeclaredItem
   pub read : Reads source declarations
   pub shallow : (span : Span) → ¬ NestsTooDeep source span
   pub clear : AreClear c.renames declarations
-  pub structs : List StructOf
-  pub resolved : structs_of c.renames declarations ≡ Some structs
-  pub bounded : AreBounded c declarations structs
-  pub apart : IsApart structs
-  pub components_are : AreComponents structs components
+  pub resolved : List DeclarationOf
+  pub resolves : resolved_declarations c.renames declarations ≡ Some resolved
+  pub bounded : AreBounded c declarations resolved
+  pub apart : IsApart resolved
+  pub components_are : AreComponents resolved components

@@ -3,15 +3,15 @@ use Rattle.std.specs.Prelude.{◌≡◌, List, length, Some}
 use Rattle.diag.specs.declared.rename_row.RenameRow.{RenameRow}
 use Rattle.syntax.specs.Items.{DeclaredItem}
 use Rattle.scopes.specs.Names.{declared_names}
-use Rattle.derive_decl.specs.Structs.{StructOf, struct_names}
-use Rattle.derive_decl.specs.Whole.{structs_of}
+use Rattle.derive_decl.specs.Resolved.{DeclarationOf, declaration_names}
+use Rattle.derive_decl.specs.Whole.{resolved_declarations}
 use Rattle.closing.specs.Described.{IsApart, AreWithin}
 use Rattle.compose.specs.Faults.{AreClear}
 
--- declarations that have structs, where no condition of a refusal holds
-pub record IsSettled (rows : List RenameRow) (ds : List DeclaredItem) (ss : List StructOf) : Type 0 where
-  pub resolved : structs_of rows ds ≡ Some ss
+-- declarations that have declarations, where no condition of a refusal holds
+pub record IsSettled (rows : List RenameRow) (ds : List DeclaredItem) (ss : List DeclarationOf) : Type 0 where
+  pub resolves : resolved_declarations rows ds ≡ Some ss
   pub clear : AreClear rows ds
-  pub names : struct_names ss ≡ declared_names ds
+  pub names : declaration_names ss ≡ declared_names ds
   pub apart : IsApart ss
   pub within : AreWithin (length ss) ss

@@ -5,14 +5,14 @@ ghost use Rattle.diag.specs.Refusal.{IsRefusal};
 ghost use Rattle.diag.specs.Span.{no_span};
 ghost use Rattle.syntax.specs.Items.{declaration_view};
 ghost use Rattle.scopes.specs.Names.{declared_names};
-ghost use Rattle.derive_decl.specs.Structs.{struct_names};
-ghost use Rattle.derive_decl.specs.Views.{struct_view};
+ghost use Rattle.derive_decl.specs.Resolved.{declaration_names};
+ghost use Rattle.derive_decl.specs.Views.{resolved_view};
 ghost use Rattle.inlining.specs.Inlining.{AreTargets, IsAtMost, IsOrder, IsPath, all_copies};
 ghost use Rattle.closing.specs.Targets.{inlining_of, most_inlined};
 ghost use Rattle.compose.specs.Bounds.{AreBounded, IsCrowded, IsDeep, IsUnbounded, IsRefusalOf, crowded_message, deep_message, copied_message, names_along};
 
 use configuration::Config;
-use derive_decl::Struct;
+use derive_decl::Resolved;
 use diag::{DeriveError, Diagnostics, Kind, List, Span};
 use inlining::{Depth, are_more_copies, inline_order};
 use std::alloc::{AllocError, Global};
@@ -55,16 +55,16 @@ fn few_instances(
 fn deep(
     alloc: Global,
     span: Span,
-    structs: &[Struct],
+    resolved: &[Resolved],
     path: &[usize],
 ) -> Result<DeriveError, AllocError>
-    requires { IsPath (inlining_of (map struct_view structs.now)) path.now }
-    ensures { IfOk result (λ e. IsRefusalOf Kind.InlineDepth span deep_message (names_along (map struct_view structs.now) path.now) e) }
+    requires { IsPath (inlining_of (map resolved_view resolved.now)) path.now }
+    ensures { IfOk result (λ e. IsRefusalOf Kind.InlineDepth span deep_message (names_along (map resolved_view resolved.now) path.now) e) }
 {
     let message = "types are inlined deeper than 32";
     let mut diagnostics = Diagnostics::with_span(alloc, Kind::InlineDepth, span, message)?;
     for place in path {
-        diagnostics = diagnostics.instance(structs[*place].name.as_str())?;
+        diagnostics = diagnostics.instance(resolved[*place].name.as_str())?;
     }
     Ok(DeriveError::Refused(diagnostics))
 }
@@ -73,22 +73,22 @@ fn deep(
 fn shallow_order(
     alloc: Global,
     declarations: &[Declaration],
-    structs: &[Struct],
+    resolved: &[Resolved],
     targets: &[List<usize>],
 ) -> Result<List<usize>, DeriveError>
-    requires names { struct_names (map struct_view structs.now) ≡ declared_names (map declaration_view declarations.now) }
-    requires targets { targets.now ≡ inlining_of (map struct_view structs.now) }
+    requires names { declaration_names (map resolved_view resolved.now) ≡ declared_names (map declaration_view declarations.now) }
+    requires targets { targets.now ≡ inlining_of (map resolved_view resolved.now) }
     requires declared { AreTargets targets.now }
     ensures shallow { IfOk result (λ _. IsAtMost most_inlined targets.now) }
     ensures order { IfOk result (λ order. IsOrder targets.now order) }
-    ensures refused { IfErr result (λ e. (e ≡ DeriveError.Memory) ⊎ IsDeep (map declaration_view declarations.now) (map struct_view structs.now) e) }
+    ensures refused { IfErr result (λ e. (e ≡ DeriveError.Memory) ⊎ IsDeep (map declaration_view declarations.now) (map resolved_view resolved.now) e) }
 {
     match inline_order(alloc, targets, MOST_INLINED)? {
         Depth::Within(order) => Ok(order),
         Depth::Beyond(path) => {
             let path = path.as_slice();
             let span = declarations[path[0]].ident.span;
-            Err(deep(alloc, span, structs, path)?)
+            Err(deep(alloc, span, resolved, path)?)
         }
     }
 }
@@ -132,19 +132,19 @@ fn few_copies(
 pub fn inline_order_of(
     alloc: Global,
     declarations: &[Declaration],
-    structs: &[Struct],
+    resolved: &[Resolved],
     targets: &[List<usize>],
     config: &Config,
 ) -> Result<List<usize>, DeriveError>
-    requires names { struct_names (map struct_view structs.now) ≡ declared_names (map declaration_view declarations.now) }
-    requires targets { targets.now ≡ inlining_of (map struct_view structs.now) }
+    requires names { declaration_names (map resolved_view resolved.now) ≡ declared_names (map declaration_view declarations.now) }
+    requires targets { targets.now ≡ inlining_of (map resolved_view resolved.now) }
     requires declared { AreTargets targets.now }
-    ensures bounded { IfOk result (λ _. AreBounded config.now (map declaration_view declarations.now) (map struct_view structs.now)) }
-    ensures order { IfOk result (λ order. IsOrder (inlining_of (map struct_view structs.now)) order) }
-    ensures refused { IfErr result (λ e. (e ≡ DeriveError.Memory) ⊎ IsUnbounded config.now (map declaration_view declarations.now) (map struct_view structs.now) e) }
+    ensures bounded { IfOk result (λ _. AreBounded config.now (map declaration_view declarations.now) (map resolved_view resolved.now)) }
+    ensures order { IfOk result (λ order. IsOrder (inlining_of (map resolved_view resolved.now)) order) }
+    ensures refused { IfErr result (λ e. (e ≡ DeriveError.Memory) ⊎ IsUnbounded config.now (map declaration_view declarations.now) (map resolved_view resolved.now) e) }
 {
     few_instances(alloc, declarations, config)?;
-    let order = shallow_order(alloc, declarations, structs, targets)?;
+    let order = shallow_order(alloc, declarations, resolved, targets)?;
     few_copies(alloc, targets, order.as_slice(), config)?;
     Ok(order)
 }

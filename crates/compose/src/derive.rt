@@ -8,7 +8,7 @@ ghost use Rattle.open_types.specs.Open.{open_view};
 ghost use Rattle.scopes.specs.Names.{place_among};
 ghost use Rattle.syntax.specs.Items.{declaration_view, declarations_view};
 ghost use Rattle.syntax.specs.Named.{AreNamed};
-ghost use Rattle.derive_decl.specs.Views.{struct_view};
+ghost use Rattle.derive_decl.specs.Views.{resolved_view};
 ghost use Rattle.closing.specs.Described.{AreComponents, Describes};
 ghost use Rattle.compose.specs.Bounds.{AreBounded, IsUnbounded};
 ghost use Rattle.compose.specs.Faults.{AreAtFault, IsDerived, IsRefused};
@@ -20,7 +20,7 @@ use crate::bounds::inline_order_of;
 use crate::types::types_of;
 use closing::{components_of, inlining_of, terms_of};
 use configuration::Config;
-use derive_decl::{Struct, structs_of};
+use derive_decl::{Resolved, resolved_declarations};
 use diag::{DeriveError, List};
 use open_types::ClosedType;
 use schema_core::Components;
@@ -38,49 +38,49 @@ pub struct Derived {
     pub types: List<ClosedType>,
 }
 
-/// The structs of declarations, and the places of their names.
+/// What declarations are resolved to, and the places of their names.
 #[derive(Drop)]
 struct Settled {
-    structs: List<Struct>,
+    resolved: List<Resolved>,
     places: BTreeMap<String, usize>,
 }
 
-/// The structs of the declarations, and the places of their names.
+/// What the declarations are resolved to, and the places of their names.
 fn settle(
     alloc: Global,
     declarations: &Declarations,
     config: &Config,
 ) -> Result<Settled, DeriveError>
     requires { AreNamed (declarations_view declarations.now) }
-    ensures settled { IfOk result (λ s. IsSettled config.now.renames (declarations_view declarations.now) (map struct_view s.structs)) }
+    ensures settled { IfOk result (λ s. IsSettled config.now.renames (declarations_view declarations.now) (map resolved_view s.resolved)) }
     ensures places { IfOk result (λ s. (name : Items ℕ) → get_by_text s.places name ≡ place_among (declarations_view declarations.now) name) }
     ensures refused { IfErr result (λ e. (e ≡ DeriveError.Memory) ⊎ AreAtFault config.now.renames (declarations_view declarations.now) e) }
 {
     only_derivable(alloc, declarations)?;
     let places = declared_places(alloc, declarations)?;
-    let structs = structs_of(alloc, declarations, &places, config)?;
+    let resolved = resolved_declarations(alloc, declarations, &places, config)?;
     resolving::resolved_have_no_fault();
     resolving::resolved_are_within();
-    Ok(Settled { structs, places })
+    Ok(Settled { resolved, places })
 }
 
-/// The components of the structs, where nothing is beyond its bound.
+/// The components of the declarations, where nothing is beyond its bound.
 fn bounded_components(
     alloc: Global,
     declarations: &[Declaration],
-    structs: &[Struct],
+    resolved: &[Resolved],
     config: &Config,
 ) -> Result<Components, DeriveError>
-    requires { IsSettled config.now.renames (map declaration_view declarations.now) (map struct_view structs.now) }
-    ensures bounded { IfOk result (λ _. AreBounded config.now (map declaration_view declarations.now) (map struct_view structs.now)) }
-    ensures components { IfOk result (λ components. AreComponents (map struct_view structs.now) components) }
-    ensures refused { IfErr result (λ e. (e ≡ DeriveError.Memory) ⊎ IsUnbounded config.now (map declaration_view declarations.now) (map struct_view structs.now) e) }
+    requires { IsSettled config.now.renames (map declaration_view declarations.now) (map resolved_view resolved.now) }
+    ensures bounded { IfOk result (λ _. AreBounded config.now (map declaration_view declarations.now) (map resolved_view resolved.now)) }
+    ensures components { IfOk result (λ components. AreComponents (map resolved_view resolved.now) components) }
+    ensures refused { IfErr result (λ e. (e ≡ DeriveError.Memory) ⊎ IsUnbounded config.now (map declaration_view declarations.now) (map resolved_view resolved.now) e) }
 {
     closing::targets_are_declared();
-    let terms = terms_of(alloc, structs)?;
+    let terms = terms_of(alloc, resolved)?;
     let targets = inlining_of(alloc, terms.as_slice())?;
-    let order = inline_order_of(alloc, declarations, structs, targets.as_slice(), config)?;
-    Ok(components_of(alloc, structs, terms.as_slice(), order.as_slice())?)
+    let order = inline_order_of(alloc, declarations, resolved, targets.as_slice(), config)?;
+    Ok(components_of(alloc, resolved, terms.as_slice(), order.as_slice())?)
 }
 
 /// The components of the source's declarations.
@@ -99,15 +99,15 @@ pub fn derive_components(
 ) -> Result<Derived, DeriveError>
     ensures derived { IfOk result (λ derived. IsDerived config.now source.now derived.components) }
     ensures refused { IfErr result (λ e. (e ≡ DeriveError.Memory) ⊎ IsRefused config.now source.now e) }
-    // The document of the components describes the structs of the source.
-    ensures describes { IfOk result (λ derived. (made : IsDerived config.now source.now derived.components) × Describes made.structs (document derived.components)) }
-    ensures types { IfOk result (λ derived. (made : IsDerived config.now source.now derived.components) × AreTypesOf made.structs (names_of derived.components) (map open_view derived.types)) }
+    // The document of the components describes the declarations of the source.
+    ensures describes { IfOk result (λ derived. (made : IsDerived config.now source.now derived.components) × Describes made.resolved (document derived.components)) }
+    ensures types { IfOk result (λ derived. (made : IsDerived config.now source.now derived.components) × AreTypesOf made.resolved (names_of derived.components) (map open_view derived.types)) }
 {
     let declarations = parse_declarations(alloc, source)?;
     syntax::read_fields_are_named();
     let settled = settle(alloc, &declarations, config)?;
-    let (items, structs) = (declarations.items.as_slice(), settled.structs.as_slice());
-    let components = bounded_components(alloc, items, structs, config)?;
+    let (items, resolved) = (declarations.items.as_slice(), settled.resolved.as_slice());
+    let components = bounded_components(alloc, items, resolved, config)?;
     let types = types_of(alloc, &settled.places, components.names())?;
     closing::components_describe();
     Ok(Derived { components, types })

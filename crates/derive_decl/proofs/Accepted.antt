@@ -20,7 +20,7 @@ use Rattle.open_types.specs.Same.{same_type}
 use Rattle.open_types.specs.Laws.{SameIsEqual}
 use Rattle.component.specs.Leaves as named_leaf
 use Rattle.component.specs.Places.{word_of, minimum_of, type_word, noted, described, only_word, null_alone, one_of_null, or_null, beside, in_place, declared, place, inline_places}
-use Rattle.derive_decl.specs.Structs.{MemberOf, FormOf, named_fields, unnamed_fields, no_fields, member_types, member_names}
+use Rattle.derive_decl.specs.Resolved.{MemberOf, FormOf, named_fields, unnamed_fields, no_fields, member_types, member_names}
 use Rattle.derive_decl.specs.Shape.{is_null, is_text, is_boolean, is_number, is_list, is_map, reads, type_shape, items_fit, member_fits, no_others, elements_fit, unnamed_shape, form_shape}
 use Rattle.derive_decl.specs.Plain.{IsTextKey, IsPlainType, ArePlainTypes, AreAllPlain, AreAlike, IsPlainForm}
 use Rattle.derive_decl.specs.Terms.{properties_of, required_names, object_of, list_of_length, are_all, any_object, unnamed_term, form_term}

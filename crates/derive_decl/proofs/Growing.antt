@@ -13,7 +13,7 @@ use Rattle.schema_core.specs.Meaning.{IsDistinct}
 use Rattle.scopes.specs.Names.{texts}
 use Rattle.derive_decl.specs.declared.member.Member.{Member}
 use Rattle.derive_decl.specs.Fields.{FieldRules, is_kept, kept, written_ident, written_idents}
-use Rattle.derive_decl.specs.Structs.{Around, StructOf, all_of, member_of, member_names, names_of}
+use Rattle.derive_decl.specs.Resolved.{Around, DeclarationOf, all_of, member_of, member_names, names_of}
 use Rattle.derive_decl.specs.Views.{member_view}
 use Rattle.derive_decl.specs.Whole.{MembersDiffer}
 
@@ -123,8 +123,8 @@ somewhere_kept P fields i field l is p = by fields i l (subst (λ (x : Field). S
 
 -- ---- names
 
--- no two members of the structs so far have one name, nor of one more
-pub differ-push : (ss : List StructOf) (s : StructOf) → MembersDiffer ss → IsDistinct (names_of s.form) → MembersDiffer (ss ++ s ∷ [])
+-- no two members of the declarations so far have one name, nor of one more
+pub differ-push : (ss : List DeclarationOf) (s : DeclarationOf) → MembersDiffer ss → IsDistinct (names_of s.form) → MembersDiffer (ss ++ s ∷ [])
 differ-push [] s d h = (h, tt)
 differ-push (t ∷ ss) s d h = (d.0, differ-push ss s d.1 h)
 

@@ -7,7 +7,7 @@ use Rattle.schema_core.specs.Schema as tree
 use Rattle.component.specs.Leaves.{LeafOf}
 use Rattle.component.specs.Places.{place}
 use Rattle.derive_decl.specs.declared.member.Member.{Member}
-use Rattle.derive_decl.specs.Structs.{MemberOf, member_types}
+use Rattle.derive_decl.specs.Resolved.{MemberOf, member_types}
 use Rattle.derive_decl.specs.Terms.{properties_of, required_names}
 use Rattle.derive_decl.specs.Views.{member_view}
 

@@ -18,7 +18,7 @@ use Rattle.resolving.specs.Names.{size}
 use Rattle.resolving.specs.Resolved.{Fault, IsFault, IsRefusedFor, Somewhere, most_names}
 use Rattle.scopes.specs.Names.{Repeats, duplicate_message}
 use Rattle.derive_decl.specs.Fields.{FieldRules, field_rules, value_of, kept, name_by, written_idents}
-use Rattle.derive_decl.specs.Structs.{Around}
+use Rattle.derive_decl.specs.Resolved.{Around}
 
 abbrev pub fields_in : FieldItems → List FieldItem
 fields_in (named fs) = fs

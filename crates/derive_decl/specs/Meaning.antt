@@ -3,7 +3,7 @@ use Rattle.std.specs.Prelude.{◌≡◌, ℕ, Bool}
 use Rattle.acceptance.specs.Json.{Json}
 use Rattle.schema_core.specs.Meaning.{tree_accepts}
 use Rattle.component.specs.Leaves.{LeafOf, param, named}
-use Rattle.derive_decl.specs.Structs.{StructOf}
+use Rattle.derive_decl.specs.Resolved.{DeclarationOf}
 use Rattle.derive_decl.specs.Terms.{term}
 use Rattle.derive_decl.specs.Shape.{type_shape, form_shape}
 use Rattle.derive_decl.specs.Plain.{IsPlainForm}
@@ -16,4 +16,4 @@ leaf_shape instance (named t inline notes) v = type_shape instance t v
 
 -- The law: the term of a plain declaration accepts what has its shape, where each leaf accepts what has the shape of its declaration.
 abbrev pub TermsAccept : Type 0
-TermsAccept = (instance : ℕ → Json → Bool) (s : StructOf) → IsPlainForm s.form → (v : Json) → tree_accepts (leaf_shape instance) (term s) v ≡ form_shape instance s.form v
+TermsAccept = (instance : ℕ → Json → Bool) (s : DeclarationOf) → IsPlainForm s.form → (v : Json) → tree_accepts (leaf_shape instance) (term s) v ≡ form_shape instance s.form v

@@ -3,7 +3,7 @@ use Rattle.std.specs.Prelude.{◌≡◌, ◌≢◌, ◌⊎◌, ℕ, List, [], �
 use Rattle.leaves.specs.Leaves.{kind_of}
 use Rattle.leaves.specs.declared.leaf.LeafKind.TheVariants as kinds
 use Rattle.open_types.specs.Open.{Open, Opens, leaf, any_value, free_object, unit, tuple, items, set, map_of, option, through, param, named, no_types, more_types}
-use Rattle.derive_decl.specs.Structs.{FormOf, named_fields, unnamed_fields, no_fields, StructOf, struct_at, types_of}
+use Rattle.derive_decl.specs.Resolved.{FormOf, named_fields, unnamed_fields, no_fields, DeclarationOf, declaration_at, types_of}
 use Rattle.derive_decl.specs.Terms.{are_all}
 
 -- the declaration stands in the type
@@ -72,10 +72,10 @@ IsPlainForm (unnamed_fields ts) = AreAllPlain ts × AreAlike ts
 IsPlainForm no_fields = ⊥
 
 -- places lead from one declaration to another, or to itself
-pub data Reaches (ss : List StructOf) : ℕ → ℕ → Type 0 where
+pub data Reaches (ss : List DeclarationOf) : ℕ → ℕ → Type 0 where
   itself : (d : ℕ) → Reaches ss d d
-  through_place : (d e f : ℕ) → StandsInOne e (types_of (struct_at ss d).form) → Reaches ss e f → Reaches ss d f
+  through_place : (d e f : ℕ) → StandsInOne e (types_of (declaration_at ss d).form) → Reaches ss e f → Reaches ss d f
 
 -- the declaration and each that its places reach have plain forms
-abbrev pub IsPlain : List StructOf → ℕ → Type 0
-IsPlain ss d = (e : ℕ) → Reaches ss d e → IsPlainForm (struct_at ss e).form
+abbrev pub IsPlain : List DeclarationOf → ℕ → Type 0
+IsPlain ss d = (e : ℕ) → Reaches ss d e → IsPlainForm (declaration_at ss e).form

@@ -6,7 +6,7 @@ use Rattle.leaves.specs.Leaves.{kind_of}
 use Rattle.leaves.specs.declared.leaf.LeafKind.{LeafKind}
 use Rattle.leaves.specs.declared.leaf.LeafKind.TheVariants as kinds
 use Rattle.open_types.specs.Open.{Open, Opens, leaf, any_value, free_object, unit, tuple, items, set, map_of, option, through, param, named, no_types, more_types}
-use Rattle.derive_decl.specs.Structs.{MemberOf, FormOf, named_fields, unnamed_fields, no_fields, StructOf, member_names, struct_at}
+use Rattle.derive_decl.specs.Resolved.{MemberOf, FormOf, named_fields, unnamed_fields, no_fields, DeclarationOf, member_names, declaration_at}
 
 abbrev pub is_null : Json → Bool
 is_null null = true
@@ -91,14 +91,14 @@ form_shape instance (unnamed_fields ts) v = unnamed_shape instance ts v
 form_shape instance no_fields v = is_null v
 
 -- The value has the shape of the declaration at the place, seen to a depth: at 0 nothing has.
-abbrev pub shape : List StructOf → ℕ → ℕ → Json → Bool
+abbrev pub shape : List DeclarationOf → ℕ → ℕ → Json → Bool
 shape ss zero d v = false
-shape ss (suc depth) d v = form_shape (shape ss depth) (struct_at ss d).form v
+shape ss (suc depth) d v = form_shape (shape ss depth) (declaration_at ss d).form v
 
 -- The value has the shape of the declaration at the place.
-abbrev pub HasShape : List StructOf → ℕ → Json → Type 0
+abbrev pub HasShape : List DeclarationOf → ℕ → Json → Type 0
 HasShape ss d v = (depth : ℕ) × IsTrue (shape ss depth d v)
 
 -- The law: what has the shape at a depth has it at each greater depth.
 abbrev pub ShapesDeepen : Type 0
-ShapesDeepen = (ss : List StructOf) (d : ℕ) (v : Json) (depth deep : ℕ) → depth ≤ deep → IsTrue (shape ss depth d v) → IsTrue (shape ss deep d v)
+ShapesDeepen = (ss : List DeclarationOf) (d : ℕ) (v : Json) (depth deep : ℕ) → depth ≤ deep → IsTrue (shape ss depth d v) → IsTrue (shape ss deep d v)

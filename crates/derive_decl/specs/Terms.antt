@@ -8,7 +8,7 @@ use Rattle.open_types.specs.Open.{Open}
 use Rattle.open_types.specs.Same.{same_type}
 use Rattle.component.specs.Leaves.{LeafOf}
 use Rattle.component.specs.Places.{place, noted, described, null_default, only_word}
-use Rattle.derive_decl.specs.Structs.{MemberOf, FormOf, named_fields, unnamed_fields, no_fields, StructOf}
+use Rattle.derive_decl.specs.Resolved.{MemberOf, FormOf, named_fields, unnamed_fields, no_fields, DeclarationOf}
 
 abbrev pub properties_of : List MemberOf → PropertiesOf LeafOf
 properties_of [] = no_properties
@@ -54,5 +54,5 @@ form_term deprecated description (unnamed_fields ts) = unnamed_term deprecated d
 form_term deprecated description no_fields = only_word Any (null_default description)
 
 -- The schema of a declaration: an object with a property for each member, a list or its content, or null as the default.
-abbrev pub term : StructOf → SchemaOf LeafOf
+abbrev pub term : DeclarationOf → SchemaOf LeafOf
 term s = form_term s.deprecated s.description s.form

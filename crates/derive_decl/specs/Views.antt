@@ -3,13 +3,13 @@ use Rattle.std.specs.Prelude.{ℕ, List, Bool, Option, map}
 use Rattle.open_types.specs.Open.{open_view}
 use Rattle.scopes.specs.Scopes.{declared_in}
 use Rattle.scopes.specs.declared.container.Container.{Container}
-use Rattle.derive_decl.specs.Structs.{MemberOf, FormOf, named_fields, unnamed_fields, no_fields, StructOf, Around, around_of}
+use Rattle.derive_decl.specs.Resolved.{MemberOf, FormOf, named_fields, unnamed_fields, no_fields, DeclarationOf, Around, around_of}
 use Rattle.derive_decl.specs.declared.member.Member.{Member}
 use Rattle.derive_decl.specs.declared.named_struct.NamedStructSchema.{NamedStructSchema}
 use Rattle.derive_decl.specs.declared.unnamed_struct.UnnamedStructSchema.{UnnamedStructSchema}
 use Rattle.derive_decl.specs.declared.schema_variant.SchemaVariant.{SchemaVariant}
 use Rattle.derive_decl.specs.declared.schema_variant.SchemaVariant.TheVariants as variants
-use Rattle.derive_decl.specs.declared.structs.Struct.{Struct}
+use Rattle.derive_decl.specs.declared.resolved.Resolved.{Resolved}
 
 -- the names that are declared around, and the rows of the configuration
 abbrev pub known : Container → Around
@@ -39,5 +39,5 @@ variant_deprecated (variants.Named s) = s.deprecated
 variant_deprecated (variants.Unnamed s) = s.deprecated
 variant_deprecated (variants.Unit s) = s.deprecated
 
-abbrev pub struct_view : Struct → StructOf
-struct_view s = record { name = s.name; deprecated = variant_deprecated s.form; description = variant_description s.form; form = variant_view s.form }
+abbrev pub resolved_view : Resolved → DeclarationOf
+resolved_view s = record { name = s.name; deprecated = variant_deprecated s.form; description = variant_description s.form; form = variant_view s.form }

@@ -7,22 +7,22 @@ use Rattle.attributes.specs.Attributes.{AttributeItem}
 use Rattle.attributes.specs.AttributeReading.{serde_items}
 use Rattle.syntax.specs.Items.{BodyItem, DeclaredItem}
 use Rattle.derive_decl.specs.Fields.{field_rules}
-use Rattle.derive_decl.specs.Structs.{StructOf, Around, around_of, names_of, all_of, body_form, struct_from, struct_of}
+use Rattle.derive_decl.specs.Resolved.{DeclarationOf, Around, around_of, names_of, all_of, body_form, declaration_from, resolved_of}
 use Rattle.derive_decl.specs.Faults.{HasSmall, container_items, AreAllowed}
 
--- The struct is what a declaration of these attributes, this name and this body is resolved to: its members have different names, its types are not too large, and serde's items before it are allowed.
-pub record IsResolved (around : Around) (attributes : List AttributeItem) (x : Ident) (body : BodyItem) (of : StructOf) : Type 0 where
-  pub resolved : option_map (struct_from attributes x) (body_form around (field_rules (serde_items attributes)) body) ≡ Some of
+-- This is what a declaration of these attributes, this name and this body is resolved to: its members have different names, its types are not too large, and serde's items before it are allowed.
+pub record IsResolved (around : Around) (attributes : List AttributeItem) (x : Ident) (body : BodyItem) (of : DeclarationOf) : Type 0 where
+  pub resolved : option_map (declaration_from attributes x) (body_form around (field_rules (serde_items attributes)) body) ≡ Some of
   pub distinct : IsDistinct (names_of of.form)
   pub small : HasSmall body
   pub allowed : AreAllowed (container_items attributes body)
 
--- the structs of all declarations, where each type stands for something and each name has its row
-abbrev pub structs_of : List RenameRow → List DeclaredItem → Option (List StructOf)
-structs_of rows ds = all_of (struct_of (around_of rows ds)) ds
+-- what all declarations are resolved to, where each type stands for something and each name has its row
+abbrev pub resolved_declarations : List RenameRow → List DeclaredItem → Option (List DeclarationOf)
+resolved_declarations rows ds = all_of (resolved_of (around_of rows ds)) ds
 
--- no two members of a struct have one name
-abbrev pub MembersDiffer : List StructOf → Type 0
+-- no two members of a declaration have one name
+abbrev pub MembersDiffer : List DeclarationOf → Type 0
 MembersDiffer [] = Unit {0}
 MembersDiffer (s ∷ ss) = IsDistinct (names_of s.form) × MembersDiffer ss
 

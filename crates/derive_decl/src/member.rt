@@ -8,7 +8,7 @@ ghost use Rattle.resolving.specs.Resolved.{Somewhere};
 ghost use Rattle.scopes.specs.Scopes.{IsScope};
 ghost use Rattle.syntax.specs.Items.{field_view};
 ghost use Rattle.derive_decl.specs.Fields.{kept, name_by, named_at, rules_view, value_of, written_ident, written_idents};
-ghost use Rattle.derive_decl.specs.Structs.{all_of, is_option, member_of, member_from};
+ghost use Rattle.derive_decl.specs.Resolved.{all_of, is_option, member_of, member_from};
 ghost use Rattle.derive_decl.specs.Faults.{IsUnwritten, IsFaultyMember, IsSmall, row_message};
 ghost use Rattle.derive_decl.specs.Views.{known, member_view};
 

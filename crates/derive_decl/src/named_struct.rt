@@ -10,7 +10,7 @@ ghost use Rattle.scopes.specs.Scopes.{IsScope};
 ghost use Rattle.syntax.specs.Items.{field_view, named};
 ghost use Rattle.component.specs.Leaves.{leaf_view, term_view};
 ghost use Rattle.derive_decl.specs.Fields.{is_deprecated, field_rules, kept, rules_view, written_idents};
-ghost use Rattle.derive_decl.specs.Structs.{all_of, description_of, form_of, member_of, member_names};
+ghost use Rattle.derive_decl.specs.Resolved.{all_of, description_of, form_of, member_of, member_names};
 ghost use Rattle.derive_decl.specs.Terms.{properties_of, required_names, others_of, object_of, form_term};
 ghost use Rattle.derive_decl.specs.Faults.{IsFaultyMember, AreFaultyMembers, AreFaultyNamed, IsSmall, AreAllowed};
 ghost use Rattle.derive_decl.specs.Views.{known, member_view, named_view};

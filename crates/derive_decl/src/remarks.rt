@@ -3,7 +3,7 @@
 ghost use Rattle.std.specs.Prelude.{◌≡◌, map, IfOk};
 ghost use Rattle.attributes.specs.Attributes.{attribute_view};
 ghost use Rattle.derive_decl.specs.Fields.{is_deprecated};
-ghost use Rattle.derive_decl.specs.Structs.{description_of};
+ghost use Rattle.derive_decl.specs.Resolved.{description_of};
 
 use diag::Text;
 use scopes::ComponentDescription;

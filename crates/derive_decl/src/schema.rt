@@ -6,14 +6,14 @@ ghost use Rattle.attributes.specs.AttributeReading.{serde_items};
 ghost use Rattle.open_types.specs.Open.{open_view};
 ghost use Rattle.scopes.specs.Scopes.{IsScope};
 ghost use Rattle.syntax.specs.Items.{body_view};
-ghost use Rattle.derive_decl.specs.Structs.{StructOf, types_of};
+ghost use Rattle.derive_decl.specs.Resolved.{DeclarationOf, types_of};
 ghost use Rattle.derive_decl.specs.Faults.{IsFaultyBody};
-ghost use Rattle.derive_decl.specs.Views.{known, struct_view};
+ghost use Rattle.derive_decl.specs.Views.{known, resolved_view};
 ghost use Rattle.derive_decl.specs.Whole.{IsResolved};
 
+use crate::resolved::{Resolved, types_of};
 use crate::root::Root;
 use crate::schema_variant::SchemaVariant;
-use crate::structs::{Struct, types_of};
 use component::{Term, ToTerm};
 use diag::{DeriveError, List};
 use open_types::OpenType;
@@ -56,9 +56,9 @@ impl<'a> Schema<'a> {
     /// A refusal is of kind `UnknownType`, `Arity` or `TypeSize`, for the type of a field; `Arity`, at the name of a
     /// declaration whose form is unnamed fields without a field; or, of a struct with named fields, as that of
     /// `NamedStructSchema::new`.
-    pub fn resolve(&self, alloc: Global) -> Result<Struct, DeriveError>
+    pub fn resolve(&self, alloc: Global) -> Result<Resolved, DeriveError>
         requires { IsScope self.now.container.now.scope.now }
-        ensures resolved { IfOk result (λ s. IsResolved (known self.now.container.now) (map attribute_view self.now.attributes.now) self.now.ident.now (body_view self.now.body.now) (struct_view s)) }
+        ensures resolved { IfOk result (λ s. IsResolved (known self.now.container.now) (map attribute_view self.now.attributes.now) self.now.ident.now (body_view self.now.body.now) (resolved_view s)) }
         ensures refused { IfErr result (λ e. (e ≡ DeriveError.Memory) ⊎ IsFaultyBody (known self.now.container.now) (serde_items (map attribute_view self.now.attributes.now)) self.now.ident.now (body_view self.now.body.now) e) }
     {
         let root = Root {
@@ -66,7 +66,7 @@ impl<'a> Schema<'a> {
             attributes: self.attributes,
             container: self.container,
         };
-        Ok(Struct {
+        Ok(Resolved {
             form: SchemaVariant::new(alloc, self.body, &root)?,
             name: self.ident.text.copy(alloc)?,
         })
@@ -77,7 +77,7 @@ impl<'a> Schema<'a> {
     /// It is refused as `resolve` is.
     pub fn place_types(&self, alloc: Global) -> Result<List<OpenType>, DeriveError>
         requires { IsScope self.now.container.now.scope.now }
-        ensures types { IfOk result (λ ts. (of : StructOf) × IsResolved (known self.now.container.now) (map attribute_view self.now.attributes.now) self.now.ident.now (body_view self.now.body.now) of × (types_of of.form ≡ map open_view ts)) }
+        ensures types { IfOk result (λ ts. (of : DeclarationOf) × IsResolved (known self.now.container.now) (map attribute_view self.now.attributes.now) self.now.ident.now (body_view self.now.body.now) of × (types_of of.form ≡ map open_view ts)) }
         ensures refused { IfErr result (λ e. (e ≡ DeriveError.Memory) ⊎ IsFaultyBody (known self.now.container.now) (serde_items (map attribute_view self.now.attributes.now)) self.now.ident.now (body_view self.now.body.now) e) }
     {
         let resolved = self.resolve(alloc)?;
@@ -91,7 +91,7 @@ impl ToTerm for Schema<'_> {
     ghost use Rattle.attributes.specs.AttributeReading.{serde_items};
     ghost use Rattle.scopes.specs.Scopes.{IsScope};
     ghost use Rattle.syntax.specs.Items.{body_view};
-    ghost use Rattle.derive_decl.specs.Structs.{StructOf};
+    ghost use Rattle.derive_decl.specs.Resolved.{DeclarationOf};
     ghost use Rattle.derive_decl.specs.Terms.{term};
     ghost use Rattle.derive_decl.specs.Faults.{IsFaultyBody};
     ghost use Rattle.derive_decl.specs.Views.{known};
@@ -99,7 +99,7 @@ impl ToTerm for Schema<'_> {
 
     ghost is_ready = { λ s. IsScope s.container.now.scope.now };
 
-    ghost has_term = { λ s t. (of : StructOf) × IsResolved (known s.container.now) (map attribute_view s.attributes.now) s.ident.now (body_view s.body.now) of × (t ≡ term of) };
+    ghost has_term = { λ s t. (of : DeclarationOf) × IsResolved (known s.container.now) (map attribute_view s.attributes.now) s.ident.now (body_view s.body.now) of × (t ≡ term of) };
 
     ghost is_refused = { λ s e. IsFaultyBody (known s.container.now) (serde_items (map attribute_view s.attributes.now)) s.ident.now (body_view s.body.now) e };
 

@@ -9,7 +9,7 @@ ghost use Rattle.scopes.specs.Scopes.{IsScope};
 ghost use Rattle.syntax.specs.Items.{fields_view, body_view};
 ghost use Rattle.component.specs.Leaves.{term_view};
 ghost use Rattle.derive_decl.specs.Fields.{field_rules, is_deprecated};
-ghost use Rattle.derive_decl.specs.Structs.{form_of, body_form, description_of, names_of};
+ghost use Rattle.derive_decl.specs.Resolved.{form_of, body_form, description_of, names_of};
 ghost use Rattle.derive_decl.specs.Terms.{form_term};
 ghost use Rattle.derive_decl.specs.Faults.{kept_in, items_of, container_items, IsSmall, HasSmall, AreAllowed, AreFaulty, IsFaultyBody};
 ghost use Rattle.derive_decl.specs.Views.{known, variant_view, variant_deprecated, variant_description};

@@ -3,7 +3,7 @@
 ghost use Rattle.std.specs.Prelude.{◌≡◌, IfOk, IfErr, map};
 ghost use Rattle.attributes.specs.Attributes.{attribute_view};
 ghost use Rattle.component.specs.Leaves.{term_view};
-ghost use Rattle.derive_decl.specs.Structs.{description_of, no_fields};
+ghost use Rattle.derive_decl.specs.Resolved.{description_of, no_fields};
 ghost use Rattle.derive_decl.specs.Fields.{is_deprecated};
 ghost use Rattle.derive_decl.specs.Terms.{form_term};
 
@@ -44,7 +44,7 @@ impl UnitStructVariant {
 
 impl ToTerm for UnitStructVariant {
     ghost use Rattle.std.specs.Prelude.{◌≡◌};
-    ghost use Rattle.derive_decl.specs.Structs.{no_fields};
+    ghost use Rattle.derive_decl.specs.Resolved.{no_fields};
     ghost use Rattle.derive_decl.specs.Terms.{form_term};
 
     ghost is_ready = { λ _. Unit {0} };

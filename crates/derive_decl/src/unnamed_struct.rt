@@ -10,7 +10,7 @@ ghost use Rattle.scopes.specs.Scopes.{IsScope};
 ghost use Rattle.syntax.specs.Items.{field_view, unnamed};
 ghost use Rattle.component.specs.Leaves.{term_view};
 ghost use Rattle.derive_decl.specs.Fields.{FieldRules as AnyRules, is_deprecated};
-ghost use Rattle.derive_decl.specs.Structs.{all_of, description_of, form_of};
+ghost use Rattle.derive_decl.specs.Resolved.{all_of, description_of, form_of};
 ghost use Rattle.derive_decl.specs.Terms.{are_all, any_object, list_of_length, unnamed_term, form_term};
 ghost use Rattle.derive_decl.specs.Faults.{IsFaultyType, AreFaultyTypes, IsSmall, fieldless_message};
 ghost use Rattle.derive_decl.specs.Views.{known, unnamed_view};

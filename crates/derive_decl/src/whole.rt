@@ -8,13 +8,13 @@ ghost use Rattle.syntax.specs.Items.{declaration_view, declarations_view};
 ghost use Rattle.resolving.specs.Resolved.{Somewhere};
 ghost use Rattle.scopes.specs.Names.{place_among};
 ghost use Rattle.scopes.specs.Scopes.{IsScope};
-ghost use Rattle.derive_decl.specs.Structs.{names_of, around_of, struct_of};
+ghost use Rattle.derive_decl.specs.Resolved.{names_of, around_of, resolved_of};
 ghost use Rattle.derive_decl.specs.Faults.{IsFaultyItem};
-ghost use Rattle.derive_decl.specs.Views.{known, struct_view};
-ghost use Rattle.derive_decl.specs.Whole.{structs_of, MembersDiffer, IsSmallItem, IsAllowedItem};
+ghost use Rattle.derive_decl.specs.Views.{known, resolved_view};
+ghost use Rattle.derive_decl.specs.Whole.{resolved_declarations, MembersDiffer, IsSmallItem, IsAllowedItem};
 
+use crate::resolved::Resolved;
 use crate::schema::Schema;
-use crate::structs::Struct;
 use configuration::Config;
 use diag::{DeriveError, List};
 use scopes::{Container, Scope};
@@ -22,15 +22,15 @@ use std::alloc::Global;
 use std::collections::BTreeMap;
 use syntax::{Declaration, Declarations};
 
-/// The struct of the declaration.
-fn struct_of(
+/// What the declaration is resolved to.
+fn resolved_of(
     alloc: Global,
     container: &Container<'_>,
     declaration: &Declaration,
-) -> Result<Struct, DeriveError>
+) -> Result<Resolved, DeriveError>
     requires { IsScope container.now.scope.now }
-    ensures resolved { IfOk result (λ s. struct_of (known container.now) (declaration_view declaration.now) ≡ Some (struct_view s)) }
-    ensures distinct { IfOk result (λ s. IsDistinct (names_of (struct_view s).form)) }
+    ensures resolved { IfOk result (λ s. resolved_of (known container.now) (declaration_view declaration.now) ≡ Some (resolved_view s)) }
+    ensures distinct { IfOk result (λ s. IsDistinct (names_of (resolved_view s).form)) }
     ensures small { IfOk result (λ _. IsSmallItem (declaration_view declaration.now)) }
     ensures allowed { IfOk result (λ _. IsAllowedItem (declaration_view declaration.now)) }
     ensures refused { IfErr result (λ e. (e ≡ DeriveError.Memory) ⊎ IsFaultyItem (known container.now) (declaration_view declaration.now) e) }
@@ -44,23 +44,23 @@ fn struct_of(
     schema.resolve(alloc)
 }
 
-/// The structs of all declarations, in their order, where `places` has the places of their names.
+/// What the declarations are resolved to, in their order, where `places` has the places of their names.
 ///
 /// It refuses a declaration that `Schema::resolve` refuses, as that does.
-pub fn structs_of(
+pub fn resolved_declarations(
     alloc: Global,
     declarations: &Declarations,
     places: &BTreeMap<String, usize>,
     config: &Config,
-) -> Result<List<Struct>, DeriveError>
+) -> Result<List<Resolved>, DeriveError>
     requires { (name : Items ℕ) → get_by_text places.now name ≡ place_among (declarations_view declarations.now) name }
-    ensures resolved { IfOk result (λ ss. structs_of config.now.renames (declarations_view declarations.now) ≡ Some (map struct_view ss)) }
-    ensures distinct { IfOk result (λ ss. MembersDiffer (map struct_view ss)) }
+    ensures resolved { IfOk result (λ ss. resolved_declarations config.now.renames (declarations_view declarations.now) ≡ Some (map resolved_view ss)) }
+    ensures distinct { IfOk result (λ ss. MembersDiffer (map resolved_view ss)) }
     ensures small { IfOk result (λ _. AllByRecursion IsSmallItem (declarations_view declarations.now)) }
     ensures allowed { IfOk result (λ _. AllByRecursion IsAllowedItem (declarations_view declarations.now)) }
     ensures refused { IfErr result (λ e. (e ≡ DeriveError.Memory) ⊎ Somewhere (λ d. IsFaultyItem (around_of config.now.renames (declarations_view declarations.now)) d e) (declarations_view declarations.now)) }
 {
-    let mut structs = List::new(alloc);
+    let mut resolved = List::new(alloc);
     for owner in 0..declarations.items.len() {
         let scope = Scope {
             declarations,
@@ -72,7 +72,7 @@ pub fn structs_of(
             config,
         };
         let declaration = &declarations.items.as_slice()[owner];
-        structs.push(struct_of(alloc, &container, declaration)?)?;
+        resolved.push(resolved_of(alloc, &container, declaration)?)?;
     }
-    Ok(structs)
+    Ok(resolved)
 }

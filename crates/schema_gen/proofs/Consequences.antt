@@ -33,7 +33,7 @@ module _ (words : List (List ℕ)) (tells : Bool) (held : List ℕ → Option (L
   -- after `Done` the document's text was written
   pub done_owed : (status : Status) (text report : List ℕ) (old new : Option (List ℕ)) → Owed words tells held left status text report → Appends old new text → status ≡ Done
       → (given : Given) × (components : List Entry) × (made : IsDerived given.config given.text components) × IsGiven words tells held left given × IsText given.text
-      × Describes made.structs (document components) × Appends old new (text_of (document components))
+      × Describes made.resolved (document components) × Appends old new (text_of (document components))
   unfolding Owed
   done_owed status text report old new owed grown is =
       let o = subst (λ s. Owed words tells held left s text report) is owed in

@@ -21,7 +21,7 @@ use Rattle.syntax.specs.Items.{FieldItem, DeclaredItem}
 use Rattle.resolving.specs.Resolved.{Fault, unknown_type, wrong_arity, too_large, IsRefusedFor, Somewhere}
 use Rattle.configuration.specs.Configuration.{Configuration}
 use Rattle.configuration.specs.Form.{IsBadConfig}
-use Rattle.derive_decl.specs.Structs.{StructOf}
+use Rattle.derive_decl.specs.Resolved.{DeclarationOf}
 use Rattle.derive_decl.specs.Faults.{container_items, IsFaultyName}
 use Rattle.compose.specs.Bounds.{IsRefusalOf, IsUnbounded}
 use Rattle.compose.specs.Faults.{kept_named, IsFaulty, AreAtFault, IsBeyond, IsRefused}
@@ -57,10 +57,10 @@ module _ (ds : List DiangosticsInner) (first : HasFirst ds (λ d. d.kind ≡ Bad
   nowhere P (x ∷ xs) none (inl here) = none x here
   nowhere P (x ∷ xs) none (inr there) = nowhere P xs none there
 
-  unbounded : (c : Configuration) (items : List DeclaredItem) (structs : List StructOf) → IsUnbounded c items structs (Refused ds) → ⊥
-  unbounded c items structs (inl (many, somewhere)) = nowhere _ items (λ d is. other TooManyInstances _ _ (λ e. cc) is) somewhere
-  unbounded c items structs (inr (inl (few, (path, is_path, long, somewhere)))) = nowhere _ items (λ d is. other_of InlineDepth _ _ _ (λ e. cc) is.1) somewhere
-  unbounded c items structs (inr (inr (few, shallow, (many, is)))) = other TooManyCopies _ _ (λ e. cc) is
+  unbounded : (c : Configuration) (items : List DeclaredItem) (resolved : List DeclarationOf) → IsUnbounded c items resolved (Refused ds) → ⊥
+  unbounded c items resolved (inl (many, somewhere)) = nowhere _ items (λ d is. other TooManyInstances _ _ (λ e. cc) is) somewhere
+  unbounded c items resolved (inr (inl (few, (path, is_path, long, somewhere)))) = nowhere _ items (λ d is. other_of InlineDepth _ _ _ (λ e. cc) is.1) somewhere
+  unbounded c items resolved (inr (inr (few, shallow, (many, is)))) = other TooManyCopies _ _ (λ e. cc) is
 
   rowless : (rows : List RenameRow) (rule : Option RenameRule) (f : FieldItem) → IsFaultyName rows rule f (Refused ds) → ⊥
   rowless rows None f (x, ident, h) = h
@@ -92,7 +92,7 @@ module _ (ds : List DiangosticsInner) (first : HasFirst ds (λ d. d.kind ≡ Bad
   declared : (c : Configuration) (items : List DeclaredItem) → AreAtFault c.renames items (Refused ds) ⊎ IsBeyond c items (Refused ds) → ⊥
   declared c items (inl (inl (span, attributed, is))) = other Syntax _ _ (λ e. cc) is
   declared c items (inl (inr (derivable, fault))) = faulty c.renames items fault
-  declared c items (inr (clear, (structs, resolved, beyond))) = unbounded c items structs beyond
+  declared c items (inr (clear, (resolved, resolves, beyond))) = unbounded c items resolved beyond
 
   refused : (c : Configuration) (source : List ℕ) → IsRefused c source (Refused ds) → ⊥
   refused c source (inl (span, is, deep)) = other TooDeep _ _ (λ e. cc) is

@@ -14,7 +14,7 @@ pub use Rattle.configuration.specs.Configuration
 pub use Rattle.configuration.specs.Form
 pub use Rattle.derive_decl.specs.Plain
 pub use Rattle.derive_decl.specs.Shape
-pub use Rattle.derive_decl.specs.Structs
+pub use Rattle.derive_decl.specs.Resolved as Declarations
 pub use Rattle.diag.specs.Diagnostics
 pub use Rattle.diag.specs.Kind
 pub use Rattle.diag.specs.Refusal

@@ -10,12 +10,12 @@ use Rattle.schema_gen.specs.Words.{IsDerive, HaveForm}
 use Rattle.schema_gen.specs.declared.status.Status.{Status}
 use Rattle.schema_gen.specs.declared.status.Status.TheVariants.{Done, Refused, Usage, ReadFault, WriteFault, Memory, FileFault}
 
--- The text is that of the document of a source's components, which describes the structs that the source declares.
+-- The text is that of the document of a source's components, which describes the declarations that the source declares.
 pub record IsDocumentOf (c : Configuration) (source text : List ℕ) : Type 0 where
   pub is_text : IsText source
   pub components : List Entry
   pub made : IsDerived c source components
-  pub describes : Describes made.structs (document components)
+  pub describes : Describes made.resolved (document components)
   pub text_is : text ≡ text_of (document components)
 
 -- With this status a run owes these bytes to `out` and to `err`. It begins with these words, with files that hold this where they tell it, and with what

@@ -16,8 +16,8 @@ use Rattle.syntax.specs.Items.{DeclaredItem}
 use Rattle.syntax.specs.Source.{Reads, NestsTooDeep}
 use Rattle.configuration.specs.Configuration.{Configuration}
 use Rattle.configuration.specs.Form.{IsBadConfig}
-use Rattle.derive_decl.specs.Structs.{StructOf}
-use Rattle.derive_decl.specs.Whole.{structs_of}
+use Rattle.derive_decl.specs.Resolved.{DeclarationOf}
+use Rattle.derive_decl.specs.Whole.{resolved_declarations}
 use Rattle.compose.specs.Bounds.{AreBounded}
 use Rattle.compose.specs.Faults.{IsRefused, AreClear}
 use Rattle.schema_gen.specs.Given.{Given, IsGiven, SaysNone}
@@ -59,7 +59,7 @@ pub record IsSound (c : Configuration) (bytes : List ℕ) : Type 0 where
   pub read : Reads bytes declarations
   pub shallow : (span : Span) → ¬ NestsTooDeep bytes span
   pub clear : AreClear c.renames declarations
-  pub bounded : (structs : List StructOf) → structs_of c.renames declarations ≡ Some structs → AreBounded c declarations structs
+  pub bounded : (resolved : List DeclarationOf) → resolved_declarations c.renames declarations ≡ Some resolved → AreBounded c declarations resolved
 
 -- ---- the causes of a run's refusal
 

@@ -42,11 +42,11 @@ pub fn run<S: Source, F: Files, O: Sink, E: Sink>(
     out: &mut O,
     err: &mut E,
 ) -> Status
-    // The document that was written describes the structs that the source declares: each has its component, and so has
-    // each reference, and the component accepts the JSON that has the struct's shape.
+    // The document that was written describes the declarations of the source: each has its component, and so has each
+    // reference, and the component accepts the JSON that has the declaration's shape.
     ensures done { result ≡ Status.Done → (given : AnyGiven) × (components : List Entry) × (made : IsDerived given.config given.text components)
         × IsGiven words.now (F.tells files.old) (F.held files.old) (S.left input.old) given × IsText given.text
-        × Describes made.structs (document components) × Appends (O.written out.old) (O.written out.new) (text_of (document components)) }
+        × Describes made.resolved (document components) × Appends (O.written out.old) (O.written out.new) (text_of (document components)) }
     ensures refused { (kind : AnyKind) → result ≡ Status.Refused kind
         → (line : List ℕ) × IsReported (IsRefusedRun words.now (F.tells files.old) (F.held files.old) (S.left input.old)) kind line
         × Appends (E.written err.old) (E.written err.new) line }

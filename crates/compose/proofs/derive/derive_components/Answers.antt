@@ -11,9 +11,9 @@ use Rattle.configuration.specs.Configuration.{Configuration}
 use Rattle.syntax.specs.Source.{Reads, NestsTooDeep}
 use Rattle.syntax.specs.declared.item.Declaration.{Declaration}
 use Rattle.syntax.specs.Items.{DeclaredItem, declaration_view, declarations_view}
-use Rattle.derive_decl.specs.declared.structs.Struct.{Struct}
-use Rattle.derive_decl.specs.Structs.{StructOf, struct_names}
-use Rattle.derive_decl.specs.Views.{struct_view}
+use Rattle.derive_decl.specs.declared.resolved.Resolved.{Resolved}
+use Rattle.derive_decl.specs.Resolved.{DeclarationOf, declaration_names}
+use Rattle.derive_decl.specs.Views.{resolved_view}
 use Rattle.closing.specs.Described.{AreComponents}
 use Rattle.compose.specs.Bounds.{AreBounded, IsUnbounded}
 use Rattle.compose.specs.Faults.{IsDerived}
@@ -23,20 +23,20 @@ use Rattle.compose.proofs.TypesFound.{types_are}
 use Rattle.compose.proofs.derive.derive_components.Goals as goal
 
 -- what holds of the slices of two lists holds of the lists
-same_slices : (P : List DeclaredItem → List StructOf → Type 0) {items now : List Declaration} {structs all : List Struct} → now ≡ items → all ≡ structs → P (map declaration_view now) (map struct_view all) → P (map declaration_view items) (map struct_view structs)
-same_slices P {items} {now} {structs} {all} e f h =
-    subst (λ (xs : List Struct). P (map declaration_view items) (map struct_view xs)) f (subst (λ (ys : List Declaration). P (map declaration_view ys) (map struct_view all)) e h)
+same_slices : (P : List DeclaredItem → List DeclarationOf → Type 0) {items now : List Declaration} {resolved all : List Resolved} → now ≡ items → all ≡ resolved → P (map declaration_view now) (map resolved_view all) → P (map declaration_view items) (map resolved_view resolved)
+same_slices P {items} {now} {resolved} {all} e f h =
+    subst (λ (xs : List Resolved). P (map declaration_view items) (map resolved_view xs)) f (subst (λ (ys : List Declaration). P (map declaration_view ys) (map resolved_view all)) e h)
 
 -- what is known of the components of settled declarations
-abbrev derived_of : {c : Configuration} {source : List ℕ} {components : List Entry} (ds : List DeclaredItem) (ss : List StructOf) → Reads source ds → ((span : Span) → ¬ NestsTooDeep source span) →
+abbrev derived_of : {c : Configuration} {source : List ℕ} {components : List Entry} (ds : List DeclaredItem) (ss : List DeclarationOf) → Reads source ds → ((span : Span) → ¬ NestsTooDeep source span) →
     IsSettled c.renames ds ss → AreBounded c ds ss → AreComponents ss components → IsDerived c source components
 derived_of ds ss read shallow settled bounded components = record {
   declarations = ds;
   read = read;
   shallow = shallow;
   clear = settled.clear;
-  structs = ss;
-  resolved = settled.resolved;
+  resolved = ss;
+  resolves = settled.resolves;
   bounded = bounded;
   apart = settled.apart;
   components_are = components;
@@ -67,21 +67,21 @@ pub returns-in_err-components-clause-refused : goal.returns-in_err-components-cl
 returns-in_err-components-clause-refused c =
     let p = err_from_is_err_and c.from_residual-in_err-components.result c.from_residual-in_err-components.ensures.1 in
     let ds = declarations_view c.in_ok-declarations.declarations in
-    let ss = map struct_view c.in_ok-settled.settled.structs in
+    let ss = map resolved_view c.in_ok-settled.settled.resolved in
     let settled : IsSettled c.args.config.now.renames ds ss = c.in_ok-settled.ensures.settled in
     rw (p.1, p.2)
     (elim c.in_err-components.ensures.refused [
       | inl memory ↦ inl memory
-      | inr unbounded ↦ inr (inr (inr (ds, c.in_ok-declarations.ensures.found, c.in_ok-declarations.ensures.shallow, inr (settled.clear, (ss, settled.resolved, same_slices (λ ds ss. IsUnbounded c.args.config.now ds ss c.in_err-components.field-0.0) c.as_slice-items.ensures c.as_slice-structs.ensures unbounded)))))
+      | inr unbounded ↦ inr (inr (inr (ds, c.in_ok-declarations.ensures.found, c.in_ok-declarations.ensures.shallow, inr (settled.clear, (ss, settled.resolves, same_slices (λ ds ss. IsUnbounded c.args.config.now ds ss c.in_err-components.field-0.0) c.as_slice-items.ensures c.as_slice-resolved.ensures unbounded)))))
     ])
 
 pub returns-clause-describes : goal.returns-clause-describes
 returns-clause-describes c =
     let ds = declarations_view c.in_ok-declarations.declarations in
-    let ss = map struct_view c.in_ok-settled.settled.structs in
+    let ss = map resolved_view c.in_ok-settled.settled.resolved in
     let settled : IsSettled c.args.config.now.renames ds ss = c.in_ok-settled.ensures.settled in
-    let bounded : AreBounded c.args.config.now ds ss = same_slices (λ ds ss. AreBounded c.args.config.now ds ss) c.as_slice-items.ensures c.as_slice-structs.ensures c.in_ok-components.ensures.bounded in
-    let components : AreComponents ss c.in_ok-components.components = same_slices (λ ds ss. AreComponents ss c.in_ok-components.components) c.as_slice-items.ensures c.as_slice-structs.ensures c.in_ok-components.ensures.components in (
+    let bounded : AreBounded c.args.config.now ds ss = same_slices (λ ds ss. AreBounded c.args.config.now ds ss) c.as_slice-items.ensures c.as_slice-resolved.ensures c.in_ok-components.ensures.bounded in
+    let components : AreComponents ss c.in_ok-components.components = same_slices (λ ds ss. AreComponents ss c.in_ok-components.components) c.as_slice-items.ensures c.as_slice-resolved.ensures c.in_ok-components.ensures.components in (
       derived_of ds ss c.in_ok-declarations.ensures.found c.in_ok-declarations.ensures.shallow settled bounded components,
       c.components_describe.ensures ss c.in_ok-components.components settled.apart settled.within bounded.shallow components,
     )
@@ -89,13 +89,13 @@ returns-clause-describes c =
 pub returns-clause-types : goal.returns-clause-types
 returns-clause-types c =
     let ds = declarations_view c.in_ok-declarations.declarations in
-    let ss = map struct_view c.in_ok-settled.settled.structs in
+    let ss = map resolved_view c.in_ok-settled.settled.resolved in
     let place_of = get_by_text c.in_ok-settled.settled.places in
     let names = names_of c.in_ok-components.components in
     let settled : IsSettled c.args.config.now.renames ds ss = c.in_ok-settled.ensures.settled in
-    let bounded : AreBounded c.args.config.now ds ss = same_slices (λ ds ss. AreBounded c.args.config.now ds ss) c.as_slice-items.ensures c.as_slice-structs.ensures c.in_ok-components.ensures.bounded in
-    let components : AreComponents ss c.in_ok-components.components = same_slices (λ ds ss. AreComponents ss c.in_ok-components.components) c.as_slice-items.ensures c.as_slice-structs.ensures c.in_ok-components.ensures.components in
-    let same : (k : List ℕ) → place_of k ≡ place_in k (struct_names ss) = λ k. c.in_ok-settled.ensures.places k ∙ ap (place_in k) (sym settled.names) in
+    let bounded : AreBounded c.args.config.now ds ss = same_slices (λ ds ss. AreBounded c.args.config.now ds ss) c.as_slice-items.ensures c.as_slice-resolved.ensures c.in_ok-components.ensures.bounded in
+    let components : AreComponents ss c.in_ok-components.components = same_slices (λ ds ss. AreComponents ss c.in_ok-components.components) c.as_slice-items.ensures c.as_slice-resolved.ensures c.in_ok-components.ensures.components in
+    let same : (k : List ℕ) → place_of k ≡ place_in k (declaration_names ss) = λ k. c.in_ok-settled.ensures.places k ∙ ap (place_in k) (sym settled.names) in
     let types : map open_view c.in_ok-types.types ≡ filter_map (λ k. option_map declared (place_of k)) names = c.in_ok-types.ensures ∙ ap (filter_map (λ k. option_map declared (place_of k))) c.names.ensures.names in (
       derived_of ds ss c.in_ok-declarations.ensures.found c.in_ok-declarations.ensures.shallow settled bounded components,
       subst (AreTypesOf ss names) (sym types) (types_are ss c.in_ok-components.components place_of components same),

@@ -4,7 +4,7 @@ use Rattle.std.proofs.lemmas.Result.{err_from_is_err_and}
 use Rattle.std.specs.List.{AllByRecursion}
 use Rattle.syntax.specs.Items.{field_view}
 use Rattle.derive_decl.specs.Fields.{kept, rules_view, written_idents}
-use Rattle.derive_decl.specs.Structs.{all_of, member_of}
+use Rattle.derive_decl.specs.Resolved.{all_of, member_of}
 use Rattle.derive_decl.specs.Faults.{IsFaultyMember, IsSmall}
 use Rattle.derive_decl.specs.Views.{known, member_view}
 use Rattle.derive_decl.proofs.Growing.{members_more, idents_more, kept_facts_more, somewhere_kept}

@@ -2,7 +2,7 @@ use Rattle.std.proofs.Common.{◌≡◌, map, take, Some}
 use Rattle.std.specs.List.{AllByRecursion}
 use Rattle.syntax.specs.Items.{field_view}
 use Rattle.derive_decl.specs.Fields.{kept, rules_view, written_idents}
-use Rattle.derive_decl.specs.Structs.{all_of, member_of}
+use Rattle.derive_decl.specs.Resolved.{all_of, member_of}
 use Rattle.derive_decl.specs.Faults.{IsSmall}
 use Rattle.derive_decl.specs.Views.{known, member_view}
 use Rattle.derive_decl.proofs.named_struct.resolve_members.Given as goal

@@ -5,7 +5,7 @@ use Rattle.attributes.specs.AttributeReading.{serde_items}
 use Rattle.syntax.specs.declared.item.Field.{Field}
 use Rattle.syntax.specs.Items.{field_view, fields_view, unnamed}
 use Rattle.derive_decl.specs.Fields.{field_rules}
-use Rattle.derive_decl.specs.Structs.{form_of}
+use Rattle.derive_decl.specs.Resolved.{form_of}
 use Rattle.derive_decl.specs.Faults.{AreFaulty, AreFaultyNamed}
 use Rattle.derive_decl.specs.Views.{known}
 use Rattle.derive_decl.proofs.schema_variant.of_fields.Goals as goal

@@ -5,7 +5,7 @@ use Rattle.std.specs.List.{AllByRecursion}
 use Rattle.open_types.specs.Open.{open_view}
 use Rattle.resolving.specs.Resolved.{type_of}
 use Rattle.syntax.specs.Items.{FieldItem, field_view}
-use Rattle.derive_decl.specs.Structs.{all_of}
+use Rattle.derive_decl.specs.Resolved.{all_of}
 use Rattle.derive_decl.specs.Faults.{IsFaultyType, IsSmall}
 use Rattle.derive_decl.specs.Views.{known}
 use Rattle.derive_decl.proofs.Growing.{all_more, facts_more, somewhere}

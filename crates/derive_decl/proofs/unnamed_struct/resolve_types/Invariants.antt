@@ -3,7 +3,7 @@ use Rattle.std.specs.List.{AllByRecursion}
 use Rattle.open_types.specs.Open.{open_view}
 use Rattle.resolving.specs.Resolved.{type_of}
 use Rattle.syntax.specs.Items.{FieldItem, field_view}
-use Rattle.derive_decl.specs.Structs.{all_of}
+use Rattle.derive_decl.specs.Resolved.{all_of}
 use Rattle.derive_decl.specs.Faults.{IsSmall}
 use Rattle.derive_decl.specs.Views.{known}
 use Rattle.derive_decl.proofs.unnamed_struct.resolve_types.Given as goal

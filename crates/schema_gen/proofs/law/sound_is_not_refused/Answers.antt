@@ -3,8 +3,8 @@ use Rattle.diag.specs.declared.error.DeriveError.{DeriveError}
 use Rattle.syntax.specs.Items.{DeclaredItem}
 use Rattle.syntax.specs.Source.{Reads}
 use Rattle.configuration.specs.Configuration.{Configuration}
-use Rattle.derive_decl.specs.Structs.{StructOf}
-use Rattle.derive_decl.specs.Whole.{structs_of}
+use Rattle.derive_decl.specs.Resolved.{DeclarationOf}
+use Rattle.derive_decl.specs.Whole.{resolved_declarations}
 use Rattle.compose.specs.Bounds.{AreBounded, BoundedAreNotRefused}
 use Rattle.compose.specs.Faults.{AreAtFault, IsBeyond, IsRefused, AreClear}
 use Rattle.schema_gen.specs.Refusals.{most_bytes, IsSound, IsRefusedSource}
@@ -21,16 +21,16 @@ clear_text one bounded c source e sound (inr (inl unreadable)) = unreadable.3 so
 clear_text one bounded c source e sound (inr (inr (ds, read, shallow, fault))) = by (subst IsFine (one source sound.declarations ds sound.read read) (sound.clear, sound.bounded)) fault
   where
     IsFine : List DeclaredItem → Type 0
-    IsFine ds = AreClear c.renames ds × ((structs : List StructOf) → structs_of c.renames ds ≡ Some structs → AreBounded c ds structs)
+    IsFine ds = AreClear c.renames ds × ((resolved : List DeclarationOf) → resolved_declarations c.renames ds ≡ Some resolved → AreBounded c ds resolved)
 
     by : IsFine ds → AreAtFault c.renames ds e ⊎ IsBeyond c ds e → ⊥
     by fine (inl (inl (span, attributed, is))) = fine.0.derivable span attributed
     by fine (inl (inr (derivable, inl (x, duplicate, is)))) = fine.0.distinct x duplicate
-    by fine (inl (inr (derivable, inr (inl (fault, found, is))))) = fine.0.resolved fault found
+    by fine (inl (inr (derivable, inr (inl (fault, found, is))))) = fine.0.resolves fault found
     by fine (inl (inr (derivable, inr (inr (inl (x, fieldless, is)))))) = fine.0.fielded x fieldless
     by fine (inl (inr (derivable, inr (inr (inr (inl rowless)))))) = fine.0.written e rowless
     by fine (inl (inr (derivable, inr (inr (inr (inr disallowed)))))) = fine.0.allowed e disallowed
-    by fine (inr (clear, (structs, resolved, unbounded))) = bounded c ds structs e (fine.1 structs resolved) unbounded
+    by fine (inr (clear, (resolved, resolves, unbounded))) = bounded c ds resolved e (fine.1 resolved resolves) unbounded
 
 long_and_short : (n : ℕ) → most_bytes < n → n ≤ most_bytes → ⊥
 long_and_short n long short = omega arith

@@ -1,4 +1,4 @@
--- What declarations are resolved to (the serde data model): structs with named fields, with unnamed ones, and without fields.
+-- What declarations are resolved to (the serde data model): declarations with named fields, with unnamed ones, and without fields.
 use Rattle.std.specs.Prelude.{ℕ, zero, suc, List, [], ◌∷◌, Bool, true, false, not, ◌&&◌, Option, Some, None, option_map, option_and_then}
 use Rattle.diag.specs.declared.rename_row.RenameRow.{RenameRow}
 use Rattle.written_types.specs.declared.written.Ident.{Ident}
@@ -28,7 +28,7 @@ pub data FormOf : Type 0 where
   unnamed_fields : List Open → FormOf
   no_fields : FormOf
 
-pub record StructOf : Type 0 where
+pub record DeclarationOf : Type 0 where
   pub name : List ℕ
   pub deprecated : Bool
   pub description : Option (List ℕ)
@@ -67,15 +67,15 @@ types_of (named_fields denies ms) = member_types ms
 types_of (unnamed_fields ts) = ts
 types_of no_fields = []
 
--- the struct at a place; past the end, one without a name
-abbrev pub struct_at : List StructOf → ℕ → StructOf
-struct_at [] d = record { name = []; deprecated = false; description = None; form = no_fields }
-struct_at (s ∷ ss) zero = s
-struct_at (s ∷ ss) (suc d) = struct_at ss d
+-- the declaration at a place; past the end, one without a name
+abbrev pub declaration_at : List DeclarationOf → ℕ → DeclarationOf
+declaration_at [] d = record { name = []; deprecated = false; description = None; form = no_fields }
+declaration_at (s ∷ ss) zero = s
+declaration_at (s ∷ ss) (suc d) = declaration_at ss d
 
-abbrev pub struct_names : List StructOf → List (List ℕ)
-struct_names [] = []
-struct_names (s ∷ ss) = s.name ∷ struct_names ss
+abbrev pub declaration_names : List DeclarationOf → List (List ℕ)
+declaration_names [] = []
+declaration_names (s ∷ ss) = s.name ∷ declaration_names ss
 
 -- ---- resolving
 
@@ -126,8 +126,8 @@ abbrev pub body_form : Around → FieldRules → BodyItem → Option FormOf
 body_form around rules (struct_body fs) = form_of around rules fs
 
 -- what a declaration is resolved to, where it has a form
-abbrev pub struct_from : List AttributeItem → Ident → FormOf → StructOf
-struct_from attributes x form = record { name = x.text; deprecated = is_deprecated attributes; description = description_of attributes; form = form }
+abbrev pub declaration_from : List AttributeItem → Ident → FormOf → DeclarationOf
+declaration_from attributes x form = record { name = x.text; deprecated = is_deprecated attributes; description = description_of attributes; form = form }
 
-abbrev pub struct_of : Around → DeclaredItem → Option StructOf
-struct_of around d = option_map (struct_from d.attrs d.ident) (body_form around (field_rules (serde_items d.attrs)) d.body)
+abbrev pub resolved_of : Around → DeclaredItem → Option DeclarationOf
+resolved_of around d = option_map (declaration_from d.attrs d.ident) (body_form around (field_rules (serde_items d.attrs)) d.body)

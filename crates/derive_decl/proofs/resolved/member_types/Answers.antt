@@ -1,7 +1,7 @@
 use Rattle.std.proofs.Common.{◌≡◌, map, take, ap, ◌∙◌, arith}
 use Rattle.std.proofs.lemmas.Grind.{common_steps}
 use Rattle.derive_decl.proofs.Members.{type_in, types_are}
-use Rattle.derive_decl.proofs.structs.member_types.Goals as goal
+use Rattle.derive_decl.proofs.resolved.member_types.Goals as goal
 
 pub returns : goal.returns
 returns c =

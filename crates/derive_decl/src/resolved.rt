@@ -1,9 +1,9 @@
 ghost use Rattle.std.specs.Prelude.{◌≡◌, map, IfOk};
 ghost use Rattle.open_types.specs.Open.{open_view};
-ghost use Rattle.derive_decl.specs.Structs.{member_types, types_of};
+ghost use Rattle.derive_decl.specs.Resolved.{member_types, types_of};
 ghost use Rattle.component.specs.Leaves.{term_view};
 ghost use Rattle.derive_decl.specs.Terms.{term};
-ghost use Rattle.derive_decl.specs.Views.{member_view, variant_view, struct_view};
+ghost use Rattle.derive_decl.specs.Views.{member_view, variant_view, resolved_view};
 
 use crate::member::Member;
 use crate::schema_variant::SchemaVariant;
@@ -12,9 +12,9 @@ use diag::{DeriveError, List, Text};
 use open_types::OpenType;
 use std::alloc::{AllocError, Global};
 
-/// A declared struct with resolved types.
+/// A declaration with resolved types.
 #[derive(Debug, Drop)]
-pub struct Struct {
+pub struct Resolved {
     pub name: Text,
     pub form: SchemaVariant,
 }
@@ -41,23 +41,23 @@ pub(crate) fn types_of(alloc: Global, form: SchemaVariant) -> Result<List<OpenTy
     }
 }
 
-impl Struct {
+impl Resolved {
     /// The schema of the declaration, as a term.
     pub fn term(&self, alloc: Global) -> Result<Term, AllocError>
-        ensures { IfOk result (λ t. term_view t ≡ term (struct_view self.now)) }
+        ensures { IfOk result (λ t. term_view t ≡ term (resolved_view self.now)) }
     {
         self.form.term(alloc)
     }
 }
 
-impl ToTerm for Struct {
+impl ToTerm for Resolved {
     ghost use Rattle.std.specs.Prelude.{◌≡◌};
     ghost use Rattle.derive_decl.specs.Terms.{term};
-    ghost use Rattle.derive_decl.specs.Views.{struct_view};
+    ghost use Rattle.derive_decl.specs.Views.{resolved_view};
 
     ghost is_ready = { λ _. Unit {0} };
 
-    ghost has_term = { λ s t. t ≡ term (struct_view s) };
+    ghost has_term = { λ s t. t ≡ term (resolved_view s) };
 
     ghost is_refused = { λ _ _. ⊥ };
 
