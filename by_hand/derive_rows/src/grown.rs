@@ -1,10 +1,10 @@
 //! Texts and lists.
 
 use anyhow::bail;
-use diag::{List, Text};
 use rows::given::{count_of, list_of, pair_of, text_of};
 use serde_json::Value;
 use std::alloc::{AllocError, Global};
+use texts::{List, Text};
 
 /// The texts, one pushed behind the other, in a copy.
 pub(crate) fn text(alloc: Global, given: &Value) -> anyhow::Result<String> {

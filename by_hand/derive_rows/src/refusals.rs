@@ -1,8 +1,9 @@
 //! Refusals, and what they report.
 
-use diag::{DeriveError, Diagnostics, Text};
+use diag::{DeriveError, Diagnostics};
 use rows::report_text;
 use std::alloc::{AllocError, Global};
+use texts::Text;
 
 /// How many instances there are and the first two, or nothing where there are none.
 fn instances_text(alloc: Global, instances: &[Text]) -> Result<String, AllocError> {

@@ -1,11 +1,12 @@
 //! Rename rules, their tables, and what names become by them.
 
 use anyhow::bail;
-use diag::{RenamePlace, RenameRow, RenameRule, RenameTable, Text};
+use diag::{RenamePlace, RenameRow, RenameRule, RenameTable};
 use rows::given::{items_at, list_of, text_of};
 use serde_json::Value;
 use std::alloc::{AllocError, Global};
 use std::str::FromStr;
+use texts::Text;
 
 const RULES: [RenameRule; 8] = [
     RenameRule::Lower,

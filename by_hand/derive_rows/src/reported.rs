@@ -3,10 +3,11 @@
 use crate::refusals::{refused, reported};
 use crate::{grown, renamed};
 use anyhow::bail;
-use diag::{DeriveError, Diagnostics, Kind, Span, Suggestion, Text};
+use diag::{DeriveError, Diagnostics, Kind, Suggestion};
 use rows::given::{count_of, items_at, list_of, member, pair_of, text_at, text_of};
 use serde_json::Value;
 use std::alloc::{AllocError, Global};
+use texts::{Span, Text};
 
 /// All kinds, as they are declared.
 const KINDS: [Kind; 26] = [

@@ -4,7 +4,7 @@ use crate::refusals::refused;
 use crate::renamed::table_of;
 use anyhow::bail;
 use attributes::{Attribute, attributes_at};
-use diag::{List, RenameRule, RenameTable};
+use diag::{RenameRule, RenameTable};
 use lexing::lex;
 use rows::given::{pair_of, text_at, text_of};
 use serde_json::Value;
@@ -15,6 +15,7 @@ use serde_rules::{
 };
 use std::alloc::{AllocError, Global};
 use std::str::FromStr;
+use texts::List;
 
 /// What the call of the crate `serde_rules` answers.
 pub(crate) fn told(alloc: Global, call: &str, given: &Value) -> anyhow::Result<String> {

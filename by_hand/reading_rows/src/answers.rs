@@ -1,7 +1,7 @@
 //! Texts of answers that many calls share.
 
-use diag::Span;
 use std::alloc::{AllocError, Global};
+use texts::Span;
 use tokens::TokenTree;
 use words::Stop;
 

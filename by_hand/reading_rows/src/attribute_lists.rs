@@ -6,10 +6,10 @@ use anyhow::bail;
 use attributes::{
     Attribute, CommentAttributes, Meta, SerdeItem, attributes_at, is_inner_doc, serde_items,
 };
-use diag::List;
 use rows::given::{pair_of, text_of};
 use serde_json::Value;
 use std::alloc::{AllocError, Global};
+use texts::List;
 
 /// The first word of the path.
 pub(crate) fn first_word(attribute: &Attribute) -> &str {

@@ -1,11 +1,11 @@
 //! What calls are given.
 
 use anyhow::{Context, bail};
-use diag::{List, Span};
 use lexing::lex;
 use rows::given::{count_of, list_of, pair_of, text_of};
 use serde_json::Value;
 use std::alloc::Global;
+use texts::{List, Span};
 use tokens::TokenTree;
 
 /// The text, and how often it stands.

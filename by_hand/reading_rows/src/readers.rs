@@ -3,7 +3,7 @@
 use crate::answers::{bytes, stopped, then_left};
 use crate::inputs::{first_tree, source_trees, span, two_sources};
 use anyhow::bail;
-use diag::Span;
+use texts::Span;
 use words::after_comma;
 use rows::given::pair_of;
 use serde_json::Value;

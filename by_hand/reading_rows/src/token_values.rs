@@ -1,10 +1,10 @@
 //! The values of tokens.
 
 use crate::inputs::source;
-use diag::{Span, Text};
 use literal_values::{LiteralValue, literal_value, text_value};
 use serde_json::Value;
 use std::alloc::{AllocError, Global};
+use texts::{Span, Text};
 use tokens::{Token, TokenKind};
 
 /// The kinds of tokens that are no literals, by their names.

@@ -3,12 +3,12 @@
 use crate::answers::{copied, equality};
 use crate::inputs::{first_tree, source, source_trees, two_sources};
 use anyhow::{Context, bail};
-use diag::List;
 use lexing::lex;
 use rows::given::{count_of, list_of};
 use rows::refusal_text;
 use serde_json::Value;
 use std::alloc::{AllocError, Global};
+use texts::List;
 use tokens::{Cursor, Token, TokenTree, copy_trees};
 
 /// The kind, the text and the span of a token.

@@ -4,12 +4,12 @@ use crate::forms::form_text;
 use crate::judged::named_accepts;
 use crate::written::schema;
 use anyhow::{Context, bail};
-use diag::Text;
 use filling::copy_schema;
 use rows::given::text_at;
 use schema_core::Components;
 use serde_json::Value;
 use std::alloc::{AllocError, Global};
+use texts::Text;
 
 /// What is asked of components.
 #[derive(Clone, Copy)]

@@ -1,9 +1,9 @@
 //! Schemas put at the leaves of a schema.
 
-use diag::List;
 use filling::{CopyLeaf, Fill};
 use schema_core::{Additional, Notes, Object, RefLeaf, Schema, SchemaTypeInner, Tree, TypeWord};
 use std::alloc::{AllocError, Global};
+use texts::List;
 
 /// In the place of each reference an object with that reference under its name.
 pub(crate) struct Objects;

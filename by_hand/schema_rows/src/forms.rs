@@ -2,11 +2,11 @@
 
 use crate::filled::Objects;
 use crate::written::schema;
-use diag::Text;
 use filling::{copied, copy_schema, filled};
 use schema_core::{Components, Schema};
 use serde_json::Value;
 use std::alloc::{AllocError, Global};
+use texts::Text;
 
 /// What is asked of a schema.
 #[derive(Clone, Copy)]

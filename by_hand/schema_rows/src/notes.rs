@@ -1,10 +1,10 @@
 //! Notes as rows write them, under the names that they have in JSON.
 
 use anyhow::bail;
-use diag::{List, Text};
 use schema_core::{Json, Notes};
 use serde_json::Value;
 use std::alloc::{AllocError, Global};
+use texts::{List, Text};
 
 pub(crate) fn text(alloc: Global, given: &Value, name: &str) -> Result<Option<Text>, AllocError> {
     match given.get(name).and_then(Value::as_str) {

@@ -4,7 +4,6 @@ use crate::forms::form_text;
 use crate::notes::text;
 use crate::terms::term_text;
 use component::{Place, any_object, noted, null_default, place_term};
-use diag::{List, Text};
 use open_types::OpenType;
 use rows::given::{count_at, is_said, items_at};
 use schema_core::{Notes, RefLeaf, Tree};
@@ -12,6 +11,7 @@ use scopes::ComponentDescription;
 use serde_json::Value;
 use std::alloc::{AllocError, Global};
 use syntax::CommentAttributes;
+use texts::{List, Text};
 
 /// The doc comments of the row, line by line.
 pub(crate) fn comments(alloc: Global, given: &Value) -> Result<CommentAttributes, AllocError> {

@@ -1,8 +1,8 @@
 //! What declarations are resolved to.
 
 use derive_decl::{Member, SchemaVariant, Resolved};
-use diag::Text;
 use std::alloc::{AllocError, Global};
+use texts::Text;
 
 /// Adds the names of the members, with `?` where one need not be there.
 fn push_members(text: &mut String, members: &[Member]) -> Result<(), AllocError> {

@@ -4,11 +4,11 @@ ghost use Rattle.std.specs.Prelude.{◌<◌, ℕ, IfOk};
 ghost use Rattle.inlining.specs.Inlining.{AreTargets, IsAmong};
 
 use anyhow::bail;
-use diag::List;
 use inlining::{Depth, are_more_copies, inline_order};
 use rows::given::{count_at, count_of, list_at, list_of};
 use serde_json::Value;
 use std::alloc::Global;
+use texts::List;
 
 /// The targets of one of `count` declarations, each as often as it is to stand there.
 fn row_of(alloc: Global, given: &Value, times: usize, count: usize) -> anyhow::Result<List<usize>>

@@ -2,11 +2,11 @@
 
 use crate::forms::form_text;
 use component::{Term, TermLeaf};
-use diag::Text;
 use filling::{Fill, filled};
 use open_types::OpenType;
 use schema_core::{Notes, RefLeaf, Schema, Tree};
 use std::alloc::{AllocError, Global};
+use texts::Text;
 
 /// References at the leaves of a term.
 struct References;

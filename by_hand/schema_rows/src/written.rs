@@ -6,7 +6,6 @@
 
 use crate::notes::{jsons, notes, text};
 use anyhow::{Context, bail};
-use diag::{List, Text};
 use filling::copy_schema;
 use rows::given::{is_said, items_at, text_at, text_of};
 use schema_core::{
@@ -15,6 +14,7 @@ use schema_core::{
 };
 use serde_json::Value;
 use std::alloc::Global;
+use texts::{List, Text};
 
 fn word(given: &Value) -> anyhow::Result<SchemaTypeInner> {
     match given.as_str().context("a word of a type")? {

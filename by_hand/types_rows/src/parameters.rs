@@ -4,11 +4,11 @@ use crate::parts::push_after;
 use crate::resolved::{closed, read_in};
 use crate::samples::{DECLARED, Sample, read_sample};
 use anyhow::{bail, ensure};
-use diag::List;
 use open_types::{ClosedType, same_types_are_equal, substitute};
 use rows::given::{count_of, list_of, text_of};
 use serde_json::Value;
 use std::alloc::Global;
+use texts::List;
 
 /// The copy of the type in full.
 pub(crate) fn copied(alloc: Global, given: &Value) -> anyhow::Result<String> {

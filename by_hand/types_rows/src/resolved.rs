@@ -2,7 +2,7 @@
 
 ghost use Rattle.std.specs.Prelude.{◌≡◌, ◌<◌, IfOk, length};
 ghost use Rattle.open_types.specs.Open.{open_view, IsClosed};
-ghost use Rattle.resolving.specs.Resolved.{IsWithin};
+ghost use Rattle.open_types.specs.Within.{IsWithin};
 ghost use Rattle.syntax.specs.Items.{declarations_view};
 
 use anyhow::ensure;

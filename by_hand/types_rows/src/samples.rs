@@ -3,11 +3,11 @@
 
 use crate::resolved::read_in;
 use anyhow::{Context, bail};
-use diag::List;
 use open_types::{Leaf, OpenType};
 use resolving::Head;
 use std::alloc::{AllocError, Global};
 use std::marker::Model;
+use texts::List;
 
 /// The source in which the types without parameters are read.
 pub(crate) const DECLARED: &str = "struct A; struct B;";

@@ -1,7 +1,8 @@
 -- What is accepted at a depth is accepted at each greater depth.
 use Rattle.std.proofs.Common.{ℕ, zero, suc, List, [], ◌∷◌, Bool, true, false, ◌&&◌, ◌||◌, ◌≤◌, Option, Some, None, drop, ◌≡◌, ◌∙◌, refl, ap, arith}
 use Rattle.std.specs.List.{list_all}
-use Rattle.acceptance.specs.Json.{Json, null, boolean, number, text, list, map, Items, no_items, item, Members, no_members, member, elements, entries, is_in, look, on_map, on_list, if_there}
+use Rattle.acceptance.specs.Json.{Json, null, boolean, number, text, list, map, Items, no_items, item, Members, no_members, member, elements, entries, look, on_map, on_list, if_there}
+use Rattle.texts.specs.Names.{is_in}
 use Rattle.acceptance.specs.Keyword.{Keyword, keyword_of}
 use Rattle.acceptance.specs.Keyword as keyword
 use Rattle.acceptance.specs.Acceptance.{Readings, keyword_holds, others_pass, names_pass, named, prefix_count, target_of, at_target, reference_holds, accepts_with, members_hold, properties_accept, each_property, prefix_accepts, in_order, all_accept, each_accepts, one_accepts, some_accepts, component_schema, if_component, component_accepts, accepts}

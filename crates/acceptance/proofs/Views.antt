@@ -7,7 +7,8 @@ use Rattle.std.specs.Cmp.Lexicographic.{slice_cmp}
 use Rattle.std.specs.Map.{lookup}
 use Rattle.serde_json.specs.View.{view}
 use Rattle.serde_json.specs.declared.value.Value.{Value}
-use Rattle.acceptance.specs.Json.{Json, elements, entries, look, is_in, names, same, same_items}
+use Rattle.acceptance.specs.Json.{Json, elements, entries, look, names, same, same_items}
+use Rattle.texts.specs.Names.{is_in}
 use Rattle.acceptance.specs.Data.{json_of}
 use Rattle.acceptance.specs.Layer.{json_of_values, json_of_entries}
 

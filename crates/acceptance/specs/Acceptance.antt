@@ -3,7 +3,8 @@
 -- and a member that is not of its stated form binds nothing, like every member that is no keyword here.
 use Rattle.std.specs.Prelude.{ℕ, zero, suc, ◌%◌, ℤ, pos, negsuc, List, [], ◌∷◌, Bool, true, false, not, ◌&&◌, ◌||◌, ◌==◌, Option, Some, None, option_map, option_and_then, nat_eq, int_le, length, drop, cond, codes, chars, IsTrue}
 use Rattle.std.specs.List.{list_all, list_any}
-use Rattle.acceptance.specs.Json.{Json, null, boolean, number, text, list, map, Items, no_items, item, Members, no_members, member, elements, entries, names, is_in, look, same, distinct, on_map, on_list, on_number, on_text, if_there, member_of}
+use Rattle.acceptance.specs.Json.{Json, null, boolean, number, text, list, map, Items, no_items, item, Members, no_members, member, elements, entries, names, look, same, distinct, on_map, on_list, on_number, on_text, if_there, member_of}
+use Rattle.texts.specs.Names.{is_in}
 use Rattle.acceptance.specs.Keyword.{Keyword, keyword_of}
 use Rattle.acceptance.specs.Keyword as keyword
 

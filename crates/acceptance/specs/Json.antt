@@ -4,6 +4,7 @@ use Rattle.std.specs.Prelude.{ℕ, suc, max, ℤ, List, [], ◌∷◌, Bool, tru
 use Rattle.std.specs.List.{list_all, list_any}
 use Rattle.std.specs.Ordering.{int_eq, nat_cmp, match_ordering}
 use Rattle.std.specs.Cmp.Lexicographic.{slice_cmp}
+use Rattle.texts.specs.Names.{is_in}
 
 mutual
   pub data Json : Type 0 where
@@ -34,9 +35,6 @@ entries (member k x ms) = (k, x) ∷ entries ms
 abbrev pub names : List (List ℕ × Json) → List (List ℕ)
 names [] = []
 names (e ∷ es) = e.0 ∷ names es
-
-abbrev pub is_in : List ℕ → List (List ℕ) → Bool
-is_in k ks = list_any (bytes_eq k) ks
 
 -- the value at the name
 abbrev pub look : List ℕ → List (List ℕ × Json) → Option Json

@@ -1,7 +1,8 @@
 ghost use Rattle.std.specs.Prelude.{◌≡◌, List, ℕ, length, chars, int_le, pos, option_map};
 ghost use Rattle.std.specs.List.{list_any, list_all};
 ghost use Rattle.acceptance.specs.Acceptance.{Readings, keyword_holds, kinds_of, texts_of, type_holds, enum_holds, required_holds, unique_holds, is_multiple};
-ghost use Rattle.acceptance.specs.Json.{Members, entries, names as names_in, is_in};
+ghost use Rattle.acceptance.specs.Json.{Members, entries, names as names_in};
+ghost use Rattle.texts.specs.Names.{is_in};
 ghost use Rattle.acceptance.specs.Kinds.{assertion_meant, comparison_meant, limit_meant, limit_holds, comparison_holds};
 ghost use Rattle.acceptance.specs.Keyword.{min_length, max_length, min_properties, max_properties, min_items, max_items};
 ghost use Rattle.acceptance.specs.Layer.{json_of_layer, json_of_values, json_of_entries};

@@ -1,6 +1,7 @@
 ghost use Rattle.std.specs.Prelude.{◌≡◌};
 ghost use Rattle.std.specs.List.{list_any, list_all};
-ghost use Rattle.acceptance.specs.Json.{same, same_items, same_members, elements, entries, names, is_in, distinct};
+ghost use Rattle.acceptance.specs.Json.{same, same_items, same_members, elements, entries, names, distinct};
+ghost use Rattle.texts.specs.Names.{is_in};
 ghost use Rattle.acceptance.specs.Layer.{json_of_layer, json_of_values, json_of_entries};
 
 use crate::layer::{Layer, has_member, layer_of, member_at};

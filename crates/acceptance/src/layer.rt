@@ -1,7 +1,8 @@
 ghost use Rattle.std.specs.Prelude.{◌≡◌, option_map, length};
 ghost use Rattle.serde_json.specs.View.{number_view};
 ghost use Rattle.acceptance.specs.Data.{number_of};
-ghost use Rattle.acceptance.specs.Json.{look, is_in, names, entries, elements};
+ghost use Rattle.acceptance.specs.Json.{look, names, entries, elements};
+ghost use Rattle.texts.specs.Names.{is_in};
 ghost use Rattle.acceptance.specs.Layer.{json_of_layer, json_of_value, json_of_values, json_of_entries};
 
 use serde_json::{Map, Number, Value};

@@ -1,6 +1,7 @@
 ghost use Rattle.std.specs.Prelude.{◌≡◌, drop};
 ghost use Rattle.acceptance.specs.Acceptance.{named, prefix_count};
-ghost use Rattle.acceptance.specs.Json.{is_in, elements};
+ghost use Rattle.acceptance.specs.Json.{elements};
+ghost use Rattle.texts.specs.Names.{is_in};
 ghost use Rattle.acceptance.specs.Layer.{json_of_entries, json_of_values};
 
 use crate::layer::{Layer, has_member, item_count, member_at};

@@ -1,7 +1,7 @@
 -- Paths of attributes: what is read is the grammar's, and no less.
 use Rattle.std.proofs.Common.{◌≡◌, ◌∙◌, ◌⊎◌, inl, inr, List, [], ◌∷◌, ◌++◌, refl, ap, sym, subst, Bool, true, false, cond, is_some, Option, Some, None, Result, Ok, Err, append_assoc}
 use Rattle.std.proofs.lemmas.List.{append-nil}
-use Rattle.diag.specs.declared.span.Span.{Span}
+use Rattle.texts.specs.declared.span.Span.{Span}
 use Rattle.written_types.specs.declared.written.Ident.{Ident}
 use Rattle.words.specs.declared.stopping.Stop.{Stop}
 use Rattle.words.specs.declared.stopping.Stop.TheVariants as stop

@@ -1,6 +1,6 @@
 -- Serde's items: what is read is the grammar's, and no less.
 use Rattle.std.proofs.Common.{◌≡◌, ◌∙◌, ◌<◌, inl, inr, ℕ, zero, suc, List, [], ◌∷◌, length, refl, ap, sym, subst, arith, Bool, true, false, cond, is_some, Option, Some, None, Result, Ok, Err}
-use Rattle.diag.specs.declared.span.Span.{Span}
+use Rattle.texts.specs.declared.span.Span.{Span}
 use Rattle.tokens.specs.declared.token.Token.{Token}
 use Rattle.written_types.specs.declared.written.Ident.{Ident}
 use Rattle.written_types.specs.Written.{Written}

@@ -1,6 +1,6 @@
 -- Attributes: what is read is the grammar's, and no less.
 use Rattle.std.proofs.Common.{◌≡◌, ◌∙◌, ◌<◌, ◌≤◌, ℕ, zero, suc, List, [], ◌∷◌, ◌++◌, length, refl, ap, sym, subst, arith, codes, Bool, true, false, cond, ◌||◌, is_some, Option, Some, None, Result, Ok, Err}
-use Rattle.diag.specs.declared.span.Span.{Span}
+use Rattle.texts.specs.declared.span.Span.{Span}
 use Rattle.tokens.specs.declared.token.Bracket.{Bracket}
 use Rattle.tokens.specs.declared.token.Bracket.TheVariants.{Square}
 use Rattle.tokens.specs.Trees.{Trees}

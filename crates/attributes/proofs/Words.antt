@@ -1,6 +1,6 @@
 -- Paths of several words, and values of several.
 use Rattle.std.proofs.Common.{◌≡◌, ◌≤◌, ◌<◌, ℕ, List, [], ◌∷◌, length, refl, ap, sym, ◌∙◌, arith, false, Ok}
-use Rattle.diag.specs.declared.span.Span.{Span}
+use Rattle.texts.specs.declared.span.Span.{Span}
 use Rattle.written_types.specs.declared.written.PathSegment.{PathSegment}
 use Rattle.written_types.specs.Written.{WrittenPath, Segment, plain, applied, Segments, more_segments, segment_view, segments_view}
 use Rattle.words.specs.declared.vocabulary.Sign.TheVariants.{Equals}

@@ -1,6 +1,6 @@
 -- The grammar of attributes (The Rust Reference, "Attributes", "Doc comments") and of serde's lists of items (serde.rs, "Attributes"). In `IsX before x rest` the words before begin with an x, and rest is what follows it.
 use Rattle.std.specs.Prelude.{◌≡◌, ℕ, List, [], ◌∷◌, ◌++◌, Some, false, codes}
-use Rattle.diag.specs.declared.span.Span.{Span}
+use Rattle.texts.specs.declared.span.Span.{Span}
 use Rattle.tokens.specs.declared.token.Token.{Token}
 use Rattle.tokens.specs.declared.token.Bracket.{Bracket}
 use Rattle.tokens.specs.declared.token.Bracket.TheVariants.{Square}

@@ -2,8 +2,8 @@
 use Rattle.std.specs.Prelude.{ℕ, ◌-◌, List, [], ◌∷◌, length, take, drop, get_or, map, codes, Bool, false, cond, ◌||◌, Option, Some, None}
 use Rattle.std.specs.Option.{option_map}
 use Rattle.std.specs.Str.{bytes_eq}
-use Rattle.diag.specs.Span.{no_span}
-use Rattle.diag.specs.declared.span.Span.{Span}
+use Rattle.texts.specs.Span.{no_span}
+use Rattle.texts.specs.declared.span.Span.{Span}
 use Rattle.written_types.specs.declared.written.Ident.{Ident}
 use Rattle.written_types.specs.Written.{WrittenPath, path_of, plain, segments_of}
 use Rattle.words.specs.Words.{Word, name, underscore, keyword, doc, cover}

@@ -1,7 +1,7 @@
 -- Attributes, without where they lie in memory (The Rust Reference, "Attributes").
 use Rattle.std.specs.Prelude.{ℕ, List, [], ◌∷◌, Bool, false, not, ◌&&◌, ◌||◌, codes, Option, Some, None}
 use Rattle.std.specs.Str.{bytes_eq}
-use Rattle.diag.specs.declared.span.Span.{Span}
+use Rattle.texts.specs.declared.span.Span.{Span}
 use Rattle.tokens.specs.declared.token.Bracket.{Bracket}
 use Rattle.tokens.specs.Trees.{Trees, trees_view}
 use Rattle.written_types.specs.Written.{WrittenPath, path_of, Segments, no_segments, more_segments, plain, path_view}

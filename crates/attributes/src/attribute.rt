@@ -2,7 +2,7 @@ ghost use Rattle.std.specs.Prelude.{◌≡◌};
 ghost use Rattle.written_types.specs.Written.{path_view, segments_view};
 ghost use Rattle.attributes.specs.Attributes.{is_only, is_word};
 
-use diag::{List, Span, Text};
+use texts::{List, Span, Text};
 use tokens::{Group, TokenTree};
 use written_types::{Path, PathSegment};
 

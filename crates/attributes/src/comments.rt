@@ -8,9 +8,9 @@ ghost use Rattle.attributes.specs.Attributes.{attribute_view, meta_view};
 ghost use Rattle.attributes.specs.Comments.{listed, said_by, docs_of, indent, margin, unindented, lines_of, joined};
 
 use crate::attribute::{Attribute, Meta};
-use diag::{List, Text};
 use literal_values::text_value;
 use std::alloc::{AllocError, Global};
+use texts::{List, Text};
 use words::{Word, word_of};
 
 /// The texts of doc comments, each perhaps of several lines.

@@ -9,8 +9,8 @@ ghost use Rattle.attributes.specs.Attributes.{attribute_view};
 ghost use Rattle.attributes.specs.AttributeWords.{unclosed, outer_text, is_inner_text, as_outer_doc, doc_path, doc_attribute, is_inner_doc};
 
 use crate::attribute::{Attribute, Meta};
-use diag::{List, Span, Text};
 use std::alloc::{AllocError, Global};
+use texts::{List, Span, Text};
 use tokens::TokenTree;
 use words::{Word, word_of};
 use written_types::{Ident, Path, PathSegment};

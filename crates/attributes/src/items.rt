@@ -13,9 +13,9 @@ use crate::attribute::{Attribute, Meta};
 use crate::meta::Form;
 use crate::path::ident_at;
 use crate::serde_item::{SerdeItem, SerdeText};
-use diag::{List, Span};
 use literal_values::text_value;
 use std::alloc::{AllocError, Global};
+use texts::{List, Span};
 use tokens::{Group, TokenTree};
 use words::{Sign, Stop, after_comma, ident_of, literal_at, optional_sign, stop_at};
 

@@ -7,8 +7,8 @@ ghost use Rattle.words.specs.Reading.{Gives};
 ghost use Rattle.attributes.specs.AttributeWords.{extent, path_item};
 ghost use Rattle.attributes.specs.AttributeReading.{ident_at, idents_at, path_at};
 
-use diag::{List, Span};
 use std::alloc::{AllocError, Global};
+use texts::{List, Span};
 use tokens::{Token, TokenTree};
 use words::{Sign, Stop, Word, covering, ident_of, optional_sign, stop_at, word_of};
 use written_types::{Ident, Path, PathSegment};

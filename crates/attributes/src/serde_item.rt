@@ -1,4 +1,4 @@
-use diag::{Span, Text};
+use texts::{Span, Text};
 use written_types::Ident;
 
 /// The value of a string literal, and where the literal stands.

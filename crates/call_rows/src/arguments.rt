@@ -5,13 +5,13 @@ ghost use Rattle.open_types.specs.Open.{open_view, items, named, no_types, more_
 ghost use Rattle.open_types.specs.declared.open_type.ListHead.TheVariants.{Vec as AnyVec};
 
 use anyhow::ensure;
-use diag::{List, Text};
 use open_types::{ClosedType, ListHead, OpenType, substitute};
 use rows::given::text_of;
 use scopes::type_text;
 use serde_json::Value;
 use std::alloc::{AllocError, Global};
 use syntax::parse_declarations;
+use texts::{List, Text};
 
 /// The first declaration with a `Vec` of the first parameter as its argument.
 fn first_of_parameter(alloc: Global) -> Result<OpenType, AllocError>

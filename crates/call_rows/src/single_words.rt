@@ -2,12 +2,12 @@
 
 use anyhow::bail;
 use configuration::{Config, SchemaCollect};
-use diag::Text;
 use lexing::lex;
 use rows::given::text_of;
 use serde_json::Value;
 use serde_rules::SerdeEnumRepr;
 use std::alloc::{AllocError, Global};
+use texts::Text;
 use tokens::{Cursor, TokenTree};
 use words::lifetime_at;
 

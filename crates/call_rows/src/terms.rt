@@ -10,7 +10,7 @@ ghost use Rattle.syntax.specs.Items.{declarations_view};
 use component::{Term, ToTerm, copy_term};
 use configuration::Config;
 use derive_decl::{Resolved, Schema, SchemaVariant};
-use diag::{DeriveError, List};
+use diag::DeriveError;
 use place_schemas::{ComponentSchema, ComponentSchemaProps};
 use rows::given::{is_said, pair_of, text_of};
 use rows::refusal_text;
@@ -20,6 +20,7 @@ use serde_json::Value;
 use std::alloc::{AllocError, Global};
 use std::collections::BTreeMap;
 use syntax::{CommentAttributes, Declaration, Declarations, parse_declarations, parse_type};
+use texts::List;
 use type_tree::TypeTree;
 
 /// Adds the form of the term, behind a space where another stands before it.

@@ -4,7 +4,8 @@ use Rattle.std.specs.Cmp.Lexicographic.{slice_cmp}
 use Rattle.std.specs.List.{AllByRecursion}
 use Rattle.std.specs.List.Sorted.{IsStrictlySortedBy}
 use Rattle.std.proofs.lemmas.Map.Text.{is_eq-slice_cmp}
-use Rattle.acceptance.specs.Json.{Json, is_in}
+use Rattle.acceptance.specs.Json.{Json}
+use Rattle.texts.specs.Names.{is_in, IsDistinct}
 use Rattle.acceptance.specs.Acceptance.{accepts_with, component_schema, component_accepts, if_component, accepts, Accepts}
 use Rattle.acceptance.specs.References.{EachReference}
 use Rattle.schema_core.specs.declared.tree.RefLeaf.{RefLeaf}
@@ -14,10 +15,10 @@ use Rattle.schema_core.specs.Form.{form}
 use Rattle.schema_core.specs.Document.{Entry, document}
 use Rattle.schema_core.specs.Entries.{names_of, find, IsInOrder}
 use Rattle.schema_core.specs.declared.notes.Notes.{Notes}
-use Rattle.schema_core.specs.Meaning.{IsDistinct, IsProper, tree_accepts, FormsAccept, FormsRefer, DocumentsHold}
+use Rattle.schema_core.specs.Meaning.{IsProper, tree_accepts, FormsAccept, FormsRefer, DocumentsHold}
 use Rattle.open_types.specs.Open.{Open, Opens, leaf, any_value, free_object, unit, tuple, items, set, map_of, option, through, no_types, more_types}
 use Rattle.open_types.specs.Open as types
-use Rattle.resolving.specs.Resolved.{IsWithin, AreWithin as OpensWithin}
+use Rattle.open_types.specs.Within.{IsWithin, AreWithin as OpensWithin}
 use Rattle.component.specs.Leaves.{LeafOf, param, named}
 use Rattle.derive_decl.specs.Resolved.{DeclarationOf, declaration_at, names_of as member_names_of, types_of}
 use Rattle.derive_decl.specs.Shape.{shape, HasShape}

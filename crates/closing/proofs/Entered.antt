@@ -13,14 +13,12 @@ use Rattle.schema_core.specs.declared.tree.RefLeaf.{RefLeaf}
 use Rattle.schema_core.specs.Schema.{SchemaOf}
 use Rattle.schema_core.specs.Document.{Entry}
 use Rattle.schema_core.specs.Entries.{find, names_of, with_entry, IsInOrder}
-use Rattle.scopes.specs.Names.{place_in}
+use Rattle.texts.specs.Names.{is_in, IsDistinct, place_in}
 use Rattle.derive_decl.specs.declared.resolved.Resolved.{Resolved}
 use Rattle.derive_decl.specs.Resolved.{DeclarationOf, declaration_at, declaration_names}
 use Rattle.derive_decl.specs.Views.{resolved_view}
 use Rattle.closing.specs.Closed.{declared_schema}
 use Rattle.closing.specs.Described.{AreComponents}
-use Rattle.acceptance.specs.Json.{is_in}
-use Rattle.schema_core.specs.Meaning.{IsDistinct}
 
 pub declaration_at-view : (resolved : List Resolved) (d : ℕ) (x : Resolved) → d < length resolved → declaration_at (map resolved_view resolved) d ≡ resolved_view (get_or resolved d x)
 declaration_at-view [] d x l = absurd (omega arith)

@@ -4,7 +4,8 @@ use Rattle.schema_core.specs.declared.notes.Notes.{Notes}
 use Rattle.schema_core.specs.Notes.{no_notes}
 use Rattle.schema_core.specs.Schema.{SchemaOf, property_names, EachLeaf, EachSchemaLeaf, EachPropertyLeaf}
 use Rattle.schema_core.specs.Schema as tree
-use Rattle.schema_core.specs.Meaning.{IsDistinct, IsProper, AreProper, ArePropertiesProper}
+use Rattle.schema_core.specs.Meaning.{IsProper, AreProper, ArePropertiesProper}
+use Rattle.texts.specs.Names.{IsDistinct}
 use Rattle.open_types.specs.Open.{Open, Opens, leaf, any_value, free_object, unit, tuple, items, set, map_of, option, through, no_types, more_types}
 use Rattle.open_types.specs.Open as types
 use Rattle.component.specs.Leaves.{LeafOf, param, named}

@@ -8,9 +8,9 @@ use Rattle.schema_core.specs.Schema.{leaf}
 use Rattle.schema_core.specs.Form.{form}
 use Rattle.schema_core.specs.Document.{Entry, document}
 use Rattle.schema_core.specs.Entries.{find, names_of, IsInOrder}
-use Rattle.schema_core.specs.Meaning.{IsDistinct}
+use Rattle.texts.specs.Names.{IsDistinct}
 use Rattle.open_types.specs.Open.{Open}
-use Rattle.resolving.specs.Resolved.{IsWithin}
+use Rattle.open_types.specs.Within.{IsWithin}
 use Rattle.derive_decl.specs.Resolved.{DeclarationOf, declaration_at, declaration_names, types_of}
 use Rattle.derive_decl.specs.Shape.{HasShape}
 use Rattle.derive_decl.specs.Plain.{IsPlain}

@@ -14,11 +14,11 @@ ghost use Rattle.closing.specs.Described.{AreWithin};
 
 use component::{Term, TermLeaf};
 use derive_decl::Resolved;
-use diag::{List, Text};
 use filling::{Fill, copy_schema, filled};
 use open_types::OpenType;
 use schema_core::{Additional, Notes, Object, RefLeaf, Schema, Tree, TypeWord};
 use std::alloc::{AllocError, Global};
+use texts::{List, Text};
 
 /// What stands at the leaves of a term: the schemas of declarations, as far as they are made, and references to components.
 #[derive(Clone, Copy)]

@@ -1,7 +1,7 @@
 //! The components of declarations.
 
 ghost use Rattle.std.specs.Prelude.{◌≡◌, length, map, IfOk};
-ghost use Rattle.schema_core.specs.Meaning.{IsDistinct};
+ghost use Rattle.texts.specs.Names.{IsDistinct};
 ghost use Rattle.component.specs.Leaves.{term_view};
 ghost use Rattle.derive_decl.specs.Resolved.{declaration_names};
 ghost use Rattle.derive_decl.specs.Terms.{term};

@@ -10,10 +10,10 @@ ghost use Rattle.closing.specs.Targets.{inlined_among, targets_in};
 
 use component::{Term, TermLeaf};
 use derive_decl::Resolved;
-use diag::{List, Text};
 use open_types::OpenType;
 use schema_core::{Additional, Array, ArrayItems, Object, Tree};
 use std::alloc::{AllocError, Global};
+use texts::{List, Text};
 
 /// The terms of the declarations, in their order.
 pub fn terms_of(alloc: Global, resolved: &[Resolved]) -> Result<List<Term>, AllocError>

@@ -11,11 +11,11 @@ use crate::schemas::{
     or_null, tuple_of,
 };
 use crate::term::{Term, TermLeaf};
-use diag::{List, Text};
 use leaves::Leaf;
 use open_types::OpenType;
 use schema_core::{Notes, SchemaTypeInner, Tree, TypeWord};
 use std::alloc::{AllocError, Global};
+use texts::{List, Text};
 
 /// What is said of a place beside its type.
 #[derive(Clone, Copy)]

@@ -4,9 +4,9 @@ ghost use Rattle.std.specs.Prelude.{◌≡◌, ◌++◌, map, IfOk, OnOk};
 ghost use Rattle.open_types.specs.Open.{open_view, opens_view};
 ghost use Rattle.component.specs.References.{reference_view, references, item_references};
 
-use diag::List;
 use open_types::OpenType;
 use std::alloc::{AllocError, Global};
+use texts::List;
 
 /// A declaration that a schema names.
 #[derive(Debug, Drop)]

@@ -6,7 +6,6 @@ ghost use Rattle.component.specs.Leaves.{leaf_view, term_view};
 ghost use Rattle.component.specs.Places.{word_of, minimum_of, type_word, where_true, noted, null_default, only_word, one_of_null, or_null, beside, in_place, leaf_object, list_of, tuple_of, map_object};
 
 use crate::term::{Term, TermLeaf};
-use diag::{List, Text};
 use leaves::{Leaf, LeafKind};
 use schema_core::{
     Additional, AllOfSchema, Array, ArrayItems, Bound, Json, Notes, Object, OneOfSchema,
@@ -14,6 +13,7 @@ use schema_core::{
 };
 use serde_json::Value;
 use std::alloc::{AllocError, Global};
+use texts::{List, Text};
 
 fn type_word(nullable: bool, word: SchemaTypeInner) -> TypeWord
     ensures { result ≡ type_word nullable word }

@@ -4,10 +4,10 @@ use Rattle.std.proofs.lemmas.List.{map_more}
 use Rattle.diag.specs.Diagnostics.{diagnostic}
 use Rattle.diag.specs.declared.diagnostics.DiangosticsInner.{DiangosticsInner}
 use Rattle.diag.specs.declared.kind.Kind.TheVariants.{InlineDepth}
-use Rattle.diag.specs.declared.span.Span.{Span}
+use Rattle.texts.specs.declared.span.Span.{Span}
 use Rattle.syntax.specs.declared.item.Declaration.{Declaration}
 use Rattle.syntax.specs.Items.{declaration_view}
-use Rattle.resolving.specs.Resolved.{Somewhere}
+use Rattle.texts.specs.Lists.{Somewhere}
 use Rattle.scopes.specs.Names.{declared_names}
 use Rattle.derive_decl.specs.declared.resolved.Resolved.{Resolved}
 use Rattle.derive_decl.specs.Resolved.{DeclarationOf, declaration_at, declaration_names}

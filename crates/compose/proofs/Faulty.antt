@@ -12,7 +12,8 @@ use Rattle.serde_rules.specs.Container.{rename_rule, IsContainerRefusal}
 use Rattle.written_types.specs.declared.written.Ident.{Ident}
 use Rattle.syntax.specs.Items.{FieldItem, named, unnamed, unit, BodyItem, struct_body, DeclaredItem}
 use Rattle.syntax.specs.Named.{HasName, IsNamedBody, AreNamed}
-use Rattle.resolving.specs.Resolved.{Fault, IsFault, IsRefusedFor, Somewhere}
+use Rattle.resolving.specs.Resolved.{Fault, IsFault, IsRefusedFor}
+use Rattle.texts.specs.Lists.{Somewhere}
 use Rattle.scopes.specs.Names.{Repeats, duplicate_message}
 use Rattle.derive_decl.specs.Fields.{FieldRules, field_rules, is_kept, kept, written_idents}
 use Rattle.derive_decl.specs.Resolved.{Around, around_of}

@@ -1,7 +1,7 @@
 -- The first attribute of two lists is that of the first list, or else of the second.
 use Rattle.std.proofs.Common.{◌≡◌, ◌∙◌, ◌<◌, ◌+◌, ℕ, suc, List, [], ◌∷◌, ◌++◌, length, drop, get_or, refl, ap, sym, Option, Some, None, Bool, true, false, cond, add-one, drop-cons}
 use Rattle.std.specs.Option.{option_or}
-use Rattle.diag.specs.declared.span.Span.{Span}
+use Rattle.texts.specs.declared.span.Span.{Span}
 use Rattle.attributes.specs.Attributes.{AttributeItem}
 use Rattle.compose.specs.Faults.{is_other, first_other}
 

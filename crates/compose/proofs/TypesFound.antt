@@ -9,7 +9,7 @@ use Rattle.std.proofs.lemmas.Slice.Eq.{bytes_eq-Decides}
 use Rattle.schema_core.specs.Document.{Entry}
 use Rattle.schema_core.specs.Entries.{find, names_of}
 use Rattle.open_types.specs.Open.{Open}
-use Rattle.scopes.specs.Names.{place_in}
+use Rattle.texts.specs.Names.{place_in}
 use Rattle.derive_decl.specs.Resolved.{DeclarationOf, declaration_at, declaration_names}
 use Rattle.closing.specs.Closed.{name_of}
 use Rattle.closing.specs.Described.{AreComponents}

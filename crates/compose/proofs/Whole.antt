@@ -4,20 +4,20 @@ use Rattle.std.specs.List.{AllByRecursion, cons_option}
 use Rattle.std.proofs.lemmas.Bool.{false≢true}
 use Rattle.std.proofs.lemmas.Option.{none-some, same_Some}
 use Rattle.std.proofs.lemmas.Slice.Eq.{bytes_eq-Decides}
-use Rattle.acceptance.specs.Json.{is_in}
+use Rattle.texts.specs.Names.{is_in, IsDistinct, place_in}
 use Rattle.diag.specs.declared.error.DeriveError.{DeriveError}
-use Rattle.diag.specs.declared.span.Span.{Span}
+use Rattle.texts.specs.declared.span.Span.{Span}
 use Rattle.diag.specs.declared.rename_rule.RenameRule.{RenameRule}
 use Rattle.diag.specs.declared.rename_row.RenameRow.{RenameRow}
 use Rattle.attributes.specs.AttributeReading.{serde_items}
 use Rattle.serde_rules.specs.declared.value.SerdeValue.{SerdeValue}
 use Rattle.serde_rules.specs.Container.{rename_rule}
-use Rattle.schema_core.specs.Meaning.{IsDistinct}
 use Rattle.written_types.specs.declared.written.Ident.{Ident}
 use Rattle.syntax.specs.Items.{FieldItem, FieldItems, named, unnamed, unit, BodyItem, struct_body, DeclaredItem}
 use Rattle.open_types.specs.Open.{Open}
-use Rattle.resolving.specs.Resolved.{type_of, Fault, IsFault, Somewhere, ResolvedHaveNoFault, ResolvedAreWithin}
-use Rattle.scopes.specs.Names.{declared_names, declared_idents, place_in, texts, Repeats}
+use Rattle.resolving.specs.Resolved.{type_of, Fault, IsFault, ResolvedHaveNoFault, ResolvedAreWithin}
+use Rattle.texts.specs.Lists.{Somewhere}
+use Rattle.scopes.specs.Names.{declared_names, declared_idents, texts, Repeats}
 use Rattle.derive_decl.specs.Fields.{FieldRules, field_rules, value_of, kept, name_by, written_name, named_at, written_ident, written_idents}
 use Rattle.derive_decl.specs.Resolved.{MemberOf, FormOf, named_fields, unnamed_fields, no_fields, DeclarationOf, Around, around_of, member_names, member_types, names_of, types_of, declaration_names, all_of, member_from, member_as, member_of, form_of, body_form, declaration_from, resolved_of}
 use Rattle.derive_decl.specs.Faults.{kept_in, kept_fields, IsSmall, IsUnwritten, IsFaultyName}

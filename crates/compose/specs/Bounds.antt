@@ -3,14 +3,14 @@ use Rattle.std.specs.Prelude.{◌≡◌, ◌<◌, ◌≤◌, ◌++◌, ◌⊎◌
 use Rattle.std.specs.Fmt.{decimal}
 use Rattle.diag.specs.Diagnostics.{diagnostic}
 use Rattle.diag.specs.Refusal.{IsRefusal}
-use Rattle.diag.specs.Span.{no_span}
+use Rattle.texts.specs.Span.{no_span}
 use Rattle.diag.specs.declared.error.DeriveError.{DeriveError}
 use Rattle.diag.specs.declared.error.DeriveError.TheVariants.{Refused, Memory}
 use Rattle.diag.specs.declared.kind.Kind.{Kind}
 use Rattle.diag.specs.declared.kind.Kind.TheVariants.{TooManyInstances, InlineDepth, TooManyCopies}
-use Rattle.diag.specs.declared.span.Span.{Span}
+use Rattle.texts.specs.declared.span.Span.{Span}
 use Rattle.syntax.specs.Items.{DeclaredItem}
-use Rattle.resolving.specs.Resolved.{Somewhere}
+use Rattle.texts.specs.Lists.{Somewhere}
 use Rattle.configuration.specs.Configuration.{Configuration}
 use Rattle.derive_decl.specs.Resolved.{DeclarationOf, declaration_at}
 use Rattle.inlining.specs.Inlining.{IsPath, IsAtMost, all_copies}

@@ -4,7 +4,7 @@ use Rattle.std.specs.List.{flat_map}
 use Rattle.diag.specs.Refusal.{IsRefusal, IsSyntaxRefusal}
 use Rattle.diag.specs.declared.error.DeriveError.{DeriveError}
 use Rattle.diag.specs.declared.kind.Kind.TheVariants.{Arity, DuplicateName}
-use Rattle.diag.specs.declared.span.Span.{Span}
+use Rattle.texts.specs.declared.span.Span.{Span}
 use Rattle.diag.specs.declared.rename_row.RenameRow.{RenameRow}
 use Rattle.schema_core.specs.Document.{Entry}
 use Rattle.written_types.specs.declared.written.Ident.{Ident}
@@ -14,7 +14,8 @@ use Rattle.serde_rules.specs.Items.{has_item}
 use Rattle.serde_rules.specs.Container.{rename_rule, IsContainerRefusal}
 use Rattle.syntax.specs.Items.{FieldItem, FieldItems, named, unnamed, unit, BodyItem, struct_body, DeclaredItem}
 use Rattle.syntax.specs.Source.{Reads, IsUnreadable, IsTooDeep, NestsTooDeep}
-use Rattle.resolving.specs.Resolved.{Fault, IsFault, IsRefusedFor, Somewhere}
+use Rattle.resolving.specs.Resolved.{Fault, IsFault, IsRefusedFor}
+use Rattle.texts.specs.Lists.{Somewhere}
 use Rattle.scopes.specs.Names.{declared_idents, place_among, Repeats, duplicate_message}
 use Rattle.configuration.specs.Configuration.{Configuration}
 use Rattle.derive_decl.specs.Resolved.{DeclarationOf}

@@ -2,17 +2,18 @@
 
 ghost use Rattle.std.specs.Prelude.{◌≡◌, ◌⊎◌, [], ◌∷◌, map, IfOk, IfErr};
 ghost use Rattle.std.specs.List.{flat_map};
-ghost use Rattle.diag.specs.declared.span.Span.{Span as AnySpan};
+ghost use Rattle.texts.specs.declared.span.Span.{Span as AnySpan};
 ghost use Rattle.attributes.specs.Attributes.{attribute_view};
 ghost use Rattle.syntax.specs.Items.{field_view, body_view, declaration_view, declarations_view};
 ghost use Rattle.derive_decl.specs.Faults.{body_fields};
 ghost use Rattle.compose.specs.Faults.{attributes_in, attributes_of, is_other, first_other, IsAttributed, IsUnderivable};
 
-use diag::{DeriveError, Span};
+use diag::DeriveError;
 use serde_rules::has_serde_item;
 use std::alloc::{AllocError, Global};
 use std::slice;
 use syntax::{Attribute, Body, Declaration, Declarations, Field, Fields};
+use texts::Span;
 
 /// Whether the attribute is one of `schema` or `repr`, or a serde list that flattens.
 fn is_other(alloc: Global, attribute: &Attribute) -> Result<bool, AllocError>

@@ -2,7 +2,7 @@
 
 ghost use Rattle.std.specs.Prelude.{◌≡◌, ◌<◌, ◌≤◌, ◌⊎◌, length, map, IfOk, IfErr};
 ghost use Rattle.diag.specs.Refusal.{IsRefusal};
-ghost use Rattle.diag.specs.Span.{no_span};
+ghost use Rattle.texts.specs.Span.{no_span};
 ghost use Rattle.syntax.specs.Items.{declaration_view};
 ghost use Rattle.scopes.specs.Names.{declared_names};
 ghost use Rattle.derive_decl.specs.Resolved.{declaration_names};
@@ -13,10 +13,11 @@ ghost use Rattle.compose.specs.Bounds.{AreBounded, IsCrowded, IsDeep, IsUnbounde
 
 use configuration::Config;
 use derive_decl::Resolved;
-use diag::{DeriveError, Diagnostics, Kind, List, Span};
+use diag::{DeriveError, Diagnostics, Kind};
 use inlining::{Depth, are_more_copies, inline_order};
 use std::alloc::{AllocError, Global};
 use syntax::Declaration;
+use texts::{List, Span};
 
 /// An inline path has at most so many declarations.
 const MOST_INLINED: usize = 32;

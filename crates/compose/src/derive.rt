@@ -21,13 +21,14 @@ use crate::types::types_of;
 use closing::{components_of, inlining_of, terms_of};
 use configuration::Config;
 use derive_decl::{Resolved, resolved_declarations};
-use diag::{DeriveError, List};
+use diag::DeriveError;
 use open_types::ClosedType;
 use schema_core::Components;
 use scopes::declared_places;
 use std::alloc::Global;
 use std::collections::BTreeMap;
 use syntax::{Declaration, Declarations, parse_declarations};
+use texts::List;
 
 /// What is derived of a source.
 #[derive(Drop)]

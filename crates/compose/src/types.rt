@@ -6,10 +6,10 @@ ghost use Rattle.std.specs.List.{cons_option, filter_map};
 ghost use Rattle.open_types.specs.Open.{open_view};
 ghost use Rattle.compose.specs.Types.{declared};
 
-use diag::{List, Text};
 use open_types::ClosedType;
 use std::alloc::{AllocError, Global};
 use std::collections::BTreeMap;
+use texts::{List, Text};
 
 /// Adds the declaration of the name, where `places` has its place.
 fn push_declared(

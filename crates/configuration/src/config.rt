@@ -6,10 +6,11 @@ ghost use Rattle.configuration.specs.Form.{KeepsEmpty, IsConfiguration, IsConfig
 use crate::collect::SchemaCollect;
 use crate::members::{collect_at, is_empty_list_at, is_empty_object_at, is_object_of, whole_at};
 use crate::renames::renames_at;
-use diag::{DeriveError, Kind, RenameTable, Span};
+use diag::{DeriveError, Kind, RenameTable};
 use serde_json::Value;
 use std::alloc::{AllocError, Global};
 use std::marker::Model;
+use texts::Span;
 
 /// The most bytes of a configuration's text.
 const MAX_BYTES: usize = 1_048_576;

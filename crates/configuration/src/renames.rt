@@ -11,10 +11,11 @@ ghost use Rattle.diag.specs.declared.rename_row.RenameRow.{RenameRow as AnyRow};
 ghost use Rattle.configuration.specs.Form.{place_name, IsGiven, IsRow, AreRows, IsRenames};
 
 use crate::members::{is_object_of, text_at};
-use diag::{RenamePlace, RenameRow, RenameRule, RenameTable, Text};
+use diag::{RenamePlace, RenameRow, RenameRule, RenameTable};
 use serde_json::Value;
 use std::alloc::{AllocError, Global};
 use std::str::FromStr;
+use texts::Text;
 
 /// The names of a row's members.
 const ROW_MEMBERS: [&str; 4] = ["rule", "place", "from", "to"];

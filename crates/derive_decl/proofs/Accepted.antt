@@ -3,7 +3,8 @@ use Rattle.std.proofs.Common.{ℕ, suc, drop, length, None, Option, pos, int_le,
 use Rattle.std.specs.List.{list_all}
 use Rattle.std.proofs.Math.Dec.{leb-zero, leb-suc-zero, leb-suc-suc}
 use Rattle.acceptance.specs.Acceptance.{others_pass, names_pass}
-use Rattle.acceptance.specs.Json.{Json, Members, null, boolean, number, text, list, map, entries, names, is_in, look, distinct, on_map, on_list, if_there}
+use Rattle.acceptance.specs.Json.{Json, Members, null, boolean, number, text, list, map, entries, names, look, distinct, on_map, on_list, if_there}
+use Rattle.texts.specs.Names.{is_in}
 use Rattle.schema_core.specs.declared.tree.SchemaTypeInner.TheVariants as word
 use Rattle.schema_core.specs.declared.tree.TypeWord.TheVariants.{Any}
 use Rattle.schema_core.specs.declared.notes.Notes.{Notes}

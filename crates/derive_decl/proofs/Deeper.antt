@@ -1,7 +1,8 @@
 -- What has a shape at a depth has it at each greater depth.
 use Rattle.std.proofs.Common.{ℕ, zero, suc, ◌+◌, ◌-◌, ◌≤◌, List, [], ◌∷◌, Bool, true, false, not, ◌&&◌, ◌||◌, Option, Some, None, IsTrue, ◌≡◌, refl, sym, subst, arith}
 use Rattle.std.specs.List.{list_all}
-use Rattle.acceptance.specs.Json.{Json, null, boolean, number, text, list, map, entries, elements, names, is_in, look, distinct, if_there}
+use Rattle.acceptance.specs.Json.{Json, null, boolean, number, text, list, map, entries, elements, names, look, distinct, if_there}
+use Rattle.texts.specs.Names.{is_in}
 use Rattle.open_types.specs.Open.{Open, Opens, leaf, any_value, free_object, unit, tuple, items, set, map_of, option, through, param, named, no_types, more_types}
 use Rattle.derive_decl.specs.Resolved.{MemberOf, FormOf, named_fields, unnamed_fields, no_fields, DeclarationOf, declaration_at}
 use Rattle.derive_decl.specs.Shape.{is_null, is_list, is_map, type_shape, items_fit, member_fits, no_others, elements_fit, unnamed_shape, form_shape, shape}

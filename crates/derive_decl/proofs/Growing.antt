@@ -8,8 +8,8 @@ use Rattle.diag.specs.declared.rename_rule.RenameRule.{RenameRule}
 use Rattle.diag.specs.declared.rename_row.RenameRow.{RenameRow}
 use Rattle.syntax.specs.declared.item.Field.{Field}
 use Rattle.syntax.specs.Items.{FieldItem, field_view}
-use Rattle.resolving.specs.Resolved.{Somewhere}
-use Rattle.schema_core.specs.Meaning.{IsDistinct}
+use Rattle.texts.specs.Lists.{Somewhere}
+use Rattle.texts.specs.Names.{IsDistinct}
 use Rattle.scopes.specs.Names.{texts}
 use Rattle.derive_decl.specs.declared.member.Member.{Member}
 use Rattle.derive_decl.specs.Fields.{FieldRules, is_kept, kept, written_ident, written_idents}

@@ -15,7 +15,8 @@ use Rattle.serde_rules.specs.declared.value.SerdeValue.{SerdeValue}
 use Rattle.serde_rules.specs.Container.{IsContainerRefusal}
 use Rattle.syntax.specs.Items.{FieldItem, FieldItems, named, unnamed, unit, BodyItem, struct_body, DeclaredItem}
 use Rattle.resolving.specs.Names.{size}
-use Rattle.resolving.specs.Resolved.{Fault, IsFault, IsRefusedFor, Somewhere, most_names}
+use Rattle.resolving.specs.Resolved.{Fault, IsFault, IsRefusedFor, most_names}
+use Rattle.texts.specs.Lists.{Somewhere}
 use Rattle.scopes.specs.Names.{Repeats, duplicate_message}
 use Rattle.derive_decl.specs.Fields.{FieldRules, field_rules, value_of, kept, name_by, written_idents}
 use Rattle.derive_decl.specs.Resolved.{Around}

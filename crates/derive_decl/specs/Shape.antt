@@ -1,7 +1,8 @@
 -- When a JSON value has the shape of a type or of a declaration (the serde data model, in JSON with whole numbers of any size; docs/SERDE.md says where this is wider or narrower than what serde reads). No schema is known here.
 use Rattle.std.specs.Prelude.{ℕ, zero, suc, ◌≤◌, ℤ, pos, List, [], ◌∷◌, Bool, true, false, not, ◌&&◌, ◌||◌, int_le, IsTrue}
 use Rattle.std.specs.List.{list_all}
-use Rattle.acceptance.specs.Json.{Json, null, boolean, number, text, list, map, elements, entries, names, is_in, look, distinct, if_there}
+use Rattle.acceptance.specs.Json.{Json, null, boolean, number, text, list, map, elements, entries, names, look, distinct, if_there}
+use Rattle.texts.specs.Names.{is_in}
 use Rattle.leaves.specs.Leaves.{kind_of}
 use Rattle.leaves.specs.declared.leaf.LeafKind.{LeafKind}
 use Rattle.leaves.specs.declared.leaf.LeafKind.TheVariants as kinds

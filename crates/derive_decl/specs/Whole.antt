@@ -1,6 +1,6 @@
 -- What a declaration is resolved to where nothing is at fault, and what all declarations of a source are.
 use Rattle.std.specs.Prelude.{◌≡◌, List, [], ◌∷◌, Option, Some, option_map}
-use Rattle.schema_core.specs.Meaning.{IsDistinct}
+use Rattle.texts.specs.Names.{IsDistinct}
 use Rattle.written_types.specs.declared.written.Ident.{Ident}
 use Rattle.diag.specs.declared.rename_row.RenameRow.{RenameRow}
 use Rattle.attributes.specs.Attributes.{AttributeItem}

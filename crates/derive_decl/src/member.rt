@@ -4,7 +4,7 @@ ghost use Rattle.std.specs.Prelude.{◌≡◌, ◌⊎◌, ◌∷◌, [], IfOk, I
 ghost use Rattle.std.specs.List.{AllByRecursion, cons_option};
 ghost use Rattle.diag.specs.Refusal.{IsRefusal};
 ghost use Rattle.open_types.specs.Open.{open_view};
-ghost use Rattle.resolving.specs.Resolved.{Somewhere};
+ghost use Rattle.texts.specs.Lists.{Somewhere};
 ghost use Rattle.scopes.specs.Scopes.{IsScope};
 ghost use Rattle.syntax.specs.Items.{field_view};
 ghost use Rattle.derive_decl.specs.Fields.{kept, name_by, named_at, rules_view, value_of, written_ident, written_idents};
@@ -14,13 +14,14 @@ ghost use Rattle.derive_decl.specs.Views.{known, member_view};
 
 use crate::remarks::{description_of, is_deprecated};
 use configuration::Config;
-use diag::{DeriveError, Diagnostics, Kind, RenameRule, Text};
+use diag::{DeriveError, Diagnostics, Kind, RenameRule};
 use open_types::OpenType;
 use scopes::{Container, Named, resolve};
 use serde_rules::names::rename;
 use serde_rules::{FieldRename, SerdeContainer, SerdeValue, is_required, parse_value};
 use std::alloc::{AllocError, Global};
 use syntax::{Field, Ident};
+use texts::Text;
 
 /// A field by its name in JSON, what is said of it, and its type.
 #[derive(Debug, Drop)]

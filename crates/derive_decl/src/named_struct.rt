@@ -4,7 +4,7 @@ ghost use Rattle.std.specs.Prelude.{◌≡◌, ◌⊎◌, ◌++◌, [], ◌∷�
 ghost use Rattle.attributes.specs.Attributes.{attribute_view};
 ghost use Rattle.attributes.specs.AttributeReading.{serde_items};
 ghost use Rattle.std.specs.List.{AllByRecursion, cons_option};
-ghost use Rattle.schema_core.specs.Meaning.{IsDistinct};
+ghost use Rattle.texts.specs.Names.{IsDistinct};
 ghost use Rattle.schema_core.specs.Schema.{object_view, named_views, additional_view};
 ghost use Rattle.scopes.specs.Scopes.{IsScope};
 ghost use Rattle.syntax.specs.Items.{field_view, named};
@@ -14,18 +14,19 @@ ghost use Rattle.derive_decl.specs.Resolved.{all_of, description_of, form_of, me
 ghost use Rattle.derive_decl.specs.Terms.{properties_of, required_names, others_of, object_of, form_term};
 ghost use Rattle.derive_decl.specs.Faults.{IsFaultyMember, AreFaultyMembers, AreFaultyNamed, IsSmall, AreAllowed};
 ghost use Rattle.derive_decl.specs.Views.{known, member_view, named_view};
-ghost use Rattle.resolving.specs.Resolved.{Somewhere};
+ghost use Rattle.texts.specs.Lists.{Somewhere};
 
 use crate::member::{Member, resolve_member};
 use crate::remarks::{description_of, is_deprecated};
 use crate::root::Root;
 use component::{Place, Term, TermLeaf, ToTerm, noted, place_term};
-use diag::{DeriveError, List, Text};
+use diag::DeriveError;
 use schema_core::{Additional, Notes, Object, SchemaTypeInner, Tree, TypeWord};
 use scopes::{Container, places_of};
 use serde_rules::{SerdeContainer, parse_container};
 use std::alloc::{AllocError, Global};
 use syntax::Field;
+use texts::{List, Text};
 
 /// A struct with named fields. Its schema is an object with a property for each field that serde does not skip.
 #[derive(Debug, Drop)]

@@ -5,10 +5,10 @@ ghost use Rattle.attributes.specs.Attributes.{attribute_view};
 ghost use Rattle.derive_decl.specs.Fields.{is_deprecated};
 ghost use Rattle.derive_decl.specs.Resolved.{description_of};
 
-use diag::Text;
 use scopes::ComponentDescription;
 use std::alloc::{AllocError, Global};
 use syntax::{Attribute, CommentAttributes};
+use texts::Text;
 
 /// Whether Rust's attribute `deprecated` is among these.
 pub(crate) fn is_deprecated(attributes: &[Attribute]) -> bool

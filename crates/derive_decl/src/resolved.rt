@@ -8,9 +8,10 @@ ghost use Rattle.derive_decl.specs.Views.{member_view, variant_view, resolved_vi
 use crate::member::Member;
 use crate::schema_variant::SchemaVariant;
 use component::{Term, ToTerm};
-use diag::{DeriveError, List, Text};
+use diag::DeriveError;
 use open_types::OpenType;
 use std::alloc::{AllocError, Global};
+use texts::{List, Text};
 
 /// A declaration with resolved types.
 #[derive(Debug, Drop)]

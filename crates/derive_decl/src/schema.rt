@@ -15,11 +15,12 @@ use crate::resolved::{Resolved, types_of};
 use crate::root::Root;
 use crate::schema_variant::SchemaVariant;
 use component::{Term, ToTerm};
-use diag::{DeriveError, List};
+use diag::DeriveError;
 use open_types::OpenType;
 use scopes::Container;
 use std::alloc::Global;
 use syntax::{Attribute, Body, Ident};
+use texts::List;
 
 /// A declaration whose schema is asked for.
 #[derive(Clone, Copy)]

@@ -4,7 +4,7 @@ ghost use Rattle.std.specs.Prelude.{◌≡◌, ◌⊎◌, map, IfOk, IfErr, Some
 ghost use Rattle.attributes.specs.Attributes.{attribute_view};
 ghost use Rattle.attributes.specs.AttributeReading.{serde_items};
 ghost use Rattle.std.specs.List.{AllByRecursion};
-ghost use Rattle.schema_core.specs.Meaning.{IsDistinct};
+ghost use Rattle.texts.specs.Names.{IsDistinct};
 ghost use Rattle.scopes.specs.Scopes.{IsScope};
 ghost use Rattle.syntax.specs.Items.{fields_view, body_view};
 ghost use Rattle.component.specs.Leaves.{term_view};

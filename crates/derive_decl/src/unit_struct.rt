@@ -10,8 +10,9 @@ ghost use Rattle.derive_decl.specs.Terms.{form_term};
 use crate::remarks::{description_of, is_deprecated};
 use crate::root::Root;
 use component::{Term, ToTerm, null_default};
-use diag::{DeriveError, Text};
+use diag::DeriveError;
 use std::alloc::{AllocError, Global};
+use texts::Text;
 
 /// A struct without fields. Its schema has null as its default.
 #[derive(Debug, Drop)]

@@ -5,7 +5,8 @@ ghost use Rattle.attributes.specs.Attributes.{attribute_view};
 ghost use Rattle.std.specs.List.{AllByRecursion};
 ghost use Rattle.diag.specs.Refusal.{IsRefusal};
 ghost use Rattle.open_types.specs.Open.{open_view};
-ghost use Rattle.resolving.specs.Resolved.{Somewhere, type_of};
+ghost use Rattle.resolving.specs.Resolved.{type_of};
+ghost use Rattle.texts.specs.Lists.{Somewhere};
 ghost use Rattle.scopes.specs.Scopes.{IsScope};
 ghost use Rattle.syntax.specs.Items.{field_view, unnamed};
 ghost use Rattle.component.specs.Leaves.{term_view};
@@ -18,12 +19,13 @@ ghost use Rattle.derive_decl.specs.Views.{known, unnamed_view};
 use crate::remarks::{description_of, is_deprecated};
 use crate::root::Root;
 use component::{Place, Term, ToTerm, any_object, noted, place_term};
-use diag::{DeriveError, Diagnostics, Kind, List, Span, Text};
+use diag::{DeriveError, Diagnostics, Kind};
 use open_types::OpenType;
 use schema_core::{Array, ArrayItems, Bound, Notes, Tree};
 use scopes::{Container, resolve};
 use std::alloc::{AllocError, Global};
 use syntax::Field;
+use texts::{List, Span, Text};
 
 /// A struct with unnamed fields. One field is read as its content, several as a list.
 #[derive(Debug, Drop)]

@@ -3,9 +3,9 @@
 ghost use Rattle.std.specs.Prelude.{◌≡◌, ◌⊎◌, ℕ, List as Items, map, IfOk, IfErr, Some};
 ghost use Rattle.std.specs.BTreeMap.{get_by_text};
 ghost use Rattle.std.specs.List.{AllByRecursion};
-ghost use Rattle.schema_core.specs.Meaning.{IsDistinct};
+ghost use Rattle.texts.specs.Names.{IsDistinct};
 ghost use Rattle.syntax.specs.Items.{declaration_view, declarations_view};
-ghost use Rattle.resolving.specs.Resolved.{Somewhere};
+ghost use Rattle.texts.specs.Lists.{Somewhere};
 ghost use Rattle.scopes.specs.Names.{place_among};
 ghost use Rattle.scopes.specs.Scopes.{IsScope};
 ghost use Rattle.derive_decl.specs.Resolved.{names_of, around_of, resolved_of};
@@ -16,11 +16,12 @@ ghost use Rattle.derive_decl.specs.Whole.{resolved_declarations, MembersDiffer, 
 use crate::resolved::Resolved;
 use crate::schema::Schema;
 use configuration::Config;
-use diag::{DeriveError, List};
+use diag::DeriveError;
 use scopes::{Container, Scope};
 use std::alloc::Global;
 use std::collections::BTreeMap;
 use syntax::{Declaration, Declarations};
+use texts::List;
 
 /// What the declaration is resolved to.
 fn resolved_of(

@@ -4,6 +4,4 @@ pub mod Refusal
 pub mod RenameIndex
 pub mod RenameRows
 pub mod RenameRules
-pub mod Span
 pub mod Suggestion
-pub mod formers

@@ -4,7 +4,7 @@ use Rattle.diag.specs.declared.error.DeriveError.{DeriveError}
 use Rattle.diag.specs.declared.error.DeriveError.TheVariants.{Refused, Memory}
 use Rattle.diag.specs.declared.kind.Kind.{Kind}
 use Rattle.diag.specs.declared.kind.Kind.TheVariants.{Syntax, TooDeep}
-use Rattle.diag.specs.declared.span.Span.{Span}
+use Rattle.texts.specs.declared.span.Span.{Span}
 use Rattle.diag.specs.Diagnostics.{diagnostic}
 
 -- the error is a refusal by one diagnostic, without suggestions and instances

@@ -1,18 +1,16 @@
 ghost use Rattle.std.specs.Prelude.{◌≡◌, [], ◌∷◌, ◌++◌, unwrap_or, IfOk, OnOk, IsSorted};
 ghost use Rattle.diag.specs.Diagnostics.{diagnostic, with_suggestion, with_instance, text_of, entry_text, joined_of, HasFirst};
-ghost use Rattle.diag.specs.Span.{no_span};
+ghost use Rattle.texts.specs.Span.{no_span};
 ghost use Rattle.diag.specs.Suggestion.{suggestion_cmp};
 ghost use Rattle.diag.specs.declared.suggestion.Suggestion.TheVariants.{Help, Note};
 
 use crate::kind::Kind;
-use crate::list::List;
-use crate::span::Span;
 use crate::suggestion::Suggestion;
-use crate::text::Text;
 use std::alloc::{AllocError, Global};
 use std::error::Error;
 use std::fmt;
 use std::marker::Model;
+use texts::{List, Span, Text};
 
 /// One entry of a diagnostic.
 #[derive(Debug, Drop)]

@@ -3,8 +3,8 @@ ghost use Rattle.diag.specs.Refusal.{IsRefusal, IsSyntaxRefusal, IsDepthRefusal}
 
 use crate::diagnostics::Diagnostics;
 use crate::kind::Kind;
-use crate::span::Span;
 use std::alloc::{AllocError, Global};
+use texts::Span;
 use thiserror::Error;
 
 /// Why a derivation has no answer: a refusal with its diagnostic, or want of memory.

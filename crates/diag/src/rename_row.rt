@@ -1,5 +1,5 @@
 use crate::rename_rule::RenameRule;
-use crate::text::Text;
+use texts::Text;
 
 /// What is renamed.
 #[derive(Clone, Copy, Debug, PartialEq, Eq)]

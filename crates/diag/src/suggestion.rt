@@ -6,8 +6,8 @@ ghost use Rattle.diag.specs.declared.suggestion.Suggestion.TheVariants.{Help, No
 ghost use Rattle.std.specs.Ordering.{is_lt};
 ghost use Rattle.diag.specs.Suggestion.{suggestion_cmp, place_of};
 
-use crate::text::Text;
 use std::fmt;
+use texts::Text;
 
 /// What the reader of a diagnostic may do, or should know. Every help comes before every note, and texts go by bytes.
 #[derive(Debug, Drop, PartialEq, Eq, PartialOrd, Ord)]

@@ -3,12 +3,12 @@
 ghost use Rattle.std.specs.Prelude.{◌≡◌, IfOk};
 ghost use Rattle.schema_core.specs.Schema.{SchemaOf, bind, bind_schemas, bind_properties, bind_part, tree_view, object_view, array_view, one_of_view, all_of_view, additional_view, array_items_view, optional_view, tree_views, named_views};
 
-use diag::{List, Text};
 use schema_core::{
     Additional, AllOfSchema, Array, ArrayItems, Json, Notes, Object, OneOfSchema, Tree, copy_jsons,
     copy_text, copy_texts,
 };
 use std::alloc::{AllocError, Global};
+use texts::{List, Text};
 
 /// What is put at each leaf of a schema.
 pub trait Fill {

@@ -4,8 +4,8 @@ ghost use Rattle.std.specs.Prelude.{◌≡◌, ◌<◌, ◌↔◌, ℕ, length, 
 ghost use Rattle.inlining.specs.Counts.{saturated, count_of};
 ghost use Rattle.inlining.specs.Inlining.{IsAmong, IsOrder, IsAtMost, sum_below, all_copies};
 
-use diag::List;
 use std::alloc::{AllocError, Global};
+use texts::List;
 
 /// How many copies stand where the schema of a declaration with these targets stands, where the copies of its targets are
 /// counted.

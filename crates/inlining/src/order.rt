@@ -5,8 +5,8 @@ ghost use Rattle.inlining.specs.Depths.{IsDepth};
 ghost use Rattle.inlining.specs.Inlining.{IsAmong, AreTargets, IsPath};
 ghost use Rattle.inlining.specs.Marks.{mark, are_marked, no_marks, next_marks, marks_of, AreRounds, new_marks};
 
-use diag::List;
 use std::alloc::{AllocError, Global};
+use texts::List;
 
 /// How deep declarations stand in each other's schemas.
 #[derive(Debug, Drop)]

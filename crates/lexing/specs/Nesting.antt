@@ -1,7 +1,7 @@
 -- Pieces nested by their brackets (The Rust Reference, "Delimiters").
 use Rattle.std.specs.Prelude.{◌≡◌, ℕ, zero, suc, ◌⊎◌, List, ◌∷◌}
 use Rattle.std.specs.List.{slice_range}
-use Rattle.diag.specs.declared.span.Span.{Span}
+use Rattle.texts.specs.declared.span.Span.{Span}
 use Rattle.tokens.specs.declared.token.Bracket.{Bracket}
 use Rattle.tokens.specs.declared.token.Token as tokens
 use Rattle.tokens.specs.declared.token.TokenKind.{TokenKind}

@@ -1,7 +1,7 @@
 //! Laws of the definitions that contracts cite.
 
 ghost use Rattle.std.specs.Prelude.{◌≡◌, ◌<◌, ℕ, List};
-ghost use Rattle.diag.specs.declared.span.Span.{Span};
+ghost use Rattle.texts.specs.declared.span.Span.{Span};
 ghost use Rattle.tokens.specs.Trees.{Trees, depth};
 ghost use Rattle.lexing.specs.Cut.{IsCut, OpensTooDeep, most_open};
 

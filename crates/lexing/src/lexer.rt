@@ -7,8 +7,9 @@ ghost use Rattle.lexing.specs.Cut.{most_open, IsCut, IsDepthError, IsSyntaxError
 use crate::nest::{self, MAX_DEPTH};
 use crate::piece::LexError;
 use crate::scan;
-use diag::{DeriveError, List};
+use diag::DeriveError;
 use std::alloc::Global;
+use texts::List;
 use tokens::TokenTree;
 
 /// The token trees of the source, whose pieces are cut and nested with white space and comments dropped. Brackets

@@ -7,8 +7,8 @@ ghost use Rattle.lexing.specs.Nesting.{token_of};
 ghost use Rattle.lexing.specs.Reading.{LieIn, EndFrom, Nests, NestsGroup};
 
 use crate::piece::{LexError, Piece, PieceKind};
-use diag::{List, Span, Text};
 use std::alloc::{AllocError, Global};
+use texts::{List, Span, Text};
 use tokens::{Bracket, Group, Token, TokenKind, TokenTree};
 
 /// How deep brackets may nest: 64 of them may be open.

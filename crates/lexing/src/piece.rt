@@ -1,5 +1,5 @@
-use diag::Span;
 use std::alloc::AllocError;
+use texts::Span;
 use tokens::{Bracket, TokenKind};
 
 /// What a piece of a source is.

@@ -11,9 +11,9 @@ use crate::piece::{LexError, Piece, PieceKind};
 use crate::raw::{MORE_HASHES, is_never_closed, unclosed_after};
 use crate::text::{Run, after_run, begins_with, is_white};
 use crate::word::{after_identifier, starts_name};
-use diag::{List, Span};
 use literals::{after_literal, split_first_char};
 use std::alloc::Global;
+use texts::{List, Span};
 use tokens::{Bracket, TokenKind};
 
 /// What a character may begin, other than a literal.

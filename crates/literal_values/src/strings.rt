@@ -7,9 +7,9 @@ ghost use Rattle.literal_values.specs.Pieces.{quoted, BeginsWith};
 
 use crate::escapes::escaped_piece;
 use crate::raw_strings::{opened_raw, raw_piece};
-use diag::Text;
 use literals::split_first_char;
 use std::alloc::{AllocError, Global};
+use texts::Text;
 
 /// How the text between the quotes is written.
 #[derive(Clone, Copy)]

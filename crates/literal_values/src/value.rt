@@ -3,8 +3,8 @@ ghost use Rattle.literal_values.specs.Values.{string_value, truth_value, text_va
 
 use crate::numbers::whole_value;
 use crate::strings::string_value;
-use diag::Text;
 use std::alloc::{AllocError, Global};
+use texts::Text;
 use tokens::{Token, TokenKind};
 
 /// What a literal stands for. `true` and `false` are literals here.

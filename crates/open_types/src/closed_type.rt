@@ -4,9 +4,9 @@ ghost use Rattle.std.specs.Prelude.{◌≡◌, ◌<◌, IfOk, length};
 ghost use Rattle.open_types.specs.Open.{named, no_types, open_view, opens_view, IsClosed, AreClosed, IsOverFirst, AreOverFirst, argument_at, substituted, all_substituted};
 
 use crate::open_type::OpenType;
-use diag::List;
 use std::alloc::{AllocError, Global};
 use std::marker::Model;
+use texts::List;
 
 /// An open type without parameters.
 #[derive(Drop)]

@@ -4,8 +4,8 @@ ghost use Rattle.std.specs.Prelude.{◌≡◌, IfOk};
 ghost use Rattle.open_types.specs.Open.{open_view, opens_view};
 
 use crate::open_type::OpenType;
-use diag::List;
 use std::alloc::{AllocError, Global};
+use texts::List;
 
 impl OpenType {
     /// Another value for the same type.

@@ -1,5 +1,5 @@
-use diag::List;
 use leaves::Leaf;
+use texts::List;
 
 /// The names of lists. An array or slice has `Array`.
 #[derive(Clone, Copy, Debug, PartialEq, Eq)]

@@ -8,10 +8,11 @@ ghost use Rattle.component.specs.Places.{place, without_option};
 ghost use Rattle.place_schemas.specs.Schemas.{IsScoped, IsSchemaOf, IsRefusedPlace};
 
 use component::{Place, SchemaReference, Term, ToTerm, copy_term, place_term, references_of};
-use diag::{DeriveError, Diagnostics, List, Text};
+use diag::{DeriveError, Diagnostics};
 use open_types::OpenType;
 use scopes::{ComponentDescription, Container, resolve};
 use std::alloc::{AllocError, Global};
+use texts::{List, Text};
 use type_tree::TypeTree;
 use written_types::WrittenType;
 

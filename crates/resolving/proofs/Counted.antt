@@ -10,7 +10,7 @@ use Rattle.written_types.specs.declared.written.Ident.{Ident}
 use Rattle.written_types.specs.declared.written.Path.{Path, out-Path, the_lemmas as path_lemmas}
 use Rattle.tokens.specs.declared.token.TokenTree.{TokenTree}
 use Rattle.tokens.specs.Trees.{trees_view}
-use Rattle.diag.specs.declared.list.List.{List as Tokens}
+use Rattle.texts.specs.declared.list.List.{List as Tokens}
 use Rattle.written_types.specs.Written.{segment_of, Segment, Segments, Argument, more_types, more_arguments, path_of, path_view, no_segments, more_segments, lifetime_argument, constant_argument, type_argument, written_view, segment_view, segments_view, argument_view, arguments_view, writtens_view}
 use Rattle.open_types.specs.declared.open_type.OpenType.{OpenType, the_lemmas}
 use Rattle.open_types.specs.declared.open_type.OpenType.TheVariants as variants
@@ -18,7 +18,8 @@ use Rattle.open_types.specs.Open.{Open, Opens, tuple, open_view, opens_view}
 use Rattle.open_types.specs.Open as types
 use Rattle.resolving.specs.declared.head.Head.{Head}
 use Rattle.resolving.specs.Names.{ident_of, nameless, where_none, meaning, path_size, names_in_path, names_in, names_in_arguments, names_in_argument, names_in_types, names_in_last, names_in_segment, last_size, segment_size}
-use Rattle.resolving.specs.Resolved.{contained, alone, meant, tuple_of, Somewhere, type_of, path_type, segment_type, last_type, argument_types, argument_type, all_types}
+use Rattle.resolving.specs.Resolved.{contained, alone, meant, tuple_of, type_of, path_type, segment_type, last_type, argument_types, argument_type, all_types}
+use Rattle.texts.specs.Lists.{Somewhere}
 
 -- ---- numbers of type arguments
 

@@ -4,7 +4,7 @@ use Rattle.std.proofs.lemmas.Option.{none-some}
 use Rattle.std.proofs.lemmas.Bool.{false≢true}
 use Rattle.diag.specs.declared.error.DeriveError.{DeriveError}
 use Rattle.diag.specs.declared.error.DeriveError.TheVariants as errors
-use Rattle.diag.specs.declared.span.Span.{Span}
+use Rattle.texts.specs.declared.span.Span.{Span}
 use Rattle.written_types.specs.declared.written.Ident.{Ident}
 use Rattle.written_types.specs.Written.{Written, Writtens, WrittenPath, Segments, Segment, Arguments, path, reference, tuple, slice, array, trait_object, no_types, more_types, path_of, no_segments, more_segments, plain, applied, no_arguments, more_arguments, lifetime_argument, constant_argument, type_argument}
 use Rattle.open_types.specs.declared.open_type.ListHead.TheVariants as lists
@@ -12,7 +12,8 @@ use Rattle.open_types.specs.Open.{Open, Opens}
 use Rattle.open_types.specs.Open as types
 use Rattle.resolving.specs.declared.meaning.Meaning.TheVariants as meanings
 use Rattle.resolving.specs.Names.{types_of, ident_of, arguments_of, nameless, where_none, names_in, names_in_path, names_in_last, names_in_segment, names_in_arguments, names_in_types, size, meaning}
-use Rattle.resolving.specs.Resolved.{meant, tuple_of, type_of, path_type, last_type, segment_type, argument_types, all_types, Fault, unknown_type, wrong_arity, too_large, most_names, are_wrong, Somewhere, IsFault, IsRefusedFor}
+use Rattle.resolving.specs.Resolved.{meant, tuple_of, type_of, path_type, last_type, segment_type, argument_types, all_types, Fault, unknown_type, wrong_arity, too_large, most_names, are_wrong, IsFault, IsRefusedFor}
+use Rattle.texts.specs.Lists.{Somewhere}
 use Rattle.resolving.specs.Reading.{segment_arguments, IsAtFault, AreAtFault}
 use Rattle.resolving.proofs.Counted.{somewhere-parts}
 use Rattle.resolving.proofs.Stands.{mapped, stand-segment}

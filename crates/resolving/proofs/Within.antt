@@ -3,7 +3,7 @@ use Rattle.std.proofs.Common.{◌≡◌, ◌<◌, ℕ, List, Bool, true, false, 
 use Rattle.std.proofs.lemmas.Option.{none-some, same_Some}
 use Rattle.leaves.specs.declared.leaf.Leaf.{Leaf}
 use Rattle.leaves.specs.Leaves.{leaf_of}
-use Rattle.diag.specs.declared.span.Span.{Span}
+use Rattle.texts.specs.declared.span.Span.{Span}
 use Rattle.written_types.specs.Written.{Written, Writtens, WrittenPath, Segments, Segment, Arguments, path, reference, tuple, slice, array, trait_object, no_types, more_types, path_of, no_segments, more_segments, plain, applied, no_arguments, more_arguments, lifetime_argument, constant_argument, type_argument}
 use Rattle.open_types.specs.declared.open_type.ListHead.TheVariants as lists
 use Rattle.open_types.specs.Open.{Open, Opens}
@@ -13,7 +13,8 @@ use Rattle.resolving.specs.declared.head.Head.TheVariants as heads
 use Rattle.resolving.specs.declared.meaning.Meaning.{Meaning}
 use Rattle.resolving.specs.declared.meaning.Meaning.TheVariants as meanings
 use Rattle.resolving.specs.Names.{nameless, where_none, container_of, declared_or_unknown, other_meaning, leaf_or, container_or, name_meaning, meaning}
-use Rattle.resolving.specs.Resolved.{small_list, of_one, of_two, contained, alone, meant, tuple_of, type_of, path_type, last_type, segment_type, argument_types, all_types, IsWithin, AreWithin}
+use Rattle.resolving.specs.Resolved.{small_list, of_one, of_two, contained, alone, meant, tuple_of, type_of, path_type, last_type, segment_type, argument_types, all_types}
+use Rattle.open_types.specs.Within.{IsWithin, AreWithin}
 use Rattle.resolving.proofs.Stands.{mapped}
 use Rattle.resolving.proofs.Right.{and_some}
 

@@ -5,7 +5,8 @@ use Rattle.written_types.specs.Written.{Segment, plain, applied}
 use Rattle.open_types.specs.Open.{Opens, no_types}
 use Rattle.resolving.specs.declared.meaning.Meaning.TheVariants as meanings
 use Rattle.resolving.specs.Names.{types_of, ident_of, arguments_of, meaning}
-use Rattle.resolving.specs.Resolved.{argument_types, are_wrong, Somewhere, unknown_type, wrong_arity, IsRefusedFor}
+use Rattle.resolving.specs.Resolved.{argument_types, are_wrong, unknown_type, wrong_arity, IsRefusedFor}
+use Rattle.texts.specs.Lists.{Somewhere}
 
 -- the types among a segment's arguments
 abbrev pub segment_arguments : (List ℕ → Option ℕ) → Segment → Option Opens

@@ -1,15 +1,17 @@
 -- What a written type stands for, and why it may stand for nothing.
 use Rattle.std.specs.Prelude.{◌≡◌, ◌<◌, ◌≤◌, ◌⊎◌, ℕ, List, [], ◌∷◌, ◌++◌, Bool, true, false, not, Option, Some, None, option_map, option_and_then, IsTrue, codes}
+use Rattle.texts.specs.Lists.{Somewhere}
 use Rattle.diag.specs.Refusal.{IsRefusal}
 use Rattle.diag.specs.declared.error.DeriveError.{DeriveError}
 use Rattle.diag.specs.declared.kind.Kind.TheVariants.{UnknownType, Arity, TypeSize}
-use Rattle.diag.specs.declared.span.Span.{Span}
+use Rattle.texts.specs.declared.span.Span.{Span}
 use Rattle.written_types.specs.declared.written.Ident.{Ident}
 use Rattle.written_types.specs.Written.{Written, Writtens, WrittenPath, Segments, Segment, Arguments, Argument, path, reference, tuple, slice, array, trait_object, no_types, more_types, path_of, no_segments, more_segments, plain, applied, no_arguments, more_arguments, lifetime_argument, constant_argument, type_argument}
 use Rattle.open_types.specs.declared.open_type.ListHead.{ListHead}
 use Rattle.open_types.specs.declared.open_type.ListHead.TheVariants as lists
 use Rattle.open_types.specs.Open.{Open, Opens}
 use Rattle.open_types.specs.Open as types
+use Rattle.open_types.specs.Within.{IsWithin}
 use Rattle.resolving.specs.declared.head.Head.{Head}
 use Rattle.resolving.specs.declared.head.Head.TheVariants as heads
 use Rattle.resolving.specs.declared.meaning.Meaning.{Meaning}
@@ -153,11 +155,6 @@ are_wrong meanings.Object ts = are_any ts
 are_wrong (meanings.Declared d) ts = are_any ts
 are_wrong meanings.Unknown ts = false
 
--- the fact holds of some item
-abbrev pub Somewhere : {A : Type 0} → (A → Type 0) → List A → Type 0
-Somewhere P [] = ⊥
-Somewhere P (x ∷ xs) = P x ⊎ Somewhere P xs
-
 -- a name in the type is not known, or has other type arguments than it takes; or the type has too many names
 abbrev pub IsFault : (List ℕ → Option ℕ) → Written → Fault → Type 0
 IsFault place_of t (unknown_type x) = Somewhere (λ s. (x ≡ ident_of s) × (meaning place_of s ≡ meanings.Unknown)) (names_in t)
@@ -173,26 +170,6 @@ IsRefusedFor (too_large s) e = IsRefusal TypeSize s (codes "a type has more than
 -- The law: what stands for a type and is not too large has no fault.
 abbrev pub ResolvedHaveNoFault : Type 0
 ResolvedHaveNoFault = (place_of : List ℕ → Option ℕ) (t : Written) (u : Open) → type_of place_of t ≡ Some u → size t ≤ most_names → (fault : Fault) → ¬ (IsFault place_of t fault)
-
--- each declaration that stands in the type is one of the first n
-abbrev mutual
-  pub IsWithin : ℕ → Open → Type 0
-  IsWithin n (types.leaf x) = Unit {0}
-  IsWithin n types.any_value = Unit {0}
-  IsWithin n types.free_object = Unit {0}
-  IsWithin n types.unit = Unit {0}
-  IsWithin n (types.tuple ts) = AreWithin n ts
-  IsWithin n (types.items h t) = IsWithin n t
-  IsWithin n (types.set h t) = IsWithin n t
-  IsWithin n (types.map_of h k t) = IsWithin n k × IsWithin n t
-  IsWithin n (types.option t) = IsWithin n t
-  IsWithin n (types.through h t) = IsWithin n t
-  IsWithin n (types.param i) = Unit {0}
-  IsWithin n (types.named d ts) = (d < n) × AreWithin n ts
-
-  pub AreWithin : ℕ → Opens → Type 0
-  AreWithin n types.no_types = Unit {0}
-  AreWithin n (types.more_types t ts) = IsWithin n t × AreWithin n ts
 
 -- The law: where each name's place is below n, each declaration that stands in a resolved type is one of the first n.
 abbrev pub ResolvedAreWithin : Type 0

@@ -6,9 +6,9 @@ ghost use Rattle.resolving.specs.Resolved.{list_of, of_one, of_two, contained, a
 
 use crate::head::Head;
 use crate::meaning::Meaning;
-use diag::List;
 use open_types::{ListHead, OpenType};
 use std::alloc::{AllocError, Global};
+use texts::List;
 
 /// The list of the item. `SmallVec` has an array or slice, whose item is its own.
 fn list_of(alloc: Global, head: ListHead, item: OpenType) -> Result<Option<OpenType>, AllocError>

@@ -3,8 +3,9 @@
 ghost use Rattle.std.specs.Prelude.{◌≡◌, IfOk};
 ghost use Rattle.resolving.specs.Resolved.{IsRefusedFor, unknown_type, wrong_arity, too_large};
 
-use diag::{DeriveError, Diagnostics, Kind, Span};
+use diag::{DeriveError, Diagnostics, Kind};
 use std::alloc::{AllocError, Global};
+use texts::Span;
 use written_types::Ident;
 
 /// The refusal of a name that is not known.

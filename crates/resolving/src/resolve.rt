@@ -13,10 +13,11 @@ use crate::arguments::meant;
 use crate::meaning::{Meaning, segment_meaning};
 use crate::refusal::{arity, large, unknown};
 use crate::size::{left_after, span_of};
-use diag::{DeriveError, List, Span, Text};
+use diag::DeriveError;
 use open_types::{ListHead, OpenType};
 use std::alloc::{AllocError, Global};
 use std::collections::BTreeMap;
+use texts::{List, Span, Text};
 use written_types::{GenericArgument, Ident, Path, PathSegment, WrittenType};
 
 /// How many names a type may have.

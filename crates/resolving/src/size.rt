@@ -4,7 +4,7 @@ ghost use Rattle.std.specs.Prelude.{◌≡◌, ◌<◌, ◌+◌, MatchOption};
 ghost use Rattle.written_types.specs.Written.{written_view, path_view, segment_view, arguments_view, writtens_view};
 ghost use Rattle.resolving.specs.Names.{size, path_size, segment_size, arguments_size, sizes, span_of};
 
-use diag::Span;
+use texts::Span;
 use written_types::{GenericArgument, Path, PathSegment, WrittenType};
 
 /// The bytes of a type without the references around it.

@@ -4,7 +4,8 @@ use Rattle.std.specs.Cmp.Lexicographic.{slice_cmp}
 use Rattle.std.specs.Ordering.{match_ordering}
 use Rattle.std.proofs.lemmas.Map.Text.{is_eq-slice_cmp}
 use Rattle.std.proofs.lemmas.Slice.Eq.{bytes_eq-Decides}
-use Rattle.acceptance.specs.Json.{Json, Members, no_members, member, put, put_given, put_all, entries, names, is_in, look, if_there}
+use Rattle.acceptance.specs.Json.{Json, Members, no_members, member, put, put_given, put_all, entries, names, look, if_there}
+use Rattle.texts.specs.Names.{is_in}
 use Rattle.acceptance.specs.Keyword.{keyword_of, other}
 use Rattle.acceptance.specs.Acceptance.{keyword_holds, accepts_with, members_hold, properties_accept, prefix_accepts, all_accept, one_accepts, reference_holds, each_property}
 use Rattle.schema_core.specs.declared.notes.Notes.{Notes}

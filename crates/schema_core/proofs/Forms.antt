@@ -2,7 +2,8 @@
 use Rattle.std.proofs.Common.{ℕ, suc, ℤ, List, [], ◌∷◌, Bool, true, false, ◌&&◌, ◌||◌, Option, Some, None, option_map, codes, drop, length, bytes_eq, ◌≡◌, refl, ap, ◌∙◌}
 use Rattle.std.specs.List.{list_all, list_any}
 use Rattle.std.proofs.Math.Bool.{or-false, and-true}
-use Rattle.acceptance.specs.Json.{Json, null, number, text, list, map, Members, no_members, elements, names, is_in, look, same, on_map, on_list, if_there}
+use Rattle.acceptance.specs.Json.{Json, null, number, text, list, map, Members, no_members, elements, names, look, same, on_map, on_list, if_there}
+use Rattle.texts.specs.Names.{is_in, IsDistinct}
 use Rattle.acceptance.specs.Acceptance.{kinds_of, texts_of, if_texts, keyword_holds, names_of, named, count_of, prefix_count, others_pass, names_pass, in_order, each_accepts, accepts_with}
 use Rattle.acceptance.specs.Keyword.{keyword_of, other}
 use Rattle.acceptance.specs.Judge.{readings_of}
@@ -13,7 +14,7 @@ use Rattle.schema_core.specs.declared.tree.TypeWord.TheVariants.{Any, One, Nulla
 use Rattle.schema_core.specs.declared.tree.RefLeaf.{RefLeaf}
 use Rattle.schema_core.specs.Schema.{SchemaOf, leaf, object, array, one_of, all_of, SchemasOf, no_schemas, schema, schema_count, PropertiesOf, no_properties, property, property_names, PartOf, no_part, truth, part}
 use Rattle.schema_core.specs.Form.{word_text, type_form, texts_form, required_form, entries_form, value_items, values_form, true_form, schemas_form, array_word, put_fields, note_fields, object_fields, array_fields, one_of_fields, all_of_fields, reference_fields, form, part_form, schema_forms, property_forms}
-use Rattle.schema_core.specs.Meaning.{word_accepts, enum_accepts, unique_accepts, max_items_accepts, min_items_accepts, minimum_accepts, required_accepts, tree_accepts, where_given, each_in_order, all_accept, some_accepts, properties_accept, IsDistinct, IsProper, IsPartProper, AreProper, ArePropertiesProper}
+use Rattle.schema_core.specs.Meaning.{word_accepts, enum_accepts, unique_accepts, max_items_accepts, min_items_accepts, minimum_accepts, required_accepts, tree_accepts, where_given, each_in_order, all_accept, some_accepts, properties_accept, IsProper, IsPartProper, AreProper, ArePropertiesProper}
 use Rattle.std.proofs.lemmas.Slice.Eq.{bytes_eq-Decides}
 use Rattle.std.proofs.Math.Bool.{or-true}
 use Rattle.schema_core.proofs.Fields.{AreOthers, others-notes, given_at, names-put_all, field_holds, fields_hold, look-fields, map-of-fields, entries_accept, map-of-entries, AreNew, or-false-of, same_name}

@@ -1,11 +1,11 @@
 -- A component is found in the document under its name.
 use Rattle.std.proofs.Common.{ℕ, List, [], ◌∷◌, Bool, true, false, Option, Some, None, option_map, bytes_eq, cond, map as map_list, ◌≡◌, refl, ap, sym, subst, ◌∙◌}
 use Rattle.std.proofs.lemmas.Slice.Eq.{bytes_eq-Decides}
-use Rattle.acceptance.specs.Json.{Json, Members, no_members, put, put_all, entries, names, is_in, look}
+use Rattle.acceptance.specs.Json.{Json, Members, no_members, put, put_all, entries, names, look}
+use Rattle.texts.specs.Names.{is_in, IsDistinct}
 use Rattle.schema_core.specs.Form.{form}
 use Rattle.schema_core.specs.Document.{Entry, entry_form}
 use Rattle.schema_core.specs.Entries.{names_of, find}
-use Rattle.schema_core.specs.Meaning.{IsDistinct}
 use Rattle.schema_core.proofs.Fields.{look-put, first-false, rest-false}
 
 abbrev or_else : Option Json → Option Json → Option Json

@@ -1,7 +1,8 @@
 -- What a schema accepts, told on the tree, and the laws that the JSON of the tree says the same.
 use Rattle.std.specs.Prelude.{◌≡◌, ℕ, ℤ, List, [], ◌∷◌, Bool, true, false, ◌&&◌, ◌||◌, Option, Some, None, option_map, codes, int_le, pos, length, drop, IsTrue}
 use Rattle.std.specs.List.{list_all, list_any}
-use Rattle.acceptance.specs.Json.{Json, names, is_in, look, same, distinct, on_map, on_list, on_number, if_there}
+use Rattle.acceptance.specs.Json.{Json, names, look, same, distinct, on_map, on_list, on_number, if_there}
+use Rattle.texts.specs.Names.{is_in, IsDistinct}
 use Rattle.acceptance.specs.Acceptance.{kinds_of, others_pass, names_pass, accepts_with, component_schema}
 use Rattle.acceptance.specs.References.{EachReference}
 use Rattle.schema_core.specs.declared.tree.TypeWord.{TypeWord}
@@ -87,10 +88,6 @@ abbrev mutual
   pub properties_accept : {X : Type 0} → (X → Json → Bool) → PropertiesOf X → List (List ℕ × Json) → Bool
   properties_accept leaf_accepts no_properties es = true
   properties_accept leaf_accepts (property k s ps) es = if_there (look k es) (tree_accepts leaf_accepts s) && properties_accept leaf_accepts ps es
-
-abbrev pub IsDistinct : List (List ℕ) → Type 0
-IsDistinct [] = Unit {0}
-IsDistinct (k ∷ ks) = (is_in k ks ≡ false) × IsDistinct ks
 
 -- no object of the tree names a property twice
 abbrev mutual

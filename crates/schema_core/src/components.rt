@@ -14,11 +14,11 @@ ghost use Rattle.schema_core.specs.Schema.{schema_view};
 use crate::form::schema_value;
 use crate::members::{object_of, put};
 use crate::tree::Schema;
-use diag::{List, Text};
 use serde_json::{Map, Value};
 use std::alloc::{AllocError, Global};
 use std::cmp::Ordering;
 use std::marker::Model;
+use texts::{List, Text};
 
 /// Schemas under their names. The names are distinct and in byte order.
 #[derive(Drop)]

@@ -3,8 +3,8 @@
 ghost use Rattle.std.specs.Prelude.{◌≡◌, IfOk};
 
 use crate::json_value::Json;
-use diag::{List, Text};
 use std::alloc::{AllocError, Global};
+use texts::{List, Text};
 
 /// Another text with the same bytes, where there is one.
 pub fn copy_text(alloc: Global, text: &Option<Text>) -> Result<Option<Text>, AllocError>

@@ -18,9 +18,9 @@ use crate::tree::{
     Additional, AllOfSchema, Array, ArrayItems, Object, OneOfSchema, RefLeaf, Schema,
     SchemaTypeInner, Tree, TypeWord,
 };
-use diag::{List, Text};
 use serde_json::{Map, Value};
 use std::alloc::{AllocError, Global};
+use texts::{List, Text};
 
 fn word_of(word: SchemaTypeInner) -> &'static str
     ensures { result.now ≡ word_text word }

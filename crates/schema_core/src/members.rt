@@ -10,9 +10,9 @@ ghost use Rattle.schema_core.specs.Members.{Puts};
 
 use crate::bound::Bound;
 use crate::json_value::Json;
-use diag::Text;
 use serde_json::{Map, Value};
 use std::alloc::{AllocError, Global};
+use texts::Text;
 
 /// The value of a text.
 pub(crate) fn text_value(alloc: Global, text: &str) -> Result<Value, AllocError>

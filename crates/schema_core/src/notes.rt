@@ -3,8 +3,8 @@ ghost use Rattle.schema_core.specs.Notes.{no_notes};
 
 use crate::copies::{copy_json, copy_jsons, copy_text};
 use crate::json_value::Json;
-use diag::{List, Text};
 use std::alloc::{AllocError, Global};
+use texts::{List, Text};
 
 /// What a schema says of itself. No value is refused for it.
 #[derive(Debug)]

@@ -1,7 +1,7 @@
 use crate::bound::Bound;
 use crate::json_value::Json;
 use crate::notes::Notes;
-use diag::{List, Text};
+use texts::{List, Text};
 
 /// A word of `type` (JSON Schema 2020-12, Validation, 6.1.1).
 #[derive(Clone, Copy, Debug, PartialEq, Eq)]

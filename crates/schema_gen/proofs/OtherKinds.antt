@@ -2,13 +2,13 @@
 use Rattle.std.proofs.Common.{◌≡◌, ◌∙◌, ◌⊎◌, ℕ, List, [], ◌∷◌, inl, inr, sym, subst, codes, Option, Some, None, Result, Ok, Err, IsSomeAnd, Any}
 use Rattle.diag.specs.Diagnostics.{HasFirst, diagnostic}
 use Rattle.diag.specs.Refusal.{IsRefusal}
-use Rattle.diag.specs.Span.{no_span}
+use Rattle.texts.specs.Span.{no_span}
 use Rattle.diag.specs.declared.diagnostics.DiangosticsInner.{DiangosticsInner}
 use Rattle.diag.specs.declared.error.DeriveError.{DeriveError}
 use Rattle.diag.specs.declared.error.DeriveError.TheVariants.{Refused, Memory}
 use Rattle.diag.specs.declared.kind.Kind.{Kind}
 use Rattle.diag.specs.declared.kind.Kind.TheVariants.{BadConfig, TooLong, TooDeep, Syntax, DuplicateName, UnknownType, Arity, TypeSize, TooManyInstances, InlineDepth, TooManyCopies, MissingRow, SerdeTag, BadValue}
-use Rattle.diag.specs.declared.span.Span.{Span}
+use Rattle.texts.specs.declared.span.Span.{Span}
 use Rattle.diag.specs.declared.rename_rule.RenameRule.{RenameRule}
 use Rattle.diag.specs.declared.rename_row.RenameRow.{RenameRow}
 use Rattle.attributes.specs.AttributeReading.{serde_items}
@@ -18,7 +18,8 @@ use Rattle.serde_rules.specs.declared.enum_repr.SerdeEnumRepr.{SerdeEnumRepr}
 use Rattle.serde_rules.specs.Items.{literal_for}
 use Rattle.serde_rules.specs.Container.{TagFault, representation, rule_named, rename_rule, unknown_rule, IsTagRefusal, IsRuleRefusal, IsContainerRefusal}
 use Rattle.syntax.specs.Items.{FieldItem, DeclaredItem}
-use Rattle.resolving.specs.Resolved.{Fault, unknown_type, wrong_arity, too_large, IsRefusedFor, Somewhere}
+use Rattle.resolving.specs.Resolved.{Fault, unknown_type, wrong_arity, too_large, IsRefusedFor}
+use Rattle.texts.specs.Lists.{Somewhere}
 use Rattle.configuration.specs.Configuration.{Configuration}
 use Rattle.configuration.specs.Form.{IsBadConfig}
 use Rattle.derive_decl.specs.Resolved.{DeclarationOf}

@@ -18,7 +18,7 @@ pub use Rattle.derive_decl.specs.Resolved as Declarations
 pub use Rattle.diag.specs.Diagnostics
 pub use Rattle.diag.specs.Kind
 pub use Rattle.diag.specs.Refusal
-pub use Rattle.diag.specs.Span
+pub use Rattle.texts.specs.Span
 pub use Rattle.files.specs.Faults as FileFaults
 pub use Rattle.files.specs.Held
 pub use Rattle.files.specs.Memory as FileMemory

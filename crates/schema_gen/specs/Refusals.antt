@@ -5,13 +5,13 @@ use Rattle.std.specs.Str.{IsUtf8, IsValidUpTo}
 use Rattle.diag.specs.Diagnostics.{text_of, HasFirst}
 use Rattle.diag.specs.Kind.{name_of}
 use Rattle.diag.specs.Refusal.{IsRefusal, IsSyntaxRefusal}
-use Rattle.diag.specs.Span.{no_span}
+use Rattle.texts.specs.Span.{no_span}
 use Rattle.diag.specs.declared.diagnostics.DiangosticsInner.{DiangosticsInner}
 use Rattle.diag.specs.declared.error.DeriveError.{DeriveError}
 use Rattle.diag.specs.declared.error.DeriveError.TheVariants as error
 use Rattle.diag.specs.declared.kind.Kind.{Kind}
 use Rattle.diag.specs.declared.kind.Kind.TheVariants.{TooLong}
-use Rattle.diag.specs.declared.span.Span.{Span}
+use Rattle.texts.specs.declared.span.Span.{Span}
 use Rattle.syntax.specs.Items.{DeclaredItem}
 use Rattle.syntax.specs.Source.{Reads, NestsTooDeep}
 use Rattle.configuration.specs.Configuration.{Configuration}

@@ -4,7 +4,8 @@ ghost use Rattle.std.specs.Prelude.{◌≡◌};
 ghost use Rattle.schema_gen.specs.Endings.{status_of, document_of, report_of};
 
 use crate::status::Status;
-use diag::{Kind, Text};
+use diag::Kind;
+use texts::Text;
 
 /// The end of a run, before it is written.
 #[derive(Drop)]

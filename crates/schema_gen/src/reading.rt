@@ -22,10 +22,11 @@ use crate::refusal::{MAX_BYTES, refusal_line, source_text, too_long};
 use crate::status::Status;
 use compose::derive_components;
 use configuration::{Config, bad_config};
-use diag::{DeriveError, Diagnostics, Kind, Text};
+use diag::{DeriveError, Diagnostics, Kind};
 use files::{FileAnswer, Files};
 use std::alloc::{AllocError, Global};
 use streams::{ReadError, Source, read_all};
+use texts::Text;
 
 /// The ending of a run that is refused.
 fn refused(alloc: Global, refusal: &Diagnostics) -> Ending

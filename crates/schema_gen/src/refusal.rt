@@ -3,12 +3,13 @@
 ghost use Rattle.std.specs.Prelude.{◌≡◌, ◌≤◌, ◌⊎◌, [], ◌∷◌, length, codes, IfOk, IfErr};
 ghost use Rattle.std.specs.Str.{IsUtf8, IsValidUpTo, IsErrorLen, valid_up_to, error_len};
 ghost use Rattle.diag.specs.Refusal.{IsRefusal};
-ghost use Rattle.diag.specs.Span.{no_span};
+ghost use Rattle.texts.specs.Span.{no_span};
 ghost use Rattle.schema_gen.specs.Refusals.{most_bytes, IsBroken, IsNoText, refusal_line};
 
-use diag::{DeriveError, Diagnostics, Kind, Span, Text};
+use diag::{DeriveError, Diagnostics, Kind};
 use std::alloc::{AllocError, Global};
 use std::str::Utf8Error;
+use texts::{Span, Text};
 
 /// The most bytes of a source, and of a configuration's file.
 pub(crate) const MAX_BYTES: usize = 1_048_576;

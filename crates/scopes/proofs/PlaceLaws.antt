@@ -3,10 +3,9 @@ use Rattle.std.proofs.Common.{ℕ, zero, suc, ◌<◌, List, [], ◌∷◌, ◌+
 use Rattle.std.specs.Map.{update}
 use Rattle.std.proofs.lemmas.Slice.Eq.{bytes_eq-Decides}
 use Rattle.std.proofs.lemmas.Bool.{false≢true}
-use Rattle.acceptance.specs.Json.{is_in}
-use Rattle.schema_core.specs.Meaning.{IsDistinct}
+use Rattle.texts.specs.Names.{is_in, IsDistinct, place_in}
 use Rattle.written_types.specs.declared.written.Ident.{Ident}
-use Rattle.scopes.specs.Names.{place_in, texts}
+use Rattle.scopes.specs.Names.{texts}
 
 bool_cases : (b : Bool) → (b ≡ true) ⊎ (b ≡ false)
 bool_cases true = inl refl

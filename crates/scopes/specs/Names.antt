@@ -1,13 +1,8 @@
 -- The names that declarations give, and the places where they stand.
 use Rattle.std.specs.Prelude.{◌≡◌, ℕ, suc, List, [], ◌∷◌, ◌++◌, Option, Some, None, option_map, bytes_eq, cond, IsTrue, codes}
-use Rattle.acceptance.specs.Json.{is_in}
+use Rattle.texts.specs.Names.{is_in, place_in}
 use Rattle.written_types.specs.declared.written.Ident.{Ident}
 use Rattle.syntax.specs.Items.{DeclaredItem}
-
--- the place of the first equal name
-abbrev pub place_in : List ℕ → List (List ℕ) → Option ℕ
-place_in k [] = None
-place_in k (n ∷ ns) = cond (bytes_eq k n) (Some 0) (option_map suc (place_in k ns))
 
 abbrev pub declared_names : List DeclaredItem → List (List ℕ)
 declared_names [] = []

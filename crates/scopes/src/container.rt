@@ -3,9 +3,9 @@ ghost use Rattle.scopes.specs.Descriptions.{description_of};
 
 use crate::scope::Scope;
 use configuration::Config;
-use diag::Text;
 use std::alloc::{AllocError, Global};
 use syntax::CommentAttributes;
+use texts::Text;
 
 /// Where a place stands: the declarations of its source, and the configuration.
 #[derive(Clone, Copy)]

@@ -3,10 +3,10 @@
 ghost use Rattle.std.specs.Prelude.{◌≡◌, ◌⊎◌, ℕ, List, map, IfOk, IfErr};
 ghost use Rattle.std.specs.BTreeMap.{get_by_text};
 ghost use Rattle.diag.specs.Refusal.{IsRefusal};
-ghost use Rattle.schema_core.specs.Meaning.{IsDistinct};
+ghost use Rattle.texts.specs.Names.{IsDistinct, place_in};
 ghost use Rattle.written_types.specs.declared.written.Ident.{Ident as AnyIdent};
 ghost use Rattle.syntax.specs.Items.{declarations_view};
-ghost use Rattle.scopes.specs.Names.{place_in, place_among, declared_names, declared_idents, texts, Repeats, duplicate_message};
+ghost use Rattle.scopes.specs.Names.{place_among, declared_names, declared_idents, texts, Repeats, duplicate_message};
 
 use diag::{DeriveError, Diagnostics, Kind};
 use std::alloc::{AllocError, Global};

@@ -4,7 +4,8 @@ ghost use Rattle.std.specs.Prelude.{◌≡◌, ◌≤◌, ◌⊎◌, IfOk, IfErr
 ghost use Rattle.written_types.specs.Written.{written_view};
 ghost use Rattle.open_types.specs.Open.{open_view, IsClosed};
 ghost use Rattle.resolving.specs.Names.{size};
-ghost use Rattle.resolving.specs.Resolved.{type_of, Fault as AnyFault, IsFault, IsRefusedFor, IsWithin};
+ghost use Rattle.resolving.specs.Resolved.{type_of, Fault as AnyFault, IsFault, IsRefusedFor};
+ghost use Rattle.open_types.specs.Within.{IsWithin};
 ghost use Rattle.scopes.specs.Names.{place_among};
 ghost use Rattle.scopes.specs.Scopes.{declared_in, IsScope};
 

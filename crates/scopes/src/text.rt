@@ -2,15 +2,15 @@
 
 ghost use Rattle.std.specs.Prelude.{◌≡◌, ◌<◌, ◌++◌, codes, length, IfOk, OnOk};
 ghost use Rattle.open_types.specs.Open.{open_view, opens_view};
-ghost use Rattle.resolving.specs.Resolved.{IsWithin, AreWithin};
+ghost use Rattle.open_types.specs.Within.{IsWithin, AreWithin};
 ghost use Rattle.syntax.specs.Items.{declarations_view};
 ghost use Rattle.scopes.specs.Texts.{name_at, applied, applied_to, tuple_end, separator, type_text, texts_from};
 
 use crate::heads::{list_name, map_name, set_name, through_name};
-use diag::Text;
 use open_types::{ClosedType, OpenType};
 use std::alloc::{AllocError, Global};
 use syntax::Declarations;
+use texts::Text;
 
 /// How the type reads, as `Page<Vec<User>>`, where the declarations have the names of its places.
 pub fn type_text(

@@ -6,8 +6,9 @@ ghost use Rattle.serde_rules.specs.Container.{with_tag, with_content, with_item,
 
 use crate::items::{is_named, literal_for};
 use attributes::{SerdeItem, SerdeText};
-use diag::{DeriveError, Kind, Text};
+use diag::{DeriveError, Kind};
 use std::alloc::{AllocError, Global};
+use texts::Text;
 
 /// How the values of an enum are represented. The default is what holds without attributes.
 #[derive(Debug, Default, Drop, PartialEq, Eq)]

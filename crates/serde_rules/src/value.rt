@@ -10,8 +10,8 @@ ghost use Rattle.serde_rules.specs.Value.{is_skipping, is_double_option, value_r
 
 use crate::items::{is_named, is_told, literal_for};
 use attributes::{Attribute, SerdeItem, serde_items};
-use diag::Text;
 use std::alloc::{AllocError, Global};
+use texts::Text;
 
 /// The `with` module of a field that tells an absent member from null.
 const DOUBLE_OPTION: &str = "::serde_with::rust::double_option";

@@ -1,6 +1,6 @@
 -- What the public readers ensure, from what was read.
 use Rattle.std.proofs.Common.{◌≡◌, ◌∙◌, ℕ, ◌<◌, ◌≤◌, arith, ◌⊎◌, inl, inr, List, length, sym, subst, Result, Ok, Err}
-use Rattle.diag.specs.declared.span.Span.{Span}
+use Rattle.texts.specs.declared.span.Span.{Span}
 use Rattle.diag.specs.Refusal.{IsSyntaxRefusal}
 use Rattle.diag.specs.declared.error.DeriveError.{DeriveError}
 use Rattle.diag.specs.declared.error.DeriveError.TheVariants as errors

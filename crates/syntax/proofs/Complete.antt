@@ -1,6 +1,6 @@
 -- What is in the grammar is read, unless a type nests too deep, where ty reads types.
 use Rattle.std.proofs.Common.{◌≡◌, ◌∙◌, suc, ◌<◌, inl, inr, List, [], ◌∷◌, length, refl, ap, sym, subst, arith, true, false, not, ◌&&◌, cond, is_some, Option, Some, None, Ok, Err}
-use Rattle.diag.specs.declared.span.Span.{Span}
+use Rattle.texts.specs.declared.span.Span.{Span}
 use Rattle.tokens.specs.declared.token.Bracket.TheVariants.{Round, Square}
 use Rattle.tokens.specs.declared.token.Token.{Token}
 use Rattle.tokens.specs.Trees.{Trees}

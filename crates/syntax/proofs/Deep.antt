@@ -1,6 +1,6 @@
 -- Where readers of items stop for depth, a type nests too deep.
 use Rattle.std.proofs.Common.{◌≡◌, ◌∙◌, ℕ, zero, suc, inl, inr, List, [], ◌∷◌, ◌++◌, length, refl, ap, sym, subst, Bool, true, false, cond, Option, Some, None, Result, Ok, Err}
-use Rattle.diag.specs.declared.span.Span.{Span}
+use Rattle.texts.specs.declared.span.Span.{Span}
 use Rattle.tokens.specs.declared.token.Bracket.{Bracket}
 use Rattle.tokens.specs.declared.token.Bracket.TheVariants.{Round, Square, Curly}
 use Rattle.tokens.specs.Trees.{Trees}

@@ -1,6 +1,6 @@
 -- What readers of items that went well have read, where ty reads types.
 use Rattle.std.proofs.Common.{◌≡◌, ◌∙◌, ℕ, zero, suc, ◌<◌, List, [], ◌∷◌, ◌++◌, length, refl, ap, sym, subst, arith, Bool, true, false, cond, is_some, Option, Some, None, Result, Ok, Err}
-use Rattle.diag.specs.declared.span.Span.{Span}
+use Rattle.texts.specs.declared.span.Span.{Span}
 use Rattle.tokens.specs.declared.token.Bracket.{Bracket}
 use Rattle.tokens.specs.declared.token.Bracket.TheVariants.{Round, Square, Curly}
 use Rattle.tokens.specs.Trees.{Trees}

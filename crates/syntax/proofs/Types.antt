@@ -1,6 +1,6 @@
 -- What items need of types.
 use Rattle.std.proofs.Common.{◌≡◌, ◌<◌, ◌⊎◌, ℕ, List, [], ◌∷◌, length, ap, sym, ◌∙◌, arith, true, Ok, Err}
-use Rattle.diag.specs.declared.span.Span.{Span}
+use Rattle.texts.specs.declared.span.Span.{Span}
 use Rattle.tokens.specs.declared.token.Bracket.TheVariants.{Round}
 use Rattle.tokens.specs.Trees.{Trees}
 use Rattle.written_types.specs.Written.{Written}

@@ -1,6 +1,6 @@
 -- The grammar of items (The Rust Reference, "Items", "Structs", "Visibility and Privacy"). In `IsX before x rest` the words before begin with an x, and rest is what follows it.
 use Rattle.std.specs.Prelude.{◌≡◌, List, [], ◌∷◌, Some, None, true}
-use Rattle.diag.specs.declared.span.Span.{Span}
+use Rattle.texts.specs.declared.span.Span.{Span}
 use Rattle.tokens.specs.declared.token.Token.{Token}
 use Rattle.tokens.specs.declared.token.Bracket.TheVariants.{Round, Square, Curly}
 use Rattle.tokens.specs.Trees.{Trees}

@@ -1,7 +1,7 @@
 -- Words of items: visibilities, and what a `use` line takes (The Rust Reference, "Visibility and Privacy", "Use declarations").
 use Rattle.std.specs.Prelude.{◌-◌, List, [], ◌∷◌, length, get_or, Bool, true, false, cond, Option, Some, None, is_some, is_none}
-use Rattle.diag.specs.Span.{no_span}
-use Rattle.diag.specs.declared.span.Span.{Span}
+use Rattle.texts.specs.Span.{no_span}
+use Rattle.texts.specs.declared.span.Span.{Span}
 use Rattle.words.specs.declared.vocabulary.Keyword.TheVariants as keywords
 use Rattle.words.specs.declared.vocabulary.Sign.TheVariants.{Semicolon}
 use Rattle.words.specs.Words.{Word, name, underscore, keyword, sign, lifetime, literal, doc, group, cover}

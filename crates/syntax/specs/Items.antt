@@ -1,6 +1,6 @@
 -- Fields and declarations, without where they lie in memory (The Rust Reference, "Structs").
 use Rattle.std.specs.Prelude.{List, Option, map}
-use Rattle.diag.specs.declared.span.Span.{Span}
+use Rattle.texts.specs.declared.span.Span.{Span}
 use Rattle.written_types.specs.declared.written.Ident.{Ident}
 use Rattle.written_types.specs.Written.{Written, written_view}
 use Rattle.attributes.specs.Attributes.{AttributeItem, attribute_view}

@@ -1,5 +1,5 @@
 use attributes::Attribute;
-use diag::{List, Span};
+use texts::{List, Span};
 use written_types::{Ident, WrittenType};
 
 /// A field of a struct, without a name where its form has none. The span goes from the visibility, or else from the

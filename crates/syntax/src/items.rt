@@ -15,8 +15,8 @@ ghost use Rattle.syntax.specs.ItemReading.{named_field_at, unnamed_field_at, fie
 use crate::item::{Body, Declaration, Field, Fields};
 use crate::scope::{after_semicolon, after_visibility, spanning};
 use attributes::{Attribute, attributes_at};
-use diag::List;
 use std::alloc::Global;
+use texts::List;
 use tokens::{Bracket, Group, TokenTree};
 use type_grammar::{MAX_LEVELS, type_at};
 use words::{

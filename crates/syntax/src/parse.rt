@@ -1,7 +1,7 @@
 //! From a source to its declarations, and from a text to a type.
 
 ghost use Rattle.std.specs.Prelude.{◌≡◌, ◌≤◌, ◌⊎◌, map, IfOk, IfErr};
-ghost use Rattle.diag.specs.declared.span.Span.{Span};
+ghost use Rattle.texts.specs.declared.span.Span.{Span};
 ghost use Rattle.written_types.specs.Written.{written_view};
 ghost use Rattle.words.specs.Words.{words_view};
 ghost use Rattle.words.specs.Reading.{Gives};
@@ -14,9 +14,10 @@ ghost use Rattle.syntax.specs.Source.{Reads, NestsTooDeep, IsUnreadable, IsTooDe
 use crate::beginning::after_inner;
 use crate::item::{Declaration, Declarations};
 use crate::items::items_of;
-use diag::{DeriveError, List, Span};
+use diag::DeriveError;
 use lexing::{deep_brackets_nest_deep, lex, one_cut};
 use std::alloc::Global;
+use texts::{List, Span};
 use tokens::TokenTree;
 use type_grammar::read_type;
 use words::Stop;

@@ -9,7 +9,7 @@ ghost use Rattle.words.specs.Reading.{as_sign};
 ghost use Rattle.syntax.specs.ItemWords.{after_semicolon, is_end, is_restriction, span_of, spanning};
 ghost use Rattle.syntax.specs.ItemReading.{is_scope, ends_item, after_scope, after_visibility};
 
-use diag::Span;
+use texts::Span;
 use tokens::{Bracket, TokenTree};
 use words::{Keyword, Sign, Word, covering, optional_keyword, word_of};
 

@@ -1,5 +1,5 @@
 -- Token trees without their spans: each is `0..0`.
-use Rattle.diag.specs.Span.{no_span}
+use Rattle.texts.specs.Span.{no_span}
 use Rattle.tokens.specs.declared.token.Token.{Token}
 use Rattle.tokens.specs.Trees.{Tree, token, group, Trees, end, ◌▸◌}
 

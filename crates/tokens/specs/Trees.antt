@@ -1,6 +1,6 @@
 -- Token trees, without where they lie in memory (The Rust Reference, "Tokens", "Delimiters").
 use Rattle.std.specs.Prelude.{ℕ, suc, max, List, [], ◌∷◌, map}
-use Rattle.diag.specs.declared.span.Span.{Span}
+use Rattle.texts.specs.declared.span.Span.{Span}
 use Rattle.tokens.specs.declared.token.Token.{Token}
 use Rattle.tokens.specs.declared.token.Bracket.{Bracket}
 use Rattle.tokens.specs.declared.token.Group.{Group, fold-Group}

@@ -4,8 +4,8 @@ ghost use Rattle.std.specs.Prelude.{◌≡◌, IfOk};
 ghost use Rattle.tokens.specs.Trees.{tree_view, group_view, trees_view};
 
 use crate::token::{Group, Token, TokenTree};
-use diag::List;
 use std::alloc::{AllocError, Global};
+use texts::List;
 
 impl Token {
     /// Another token with the same kind, text and span.

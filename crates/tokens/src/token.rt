@@ -1,4 +1,4 @@
-use diag::{List, Span, Text};
+use texts::{List, Span, Text};
 
 /// What a token is.
 #[derive(Clone, Copy, Debug, PartialEq, Eq)]

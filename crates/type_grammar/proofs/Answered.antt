@@ -1,6 +1,6 @@
 -- What the public reader ensures, from what it returned.
 use Rattle.std.proofs.Common.{◌≡◌, inl, inr, List, [], refl, ap, sym, subst, ◌∙◌, Ok, Err, Result, IfOk}
-use Rattle.diag.specs.declared.span.Span.{Span}
+use Rattle.texts.specs.declared.span.Span.{Span}
 use Rattle.written_types.specs.declared.written.WrittenType.{WrittenType}
 use Rattle.written_types.specs.Written.{Written, written_view}
 use Rattle.words.specs.declared.stopping.Stop.{Stop}

@@ -1,6 +1,6 @@
 -- The readers of segments and of bounds, turn by turn.
 use Rattle.std.proofs.Common.{◌≡◌, ℕ, zero, suc, ◌<◌, List, [], ◌∷◌, ◌++◌, length, refl, ap, sym, ◌∙◌, arith, Bool, true, Option, Some, None, Ok, Err, Result, append_assoc}
-use Rattle.diag.specs.declared.span.Span.{Span}
+use Rattle.texts.specs.declared.span.Span.{Span}
 use Rattle.written_types.specs.Written.{Segment}
 use Rattle.words.specs.declared.vocabulary.Sign.TheVariants.{Colons, Plus, Question}
 use Rattle.words.specs.declared.stopping.Stop.{Stop}

@@ -1,6 +1,6 @@
 -- What is in the grammar is read, unless it nests too deep.
 use Rattle.std.proofs.Common.{◌≡◌, ℕ, zero, suc, ◌⊎◌, inl, inr, List, [], ◌∷◌, refl, ap, sym, ◌∙◌, cond, Bool, true, false, Option, Some, None, Ok, Err, Result}
-use Rattle.diag.specs.declared.span.Span.{Span}
+use Rattle.texts.specs.declared.span.Span.{Span}
 use Rattle.tokens.specs.declared.token.Bracket.TheVariants.{Round, Square, Curly}
 use Rattle.tokens.specs.Trees.{end}
 use Rattle.written_types.specs.declared.written.Ident.{Ident}

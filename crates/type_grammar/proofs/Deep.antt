@@ -1,6 +1,6 @@
 -- When reading stops at a type that nests too deep, and that it stops there.
 use Rattle.std.proofs.Common.{◌≡◌, ℕ, zero, suc, ◌⊎◌, inl, inr, List, [], ◌∷◌, length, refl, ap, sym, subst, ◌∙◌, cond, Bool, true, false, Option, Some, None, Ok, Err, Result}
-use Rattle.diag.specs.declared.span.Span.{Span}
+use Rattle.texts.specs.declared.span.Span.{Span}
 use Rattle.tokens.specs.declared.token.Bracket.TheVariants.{Round, Square}
 use Rattle.tokens.specs.Trees.{Trees}
 use Rattle.written_types.specs.declared.written.Ident.{Ident}

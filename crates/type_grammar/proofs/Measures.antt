@@ -1,6 +1,6 @@
 -- A measure of words, and that each part of a type takes words.
 use Rattle.std.proofs.Common.{◌≡◌, ℕ, suc, ◌+◌, ◌<◌, ◌≤◌, List, [], ◌∷◌, length, refl, arith, Bool}
-use Rattle.diag.specs.declared.span.Span.{Span}
+use Rattle.texts.specs.declared.span.Span.{Span}
 use Rattle.tokens.specs.Trees.{Trees}
 use Rattle.written_types.specs.Written.{Written, WrittenPath, Segment, Argument}
 use Rattle.words.specs.Words.{Word}

@@ -1,6 +1,6 @@
 -- Nothing nests deeper than the count of all trees, so words have one reading.
 use Rattle.std.proofs.Common.{◌≡◌, ℕ, suc, ◌+◌, ◌<◌, inl, inr, List, refl, ap, sym, ◌∙◌, arith, cond, Bool, true, false, Option, Some, None, Ok}
-use Rattle.diag.specs.declared.span.Span.{Span}
+use Rattle.texts.specs.declared.span.Span.{Span}
 use Rattle.tokens.specs.declared.token.Token.{Token}
 use Rattle.tokens.specs.declared.token.TokenKind.{TokenKind}
 use Rattle.tokens.specs.declared.token.TokenKind.TheVariants as kinds

@@ -1,6 +1,6 @@
 -- The grammar of types (The Rust Reference, "Types", "Paths"). In `IsX before x rest` the words before begin with an x, and rest is what follows it.
 use Rattle.std.specs.Prelude.{◌≡◌, ℕ, codes, List, [], ◌∷◌, Bool, true, false, Some}
-use Rattle.diag.specs.declared.span.Span.{Span}
+use Rattle.texts.specs.declared.span.Span.{Span}
 use Rattle.tokens.specs.declared.token.Token.{Token}
 use Rattle.tokens.specs.declared.token.TokenKind.TheVariants as kinds
 use Rattle.tokens.specs.declared.token.Bracket.TheVariants.{Round, Square, Curly}

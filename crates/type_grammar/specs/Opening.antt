@@ -1,7 +1,7 @@
 -- How deep types nest: which part of a type, read from the left, begins so many levels further in, and where it begins.
 -- A reference, a parenthesis, a tuple, an array, a slice and an argument list each are a level.
 use Rattle.std.specs.Prelude.{◌≡◌, ℕ, zero, suc, List, ◌∷◌, Bool, true, false, Some}
-use Rattle.diag.specs.declared.span.Span.{Span}
+use Rattle.texts.specs.declared.span.Span.{Span}
 use Rattle.tokens.specs.declared.token.Bracket.TheVariants.{Round, Square}
 use Rattle.tokens.specs.Trees.{Trees}
 use Rattle.written_types.specs.declared.written.Ident.{Ident}

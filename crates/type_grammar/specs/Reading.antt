@@ -1,6 +1,6 @@
 -- Reading types from left to right, as functions.
 use Rattle.std.specs.Prelude.{codes, ℕ, zero, suc, List, [], ◌∷◌, ◌++◌, length, Option, Some, None, Result, Ok, Err, Bool, true, false, cond}
-use Rattle.diag.specs.declared.span.Span.{Span}
+use Rattle.texts.specs.declared.span.Span.{Span}
 use Rattle.tokens.specs.declared.token.Bracket.TheVariants.{Curly}
 use Rattle.tokens.specs.Trees.{Trees, token, end, ◌▸◌, trees_view}
 use Rattle.tokens.specs.Trees as trees

@@ -8,8 +8,8 @@ ghost use Rattle.words.specs.declared.vocabulary.Sign.TheVariants.{Minus};
 ghost use Rattle.type_grammar.specs.Grammar.{minus_token, keyword_token};
 ghost use Rattle.type_grammar.specs.Reading.{plain_argument};
 
-use diag::{List, Span, Text};
 use std::alloc::{AllocError, Global};
+use texts::{List, Span, Text};
 use tokens::{Bracket, Group, Token, TokenKind, TokenTree};
 use words::{Keyword, Sign, Word, lifetime_of, word_of};
 use written_types::GenericArgument;

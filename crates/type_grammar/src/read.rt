@@ -1,7 +1,7 @@
 //! A whole type, and the laws of the grammar.
 
 ghost use Rattle.std.specs.Prelude.{◌≡◌, ◌⊎◌, ◌<◌, ℕ, List, [], ◌∷◌, length, true, IfOk, Ok, Err};
-ghost use Rattle.diag.specs.declared.span.Span.{Span as Bytes};
+ghost use Rattle.texts.specs.declared.span.Span.{Span as Bytes};
 ghost use Rattle.written_types.specs.Written.{Written, written_view};
 ghost use Rattle.words.specs.Words.{Word, words_view};
 ghost use Rattle.words.specs.Reading.{Gives, IsWrong, deep};

@@ -6,7 +6,7 @@ ghost use Rattle.words.specs.Words.{word_of};
 ghost use Rattle.type_grammar.specs.Reading.{start_view};
 ghost use Rattle.type_grammar.specs.Starts.{type_start};
 
-use diag::Span;
+use texts::Span;
 use tokens::{Bracket, Group, TokenTree};
 use words::{Keyword, Sign, Word, word_of};
 

@@ -14,8 +14,8 @@ use crate::parts::{
     ends_list, first_bound, is_end,
 };
 use crate::starts::{Bounds, TypeStart, type_start};
-use diag::{List, Span};
 use std::alloc::Global;
+use texts::{List, Span};
 use tokens::{Group, Token, TokenTree};
 use words::{
     Sign, Stop, covering, ident_of, optional_lifetime, optional_sign, path_word_at, sign_at,

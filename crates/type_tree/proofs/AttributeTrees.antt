@@ -1,6 +1,6 @@
 -- Token trees in attributes: one token, and the bytes from the first tree to the last.
 use Rattle.std.proofs.Common.{◌≡◌, ◌-◌, ◌≤◌, suc, List, [], ◌∷◌, Option, None, length, get_or, refl, ap, ◌∙◌, arith}
-use Rattle.diag.specs.declared.span.Span.{Span}
+use Rattle.texts.specs.declared.span.Span.{Span}
 use Rattle.tokens.specs.Trees.{tree_view, trees_view}
 use Rattle.tokens.specs.declared.token.Token.{Token}
 use Rattle.tokens.specs.declared.token.TokenTree.{TokenTree}

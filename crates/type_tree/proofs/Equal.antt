@@ -8,7 +8,7 @@ use Rattle.std.specs.List.{AllByRecursion}
 use Rattle.std.specs.Option.{option_eq}
 use Rattle.std.proofs.lemmas.Bool.Decides.{Decides-and, Decides-at, Decides-like}
 use denote.Enum.Bare.{same_true, true_same}
-use Rattle.diag.specs.declared.span.Span.{Span}
+use Rattle.texts.specs.declared.span.Span.{Span}
 use Rattle.written_types.specs.declared.written.Path.{Path}
 use Rattle.written_types.specs.contracts.written.PathPartialEq.TheImpl as written_eq
 use Rattle.written_types.specs.Written.{path_view}

@@ -3,7 +3,7 @@ use Rattle.std.proofs.Common.{◌≡◌, ℕ, ◌+◌, ◌-◌, ◌<◌, ◌==�
 use Rattle.std.specs.Prelude.{option_map, slice_get}
 use Rattle.std.specs.Option.{option_to_list}
 use Rattle.std.proofs.lemmas.List.{drop_more}
-use Rattle.diag.specs.declared.span.Span.{Span}
+use Rattle.texts.specs.declared.span.Span.{Span}
 use Rattle.written_types.specs.declared.written.WrittenType.{WrittenType}
 use Rattle.written_types.specs.declared.written.GenericArgument.{GenericArgument}
 use Rattle.written_types.specs.declared.written.PathSegment.{PathSegment}

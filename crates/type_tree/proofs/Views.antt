@@ -2,7 +2,7 @@
 use Rattle.std.proofs.Common.{◌≡◌, ap, sym, ◌∙◌, Option, Vec, rules}
 use Rattle.std.specs.Prelude.{option_map}
 use Rattle.std.specs.Global.{Global}
-use Rattle.diag.specs.declared.span.Span.{Span}
+use Rattle.texts.specs.declared.span.Span.{Span}
 use Rattle.type_tree.specs.declared.path.SchemaPath.{SchemaPath}
 use Rattle.type_tree.specs.declared.tree.ValueType.{ValueType}
 use Rattle.type_tree.specs.declared.tree.GenericType.{GenericType}

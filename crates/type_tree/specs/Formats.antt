@@ -4,7 +4,7 @@ use Rattle.std.specs.List.{join_by}
 use Rattle.diag.specs.Refusal.{IsRefusal}
 use Rattle.diag.specs.declared.error.DeriveError.{DeriveError}
 use Rattle.diag.specs.declared.kind.Kind.TheVariants.{BadValue}
-use Rattle.diag.specs.declared.span.Span.{Span}
+use Rattle.texts.specs.declared.span.Span.{Span}
 use Rattle.leaves.specs.declared.leaf.Leaf.{Leaf}
 use Rattle.leaves.specs.declared.leaf.Leaf.TheVariants as leaf
 use Rattle.literal_values.specs.Values.{value_of}

@@ -1,7 +1,7 @@
 -- Type trees, without where they lie in memory, and the tree of a written type (The Rust Reference, "Types", "Paths").
 use Rattle.std.specs.Prelude.{ℕ, Bool, false, ◌||◌, List, [], ◌∷◌, map, Option, Some, None, option_map, option_and_then, bytes_eq, cond, codes, Vec}
 use Rattle.std.specs.Global.{Global}
-use Rattle.diag.specs.declared.span.Span.{Span}
+use Rattle.texts.specs.declared.span.Span.{Span}
 use Rattle.written_types.specs.Written.{Written, path, reference, tuple, slice, array, trait_object, Writtens, no_types, more_types, WrittenPath, path_of, Segments, no_segments, more_segments, Segment, plain, applied, Arguments, no_arguments, more_arguments, Argument, lifetime_argument, constant_argument, type_argument, path_view}
 use Rattle.leaves.specs.Leaves.{leaf_of}
 use Rattle.leaves.specs.declared.leaf.Leaf.{Leaf}

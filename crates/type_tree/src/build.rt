@@ -6,9 +6,9 @@ ghost use Rattle.type_tree.specs.TypeTrees.{tree_of, path_tree, segments_trees, 
 
 use crate::path::{SchemaPath, last_of, name_of};
 use crate::tree::{GenericType, TypeTree, ValueType};
-use diag::Span;
 use leaves::Leaf;
 use std::alloc::{AllocError, Global};
+use texts::Span;
 use written_types::{GenericArgument, Path, PathSegment, WrittenType};
 
 impl<'t> TypeTree<'t> {

@@ -5,9 +5,10 @@ ghost use Rattle.tokens.specs.Trees.{tree_view, trees_view};
 ghost use Rattle.type_tree.specs.Formats.{format_named, token_format, format_value, only_token, tree_span, trees_span, format_message, token_message, unexpected_value, IsRefusedFormat};
 
 use crate::known_format::KnownFormat;
-use diag::{DeriveError, Diagnostics, Kind, Span, Text};
+use diag::{DeriveError, Diagnostics, Kind};
 use literal_values::{LiteralValue, literal_value};
 use std::alloc::{AllocError, Global};
+use texts::{Span, Text};
 use tokens::{Token, TokenKind, TokenTree};
 use words::{covering, ident_of};
 use written_types::Ident;

@@ -4,9 +4,9 @@ ghost use Rattle.type_tree.specs.Formats.{format_of};
 ghost use Rattle.type_tree.specs.TypeTrees.{schema_path_view, last_name};
 
 use crate::path::SchemaPath;
-use diag::Text;
 use leaves::Leaf;
 use std::alloc::{AllocError, Global};
+use texts::Text;
 
 /// A format of a schema: one that has a name of its own, any other text, or none that is known.
 #[derive(Debug, Drop, PartialEq, Eq)]

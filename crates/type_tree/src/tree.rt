@@ -1,5 +1,5 @@
 use crate::path::SchemaPath;
-use diag::Span;
+use texts::Span;
 
 /// What the values of a type are: those of a built-in name, of anything else, of a tuple, or any value.
 #[derive(Clone, Copy, Debug, PartialEq, Eq)]

@@ -1,6 +1,6 @@
 -- What is in a list is read, unless a type in it nests too deep, where ty reads types.
 use Rattle.std.proofs.Common.{◌≡◌, ◌∙◌, ◌<◌, ◌⊎◌, inl, inr, List, [], ◌∷◌, ◌++◌, length, refl, ap, arith, Result, Ok, Err}
-use Rattle.diag.specs.declared.span.Span.{Span}
+use Rattle.texts.specs.declared.span.Span.{Span}
 use Rattle.written_types.specs.Written.{Written}
 use Rattle.words.specs.declared.vocabulary.Sign.TheVariants.{Comma}
 use Rattle.words.specs.Words.{Word, sign}

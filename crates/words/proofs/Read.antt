@@ -1,6 +1,6 @@
 -- Parts of readers that went well, and of readers that did not.
 use Rattle.std.proofs.Common.{◌≡◌, ◌<◌, ◌⊎◌, inl, inr, List, [], ◌∷◌, length, refl, ap, subst, arith, Option, Some, None, Result, Ok, Err}
-use Rattle.diag.specs.declared.span.Span.{Span}
+use Rattle.texts.specs.declared.span.Span.{Span}
 use Rattle.words.specs.Words.{Word}
 use Rattle.words.specs.Reading.{Fault, deep, ◌>>=◌, taken, first_as}
 

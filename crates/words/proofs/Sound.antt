@@ -1,6 +1,6 @@
 -- What readers of lists that went well have read.
 use Rattle.std.proofs.Common.{◌≡◌, ◌∙◌, ℕ, zero, suc, ◌⊎◌, inl, inr, List, [], ◌∷◌, length, refl, ap, sym, subst, arith, Ok}
-use Rattle.diag.specs.declared.span.Span.{Span}
+use Rattle.texts.specs.declared.span.Span.{Span}
 use Rattle.words.specs.declared.vocabulary.Sign.TheVariants.{Comma}
 use Rattle.words.specs.Words.{Word, sign}
 use Rattle.words.specs.Reading.{Read, sign_at}

@@ -1,6 +1,6 @@
 -- Lists of items with commas between them (The Rust Reference, "Notation"; "Structs": `StructFields`).
 use Rattle.std.specs.Prelude.{ℕ, zero, suc, List, [], ◌∷◌, ◌++◌, length, Result, Ok, Err}
-use Rattle.diag.specs.declared.span.Span.{Span}
+use Rattle.texts.specs.declared.span.Span.{Span}
 use Rattle.words.specs.declared.vocabulary.Sign.TheVariants.{Comma}
 use Rattle.words.specs.Words.{Word, sign}
 use Rattle.words.specs.Reading.{Fault, wrong, Read, ◌>>=◌, sign_at}

@@ -8,7 +8,7 @@ ghost use Rattle.words.specs.Reading.{Gives, wrong, word_view, as_sign, name_at,
 use crate::stopping::{Stop, stop_at};
 use crate::tree_word::{Word, word_of};
 use crate::vocabulary::{Keyword, Sign};
-use diag::Span;
+use texts::Span;
 use tokens::{Bracket, Group, Token, TokenTree};
 
 /// A name, and what follows it. It refuses trees that do not begin with one.

@@ -5,8 +5,8 @@ ghost use Rattle.tokens.specs.Trees.{tree_view};
 ghost use Rattle.words.specs.Words.{cover, opening, start_of, word_of};
 ghost use Rattle.words.specs.Reading.{IsWrong, StopsAlike};
 
-use diag::Span;
 use std::alloc::{AllocError, AllocFailed};
+use texts::Span;
 use tokens::{Group, TokenTree};
 
 /// Why reading stopped: at a word that is not of the grammar, where the words ended, at what nests too deep, or for want

@@ -7,8 +7,8 @@ ghost use Rattle.words.specs.Reading.{word_view};
 
 use crate::keywords::{keyword_of, sign_of};
 use crate::vocabulary::{Keyword, Sign};
-use diag::{Span, Text};
 use std::alloc::{AllocError, Global};
+use texts::{Span, Text};
 use tokens::{Group, Token, TokenKind, TokenTree};
 use written_types::Ident;
 

@@ -7,7 +7,7 @@ use Rattle.std.specs.List.{AllByRecursion}
 use Rattle.std.specs.Option.{option_eq, option_map}
 use Rattle.std.proofs.lemmas.Bool.Decides.{Decides-and, Decides-at, Decides-like}
 use Rattle.std.proofs.lemmas.Slice.Eq.{bytes_eq-Decides}
-use Rattle.diag.specs.Span.{no_span}
+use Rattle.texts.specs.Span.{no_span}
 use Rattle.tokens.specs.Trees.{trees_view}
 use Rattle.tokens.proofs.Equal.{same_trees, lists_equal, each_beside, each_of}
 use Rattle.written_types.specs.declared.written.Ident.{Ident}

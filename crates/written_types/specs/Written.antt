@@ -1,6 +1,6 @@
 -- Written types, without where they lie in memory (The Rust Reference, "Paths", "Types").
 use Rattle.std.specs.Prelude.{Bool, List, [], ◌∷◌, map, Option, Some, None}
-use Rattle.diag.specs.declared.span.Span.{Span}
+use Rattle.texts.specs.declared.span.Span.{Span}
 use Rattle.tokens.specs.Trees.{Trees, trees_view}
 use Rattle.written_types.specs.declared.written.Ident.{Ident}
 use Rattle.written_types.specs.declared.written.Path.{Path, fold-Path}

@@ -4,8 +4,8 @@ ghost use Rattle.std.specs.Prelude.{◌≡◌, IfOk};
 ghost use Rattle.written_types.specs.Written.{written_view, path_view, segment_view, segments_view, argument_view, arguments_view, writtens_view};
 
 use crate::written::{GenericArgument, Ident, Path, PathSegment, WrittenType};
-use diag::List;
 use std::alloc::{AllocError, Global};
+use texts::List;
 use tokens::copy_trees;
 
 impl Ident {

@@ -1,4 +1,4 @@
-use diag::{List, Span, Text};
+use texts::{List, Span, Text};
 use tokens::TokenTree;
 
 /// A name, a path's word or a lifetime. The text is without `r#`, which the span has. Two are equal where their texts are.

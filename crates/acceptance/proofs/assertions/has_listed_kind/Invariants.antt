@@ -1,7 +1,7 @@
 use Rattle.std.proofs.Common.{◌≡◌, ◌||◌, drop, option_map}
 use Rattle.std.specs.List.{list_any}
 use Rattle.acceptance.specs.Acceptance.{kinds_of, texts_of}
-use Rattle.acceptance.specs.Json.{is_in}
+use Rattle.texts.specs.Names.{is_in}
 use Rattle.acceptance.specs.Layer.{json_of_layer, json_of_values}
 use Rattle.acceptance.proofs.assertions.has_listed_kind.Given as goal
 

@@ -1,7 +1,8 @@
 use Rattle.std.proofs.Common.{◌≡◌, ◌&&◌, drop, option_map}
 use Rattle.std.specs.List.{list_all}
 use Rattle.acceptance.specs.Acceptance.{texts_of}
-use Rattle.acceptance.specs.Json.{is_in, names}
+use Rattle.acceptance.specs.Json.{names}
+use Rattle.texts.specs.Names.{is_in}
 use Rattle.acceptance.specs.Layer.{json_of_values}
 use Rattle.acceptance.proofs.Views.{pairs}
 use Rattle.acceptance.proofs.assertions.has_listed_names.Given as goal

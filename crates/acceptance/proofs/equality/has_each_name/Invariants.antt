@@ -1,6 +1,7 @@
 use Rattle.std.proofs.Common.{◌≡◌}
 use Rattle.std.specs.List.{list_all}
-use Rattle.acceptance.specs.Json.{is_in, names}
+use Rattle.acceptance.specs.Json.{names}
+use Rattle.texts.specs.Names.{is_in}
 use Rattle.acceptance.proofs.Views.{pairs}
 use Rattle.acceptance.proofs.equality.has_each_name.Given as goal
 

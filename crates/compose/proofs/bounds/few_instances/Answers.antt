@@ -3,7 +3,7 @@ use Rattle.std.proofs.lemmas.List.{length-map}
 use Rattle.diag.specs.Refusal.{IsRefusal}
 use Rattle.diag.specs.declared.kind.Kind.TheVariants.{TooManyInstances}
 use Rattle.syntax.specs.Items.{DeclaredItem, declaration_view}
-use Rattle.resolving.specs.Resolved.{Somewhere}
+use Rattle.texts.specs.Lists.{Somewhere}
 use Rattle.compose.specs.Bounds.{crowded_message}
 use Rattle.compose.proofs.Along.{somewhere_at}
 use Rattle.compose.proofs.bounds.few_instances.Goals as goal

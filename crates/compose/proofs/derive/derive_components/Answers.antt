@@ -2,11 +2,11 @@ use Rattle.std.proofs.Common.{◌≡◌, ◌∙◌, ℕ, List, map, option_map, 
 use Rattle.std.specs.BTreeMap.{get_by_text}
 use Rattle.std.specs.List.{filter_map}
 use Rattle.std.proofs.lemmas.Result.{err_from_is_err_and}
-use Rattle.diag.specs.declared.span.Span.{Span}
+use Rattle.texts.specs.declared.span.Span.{Span}
 use Rattle.schema_core.specs.Document.{Entry}
 use Rattle.schema_core.specs.Entries.{names_of}
 use Rattle.open_types.specs.Open.{open_view}
-use Rattle.scopes.specs.Names.{place_in}
+use Rattle.texts.specs.Names.{place_in}
 use Rattle.configuration.specs.Configuration.{Configuration}
 use Rattle.syntax.specs.Source.{Reads, NestsTooDeep}
 use Rattle.syntax.specs.declared.item.Declaration.{Declaration}

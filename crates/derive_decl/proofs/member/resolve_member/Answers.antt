@@ -6,7 +6,7 @@ use Rattle.attributes.specs.AttributeReading.{serde_items}
 use Rattle.serde_rules.specs.declared.value.SerdeValue.{SerdeValue}
 use Rattle.serde_rules.specs.Value.{value_rules}
 use Rattle.syntax.specs.Items.{field_view}
-use Rattle.resolving.specs.Resolved.{Somewhere}
+use Rattle.texts.specs.Lists.{Somewhere}
 use Rattle.derive_decl.specs.Fields.{is_kept, rules_view}
 use Rattle.derive_decl.specs.Faults.{IsFaultyMember}
 use Rattle.derive_decl.specs.Views.{known}

@@ -2,7 +2,7 @@ use Rattle.std.proofs.Common.{◌≡◌, map, ap, sym, ◌∙◌, subst, inl, in
 use Rattle.std.proofs.lemmas.Result.{err_from_is_err_and}
 use Rattle.diag.specs.Refusal.{IsRefusal}
 use Rattle.diag.specs.declared.kind.Kind.TheVariants.{DuplicateName}
-use Rattle.schema_core.specs.Meaning.{IsDistinct}
+use Rattle.texts.specs.Names.{IsDistinct}
 use Rattle.written_types.specs.declared.written.Ident.{Ident}
 use Rattle.syntax.specs.Items.{field_view}
 use Rattle.scopes.specs.Names.{Repeats, texts, duplicate_message}

@@ -1,6 +1,6 @@
 use Rattle.std.proofs.Common.{codes, inl, inr, refl}
 use Rattle.diag.specs.Refusal.{IsRefusal}
-use Rattle.diag.specs.Span.{no_span}
+use Rattle.texts.specs.Span.{no_span}
 use Rattle.diag.specs.declared.kind.Kind.TheVariants.{BadConfig, TooLong}
 use Rattle.schema_gen.specs.Owed.{Owed}
 use Rattle.schema_gen.proofs.OtherKinds.{long_kind, refuses}

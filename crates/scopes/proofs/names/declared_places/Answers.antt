@@ -3,10 +3,10 @@ use Rattle.std.specs.BTreeMap.{get_by_text}
 use Rattle.diag.specs.Refusal.{IsRefusal}
 use Rattle.diag.specs.declared.error.DeriveError.TheVariants.{Memory}
 use Rattle.diag.specs.declared.kind.Kind.TheVariants.{DuplicateName}
-use Rattle.schema_core.specs.Meaning.{IsDistinct}
+use Rattle.texts.specs.Names.{IsDistinct, place_in}
 use Rattle.written_types.specs.declared.written.Ident.{Ident}
 use Rattle.syntax.specs.declared.item.Declaration.{Declaration}
-use Rattle.scopes.specs.Names.{place_in, texts, Repeats, duplicate_message}
+use Rattle.scopes.specs.Names.{texts, Repeats, duplicate_message}
 use Rattle.scopes.proofs.Declared.{declared_names-are, declared_idents-are}
 use Rattle.scopes.proofs.names.declared_places.Goals as goal
 

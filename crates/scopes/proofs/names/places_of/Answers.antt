@@ -7,8 +7,8 @@ use Rattle.std.proofs.lemmas.List.{take_more, map_push, length-map, length-take-
 use Rattle.std.proofs.lemmas.Map.Text.{btree_map_updates_text}
 use Rattle.diag.specs.Refusal.{IsRefusal}
 use Rattle.diag.specs.declared.kind.Kind.TheVariants.{DuplicateName}
-use Rattle.schema_core.specs.Meaning.{IsDistinct}
-use Rattle.scopes.specs.Names.{place_in, texts, duplicate_message}
+use Rattle.texts.specs.Names.{IsDistinct, place_in}
+use Rattle.scopes.specs.Names.{texts, duplicate_message}
 use Rattle.scopes.proofs.PlaceLaws.{places_more, distinct-push, is_in-from_place, texts-push, length-texts, map-split, none_from, ok_before}
 use Rattle.scopes.proofs.names.places_of.Goals as goal
 

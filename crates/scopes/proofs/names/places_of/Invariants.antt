@@ -1,7 +1,7 @@
 use Rattle.std.proofs.Common.{◌≡◌, ℕ, List, map, take}
 use Rattle.std.specs.BTreeMap.{get_by_text}
-use Rattle.schema_core.specs.Meaning.{IsDistinct}
-use Rattle.scopes.specs.Names.{place_in, texts}
+use Rattle.texts.specs.Names.{IsDistinct, place_in}
+use Rattle.scopes.specs.Names.{texts}
 use Rattle.scopes.proofs.names.places_of.Given as goal
 
 -- the map has the places of the names so far, of which no two are equal

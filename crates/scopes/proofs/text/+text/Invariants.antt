@@ -1,6 +1,6 @@
 use Rattle.std.proofs.Common.{◌≡◌, ◌++◌, length, drop}
 use Rattle.open_types.specs.Open.{opens_view}
-use Rattle.resolving.specs.Resolved.{AreWithin}
+use Rattle.open_types.specs.Within.{AreWithin}
 use Rattle.syntax.specs.Items.{declarations_view}
 use Rattle.scopes.specs.Texts.{texts_from}
 use Rattle.scopes.proofs.text.+text.Given as goal

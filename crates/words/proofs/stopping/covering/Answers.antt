@@ -2,7 +2,7 @@ use Rattle.std.proofs.Common.{◌≡◌, ◌≤◌, ℕ, ap, subst, sym}
 use Rattle.std.specs.Coded.{le_prop}
 use Rattle.std.specs.Prelude.{max}
 use Rattle.std.proofs.Math.Nat.{le-max_left}
-use Rattle.diag.specs.declared.span.Span.{Span}
+use Rattle.texts.specs.declared.span.Span.{Span}
 use Rattle.words.specs.Words.{cover}
 use Rattle.words.proofs.stopping.covering.Goals as goal
 

@@ -10,7 +10,7 @@ pub struct Span {
 
 impl Span {
     ghost use Rattle.std.specs.Prelude.{◌≡◌};
-    ghost use Rattle.diag.specs.Span.{no_span};
+    ghost use Rattle.texts.specs.Span.{no_span};
 
     /// The span from `start` up to, and without, `end`.
     pub fn new(start: usize, end: usize) -> Span

@@ -2,7 +2,7 @@
 use Rattle.std.specs.Prelude.{◌≤◌, ◌≡◌}
 use Rattle.std.specs.Coded.{le_prop}
 use Rattle.std.proofs.Common.{lit≤, ap}
-use Rattle.diag.specs.declared.span.Span.{Span}
+use Rattle.texts.specs.declared.span.Span.{Span}
 
 abbrev pub no_span : Span
 no_span = record { start = 0; end = 0; ordered = lit≤ tt }

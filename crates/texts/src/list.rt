@@ -37,8 +37,8 @@ impl<T> List<T> {
         self.items.as_slice()
     }
 
-    /// What the list takes its memory from.
-    pub(crate) fn allocator(&self) -> Global {
+    /// What the list takes its memory from, of which contracts say nothing.
+    pub fn allocator(&self) -> Global {
         *self.items.allocator()
     }
 

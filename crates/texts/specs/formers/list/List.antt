@@ -14,10 +14,10 @@ use Rattle.std.specs.formers.vec.Vec as vec
 use Rattle.std.specs.declared.alloc.Global.{Global}
 use Rattle.std.specs.contracts.alloc.Global as heap
 use Rattle.std.specs.contracts.impls.GlobalAllocator.TheImpl.{ghosts}
-use Rattle.diag.specs.declared.list.List.TheInside.{Inside}
-use Rattle.diag.specs.declared.list.List.TheView.{view, invariant}
-use Rattle.diag.specs.contracts.list.List as contract
-use Rattle.diag.specs.contracts.list.List.TheInside as inside
+use Rattle.texts.specs.declared.list.List.TheInside.{Inside}
+use Rattle.texts.specs.declared.list.List.TheView.{view, invariant}
+use Rattle.texts.specs.contracts.list.List as contract
+use Rattle.texts.specs.contracts.list.List.TheInside as inside
 
 abbrev pub the_former : Former {0} → Former {0}
 the_former item = list item
