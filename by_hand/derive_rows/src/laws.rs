@@ -34,8 +34,8 @@ fn of_schemas() {
     schema_core::forms_refer();
     schema_core::documents_hold();
     component::references_are_leaves();
-    derive_decl::terms_accept();
-    derive_decl::shapes_deepen();
+    shapes::terms_accept();
+    shapes::shapes_deepen();
 }
 
 /// The laws of what is reported and configured, and of whole documents.

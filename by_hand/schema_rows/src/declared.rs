@@ -1,6 +1,5 @@
 //! The schemas of declarations.
 
-ghost use Rattle.scopes.specs.Scopes.{IsScope};
 
 use crate::structs::struct_text;
 use crate::terms::term_text;
@@ -60,9 +59,7 @@ pub(crate) fn of_declaration(
     question: OfDeclaration,
     root: &Root<'_>,
     body: &Body,
-) -> Result<String, DeriveError>
-    requires { IsScope root.now.container.now.scope.now }
-{
+) -> Result<String, DeriveError> {
     let schema = Schema::new(body, root.attributes, root.ident, root.container);
     let fields = fields_of(body);
     match question {

@@ -1,7 +1,5 @@
 //! The schemas of places, by what rows say of them.
 
-ghost use Rattle.place_schemas.specs.Schemas.{IsScoped};
-ghost use Rattle.scopes.specs.Scopes.{IsScope};
 
 use crate::remarks::comments;
 use crate::terms::{named, term_text};
@@ -60,9 +58,7 @@ fn answer(
     question: OfPlace,
     props: ComponentSchemaProps<'_, '_>,
     given: &Value,
-) -> Result<String, DeriveError>
-    requires { IsScoped props }
-{
+) -> Result<String, DeriveError> {
     let made = match given.get("option_is_nullable").and_then(Value::as_bool) {
         Some(is_nullable) => ComponentSchema::for_params(alloc, props, is_nullable),
         None => ComponentSchema::new(alloc, props),
@@ -76,9 +72,7 @@ pub(crate) fn of_place(
     question: OfPlace,
     container: &Container<'_>,
     given: &Value,
-) -> Result<String, DeriveError>
-    requires { IsScope container.now.scope.now }
-{
+) -> Result<String, DeriveError> {
     let written = given.get("type").and_then(Value::as_str).unwrap_or("");
     let written = parse_type(alloc, written)?;
     let tree = TypeTree::from_type(alloc, &written)?;

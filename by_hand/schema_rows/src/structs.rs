@@ -1,8 +1,8 @@
 //! What declarations are resolved to.
 
-use derive_decl::{Member, SchemaVariant, Resolved};
+use derive_decl::{Member, Resolved, SchemaVariant};
+use shapes::Remarks;
 use std::alloc::{AllocError, Global};
-use texts::Text;
 
 /// Adds the names of the members, with `?` where one need not be there.
 fn push_members(text: &mut String, members: &[Member]) -> Result<(), AllocError> {
@@ -17,15 +17,11 @@ fn push_members(text: &mut String, members: &[Member]) -> Result<(), AllocError>
 }
 
 /// Adds what is said of a declaration.
-fn push_remarks(
-    text: &mut String,
-    deprecated: bool,
-    description: &Option<Text>,
-) -> Result<(), AllocError> {
-    if deprecated {
+fn push_remarks(text: &mut String, remarks: &Remarks) -> Result<(), AllocError> {
+    if remarks.deprecated {
         text.push_str(", deprecated")?;
     }
-    if let Some(description) = description {
+    if let Some(description) = &remarks.description {
         text.push_str(", described as ")?;
         text.push_str(description.as_str())?;
     }
@@ -41,7 +37,7 @@ fn push_form(text: &mut String, form: &SchemaVariant) -> Result<(), AllocError> 
             if form.denies_others {
                 text.push_str(" and no others")?;
             }
-            push_remarks(text, form.deprecated, &form.description)
+            push_remarks(text, &form.remarks)
         }
         SchemaVariant::Unnamed(form) => {
             text.push_str(if form.types.len() == 1 {
@@ -49,11 +45,11 @@ fn push_form(text: &mut String, form: &SchemaVariant) -> Result<(), AllocError> 
             } else {
                 " of several"
             })?;
-            push_remarks(text, form.deprecated, &form.description)
+            push_remarks(text, &form.remarks)
         }
         SchemaVariant::Unit(form) => {
             text.push_str(" unit")?;
-            push_remarks(text, form.deprecated, &form.description)
+            push_remarks(text, &form.remarks)
         }
     }
 }

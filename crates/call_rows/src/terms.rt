@@ -2,10 +2,9 @@
 
 ghost use Rattle.std.specs.Prelude.{◌≡◌, ℕ, List as Items};
 ghost use Rattle.std.specs.BTreeMap.{get_by_text};
-ghost use Rattle.place_schemas.specs.Schemas.{IsScoped};
 ghost use Rattle.scopes.specs.Names.{place_among};
-ghost use Rattle.scopes.specs.Scopes.{IsScope};
-ghost use Rattle.syntax.specs.Items.{declarations_view};
+ghost use Rattle.syntax.specs.Items.{declaration_view, declarations_view};
+ghost use Rattle.syntax.specs.Named.{AreNamed, IsNamedBody};
 
 use component::{Term, ToTerm, copy_term};
 use configuration::Config;
@@ -63,7 +62,7 @@ fn of_declaration(
     first: &Declaration,
     container: &Container<'_>,
 ) -> Result<String, DeriveError>
-    requires { IsScope container.now.scope.now }
+    requires { IsNamedBody (declaration_view first.now).body }
 {
     let schema = Schema::new(&first.body, first.attrs.as_slice(), &first.ident, container);
     let mut text = schema.place_types(alloc)?.len().to_string(alloc)?;
@@ -87,9 +86,7 @@ fn of_props(
     alloc: Global,
     props: ComponentSchemaProps<'_, '_>,
     given: &Value,
-) -> Result<String, DeriveError>
-    requires { IsScoped props }
-{
+) -> Result<String, DeriveError> {
     let made = match given.get("option_is_nullable").and_then(Value::as_bool) {
         Some(is_nullable) => ComponentSchema::for_params(alloc, props, is_nullable),
         None => ComponentSchema::new(alloc, props),
@@ -98,9 +95,7 @@ fn of_props(
 }
 
 /// What the schema of a place of the row's type is.
-fn of_place(alloc: Global, container: &Container<'_>, given: &Value) -> Result<String, DeriveError>
-    requires { IsScope container.now.scope.now }
-{
+fn of_place(alloc: Global, container: &Container<'_>, given: &Value) -> Result<String, DeriveError> {
     let written = given.get("type").and_then(Value::as_str).unwrap_or("");
     let written = parse_type(alloc, written)?;
     let tree = TypeTree::from_type(alloc, &written)?;
@@ -127,7 +122,11 @@ fn of_first(
     places: &BTreeMap<String, usize>,
     given: &Value,
 ) -> Result<String, DeriveError>
-    requires { (name : Items ℕ) → get_by_text places.now name ≡ place_among (declarations_view declarations.now) name }
+    requires places {
+        (name : Items ℕ)
+            → get_by_text places.now name ≡ place_among (declarations_view declarations.now) name
+    }
+    requires named { AreNamed (declarations_view declarations.now) }
 {
     let [first, ..] = declarations.items.as_slice() else {
         return Ok(String::from_str(alloc, "no declaration")?);
@@ -151,6 +150,7 @@ fn of_first(
 /// The answer for the first declaration of the source, the first of the list, of which the second says more.
 pub(crate) fn of_source(alloc: Global, call: &str, given: &Value) -> anyhow::Result<String> {
     let (source, given) = pair_of(given)?;
+    syntax::read_fields_are_named();
     let declarations = parse_declarations(alloc, text_of(source)?)?;
     let places = declared_places(alloc, &declarations)?;
     let told = match of_first(alloc, call, &declarations, &places, given) {

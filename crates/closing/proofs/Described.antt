@@ -20,16 +20,15 @@ use Rattle.open_types.specs.Open.{Open, Opens, leaf, any_value, free_object, uni
 use Rattle.open_types.specs.Open as types
 use Rattle.open_types.specs.Within.{IsWithin, AreWithin as OpensWithin}
 use Rattle.component.specs.Leaves.{LeafOf, param, named}
-use Rattle.derive_decl.specs.Resolved.{DeclarationOf, declaration_at, names_of as member_names_of, types_of}
-use Rattle.derive_decl.specs.Shape.{shape, HasShape}
-use Rattle.derive_decl.specs.Plain.{StandsIn, StandsAmong, StandsInOne, itself, through_place, IsPlain}
-use Rattle.derive_decl.specs.Terms.{term}
-use Rattle.derive_decl.specs.Meaning.{leaf_shape, TermsAccept}
-use Rattle.derive_decl.specs.Whole.{MembersDiffer}
+use Rattle.shapes.specs.Declarations.{DeclarationOf, declaration_at, names_of as member_names_of, types_of, TypesWithin, AreWithin, MembersDiffer}
+use Rattle.shapes.specs.Shape.{shape, HasShape}
+use Rattle.shapes.specs.Plain.{StandsIn, StandsAmong, StandsInOne, itself, through_place, IsPlain}
+use Rattle.shapes.specs.Terms.{term}
+use Rattle.shapes.specs.Meaning.{leaf_shape, TermsAccept}
 use Rattle.inlining.specs.Inlining.{IsAtMost}
 use Rattle.closing.specs.Targets.{inlining_of, most_inlined}
 use Rattle.closing.specs.Closed.{schema_of, put, closed, declared_schema}
-use Rattle.closing.specs.Described.{IsApart, AreComponents, HasComponent, Describes, TypesWithin, AreWithin, TargetsAreDeclared, ReferencesAccept}
+use Rattle.closing.specs.Described.{IsApart, AreComponents, HasComponent, Describes, TargetsAreDeclared, ReferencesAccept}
 use Rattle.closing.proofs.Below.{Below, tree-below}
 use Rattle.closing.proofs.Bound.{bind-proper, bind-leaves, bind-accepts}
 use Rattle.closing.proofs.Targets.{IsShort, never-short, shorter, all-short, at-each, are-targets}
@@ -106,7 +105,7 @@ put-proper ss inner h (named t false notes) = tt
 closed-proper : (ss : List DeclarationOf) → MembersDiffer ss → (n d : ℕ) → IsProper (closed ss n d)
 closed-proper ss differ zero d = (tt, (tt, (tt, tt)))
 closed-proper ss differ (suc n) d =
-    bind-proper (put ss (closed ss n)) (put-proper ss (closed ss n) (closed-proper ss differ n)) (term (declaration_at ss d)) (form-proper (declaration_at ss d).deprecated (declaration_at ss d).description (declaration_at ss d).form (differs-at ss d differ))
+    bind-proper (put ss (closed ss n)) (put-proper ss (closed ss n) (closed-proper ss differ n)) (term (declaration_at ss d)) (form-proper (declaration_at ss d).remarks (declaration_at ss d).form (differs-at ss d differ))
 
 -- ---- references
 
@@ -167,7 +166,7 @@ module _ (forms_accept : FormsAccept) (forms_refer : FormsRefer) (documents_hold
   closed-found (suc n) d =
       bind-leaves (put ss (closed ss n)) (λ r. HasComponent doc r.name) (term (declaration_at ss d))
       (form-leaves (λ x. Found (put ss (closed ss n) x)) ⊥ (λ e. e < length ss) (put-found (closed ss n) (closed-found n)) (λ i h. (tt, (tt, tt)))
-      (declaration_at ss d).deprecated (declaration_at ss d).description (declaration_at ss d).form (stands d) (λ a. absurd a))
+      (declaration_at ss d).remarks (declaration_at ss d).form (stands d) (λ a. absurd a))
 
   refers : (t : SchemaOf RefLeaf) (d : ℕ) → t ≡ declared_schema ss d → EachReference (HasComponent doc) (form t)
   refers t d e = forms_refer (λ name. is_some (component_schema doc name)) t (subst Found (sym e) (closed-found most_inlined d))

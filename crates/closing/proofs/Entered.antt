@@ -14,22 +14,21 @@ use Rattle.schema_core.specs.Schema.{SchemaOf}
 use Rattle.schema_core.specs.Document.{Entry}
 use Rattle.schema_core.specs.Entries.{find, names_of, with_entry, IsInOrder}
 use Rattle.texts.specs.Names.{is_in, IsDistinct, place_in}
-use Rattle.derive_decl.specs.declared.resolved.Resolved.{Resolved}
-use Rattle.derive_decl.specs.Resolved.{DeclarationOf, declaration_at, declaration_names}
-use Rattle.derive_decl.specs.Views.{resolved_view}
+use Rattle.shapes.specs.Declarations.{DeclarationOf, declaration_at, declaration_names}
 use Rattle.closing.specs.Closed.{declared_schema}
 use Rattle.closing.specs.Described.{AreComponents}
 
-pub declaration_at-view : (resolved : List Resolved) (d : ℕ) (x : Resolved) → d < length resolved → declaration_at (map resolved_view resolved) d ≡ resolved_view (get_or resolved d x)
-declaration_at-view [] d x l = absurd (omega arith)
-declaration_at-view (s ∷ resolved) zero x l = refl
-declaration_at-view (s ∷ resolved) (suc d) x l = declaration_at-view resolved d x (omega arith)
+module _ {A : Type 0} (view : A → DeclarationOf) where
+  pub declaration_at-view : (ds : List A) (d : ℕ) (x : A) → d < length ds → declaration_at (map view ds) d ≡ view (get_or ds d x)
+  declaration_at-view [] d x l = absurd (omega arith)
+  declaration_at-view (y ∷ ds) zero x l = refl
+  declaration_at-view (y ∷ ds) (suc d) x l = declaration_at-view ds d x (omega arith)
 
--- past the end a declaration has no name
-pub declaration_past : (resolved : List Resolved) (d : ℕ) → length resolved ≤ d → (declaration_at (map resolved_view resolved) d).name ≡ []
-declaration_past [] d l = refl
-declaration_past (s ∷ resolved) zero l = absurd (omega arith)
-declaration_past (s ∷ resolved) (suc d) l = declaration_past resolved d (omega arith)
+  -- past the end a declaration has no name
+  pub declaration_past : (ds : List A) (d : ℕ) → length ds ≤ d → (declaration_at (map view ds) d).name ≡ []
+  declaration_past [] d l = refl
+  declaration_past (y ∷ ds) zero l = absurd (omega arith)
+  declaration_past (y ∷ ds) (suc d) l = declaration_past ds d (omega arith)
 
 -- each component is of a declaration, under its name, and they are in order
 pub record AreKnown (ss : List DeclarationOf) (components : List Entry) : Type 0 where

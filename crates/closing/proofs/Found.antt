@@ -4,7 +4,7 @@ use Rattle.std.proofs.lemmas.List.{append_assoc}
 use Rattle.schema_core.specs.declared.tree.Tree.{Tree, the_lemmas}
 use Rattle.schema_core.specs.declared.tree.Object.{Object}
 use Rattle.schema_core.specs.declared.tree.Array.{Array}
-use Rattle.schema_core.specs.Schema.{Facts, ArrayFacts, object, array, tree_views, named_views, object_view, additional_view, optional_view, array_view, array_items_view}
+use Rattle.schema_core.specs.Schema.{object_facts, ArrayFacts, object, array, tree_views, named_views, object_view, additional_view, optional_view, array_view, array_items_view}
 use Rattle.component.specs.declared.term.TermLeaf.{TermLeaf}
 use Rattle.component.specs.Leaves.{leaf_view, term_view}
 use Rattle.component.specs.References.{ReferenceOf, named_leaves, schema_leaves, property_leaves, part_leaves}
@@ -38,10 +38,7 @@ property_targets-are (p ∷ ps) =
     ∙ sym (among-append (named_leaves (term_view p.1)) (property_leaves (named_views leaf_view ps)))
 
 -- an object by its fields
-abbrev facts_of : Object TermLeaf → Facts
-facts_of o = record { type_word = o.ty; format = o.format; enum_values = o.enum_values; required = o.required; minimum = o.minimum; notes = o.notes }
-
-object_view-is : (o : Object TermLeaf) → object_view leaf_view o ≡ object (facts_of o) (named_views leaf_view o.properties) (additional_view leaf_view o.additional) (optional_view leaf_view o.property_names)
+object_view-is : (o : Object TermLeaf) → object_view leaf_view o ≡ object (object_facts o) (named_views leaf_view o.properties) (additional_view leaf_view o.additional) (optional_view leaf_view o.property_names)
 object_view-is o = search (rules, the_lemmas)
 
 -- an array by its fields

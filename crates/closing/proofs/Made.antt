@@ -6,15 +6,12 @@ use Rattle.schema_core.specs.declared.tree.Tree.{Tree}
 use Rattle.schema_core.specs.Schema.{SchemaOf, schema_view, bind}
 use Rattle.component.specs.Leaves.{term_view}
 use Rattle.component.specs.declared.term.TermLeaf.{TermLeaf}
-use Rattle.derive_decl.specs.declared.resolved.Resolved.{Resolved}
-use Rattle.derive_decl.specs.Resolved.{DeclarationOf, declaration_at, types_of}
-use Rattle.derive_decl.specs.Plain.{StandsInOne}
-use Rattle.derive_decl.specs.Terms.{term}
-use Rattle.derive_decl.specs.Views.{resolved_view}
+use Rattle.shapes.specs.Declarations.{DeclarationOf, declaration_at, types_of, AreWithin}
+use Rattle.shapes.specs.Plain.{StandsInOne}
+use Rattle.shapes.specs.Terms.{term}
 use Rattle.inlining.specs.Inlining.{targets_of, IsAmong, IsAtMost}
 use Rattle.closing.specs.Targets.{inlining_of, most_inlined}
 use Rattle.closing.specs.Closed.{any_value, put, closed, schema_in, declared_schema}
-use Rattle.closing.specs.Described.{AreWithin}
 use Rattle.closing.proofs.Described.{all-within}
 use Rattle.closing.proofs.Leaves.{among_cases}
 use Rattle.closing.proofs.Targets.{IsShort, targets-are, as_many-targets, shorter, all-short, same-term, closed-stays}
@@ -75,34 +72,34 @@ schema_past (s ∷ made) zero l = absurd (omega arith)
 schema_past (s ∷ made) (suc d) l = schema_past made d (omega arith)
 
 -- ---- terms
+module _ {A : Type 0} (view : A → DeclarationOf) where
+  term_at : (terms : List (Tree TermLeaf)) (ds : List A) (d : ℕ) (x : Tree TermLeaf) → map term_view terms ≡ map (λ s. term (view s)) ds → d < length terms → term_view (get_or terms d x) ≡ term (declaration_at (map view ds) d)
+  term_at [] ds d x e l = absurd (omega arith)
+  term_at (t ∷ terms) [] d x e l = cc
+  term_at (t ∷ terms) (s ∷ ds) zero x e l = cc
+  term_at (t ∷ terms) (s ∷ ds) (suc d) x e l = let rest : map term_view terms ≡ map (λ s. term (view s)) ds = cc in term_at terms ds d x rest (omega arith)
 
-term_at : (terms : List (Tree TermLeaf)) (resolved : List Resolved) (d : ℕ) (x : Tree TermLeaf) → map term_view terms ≡ map (λ s. term (resolved_view s)) resolved → d < length terms → term_view (get_or terms d x) ≡ term (declaration_at (map resolved_view resolved) d)
-term_at [] resolved d x e l = absurd (omega arith)
-term_at (t ∷ terms) [] d x e l = cc
-term_at (t ∷ terms) (s ∷ resolved) zero x e l = cc
-term_at (t ∷ terms) (s ∷ resolved) (suc d) x e l = let rest : map term_view terms ≡ map (λ s. term (resolved_view s)) resolved = cc in term_at terms resolved d x rest (omega arith)
+  pub as_many_terms : (terms : List (Tree TermLeaf)) (ds : List A) → map term_view terms ≡ map (λ s. term (view s)) ds → length terms ≡ length ds
+  as_many_terms terms ds e = sym (length-map terms term_view) ∙ ap length e ∙ length-map ds (λ s. term (view s))
 
-pub as_many_terms : (terms : List (Tree TermLeaf)) (resolved : List Resolved) → map term_view terms ≡ map (λ s. term (resolved_view s)) resolved → length terms ≡ length resolved
-as_many_terms terms resolved e = sym (length-map terms term_view) ∙ ap length e ∙ length-map resolved (λ s. term (resolved_view s))
+  -- the schema that is put together at a place of the order
+  pub next_schema : (ds : List A) (terms : List (Tree TermLeaf)) (made now : List (Tree RefLeaf)) (d : ℕ) (x : Tree TermLeaf) (s : SchemaOf RefLeaf) → map term_view terms ≡ map (λ s. term (view s)) ds →
+      AreWithin (length (map view ds)) (map view ds) → IsAtMost most_inlined (inlining_of (map view ds)) → d < length ds → AreMade (map view ds) made (targets_of (inlining_of (map view ds)) d) →
+      now ≡ made → x ≡ get_or terms d x → s ≡ bind (put (map view ds) (schema_in (map schema_view now))) (term_view x) → s ≡ declared_schema (map view ds) d
+  next_schema ds terms made now d x s are within most l all same at is =
+      let ss = map view ds in
+      let here : d < length terms = subst (λ n. d < n) (sym (as_many_terms terms ds are)) l in
+      is
+      ∙ ap (λ m. bind (put ss (schema_in (map schema_view m))) (term_view x)) same
+      ∙ ap (bind (put ss (schema_in (map schema_view made)))) (ap term_view at ∙ term_at terms ds d x are here)
+      ∙ schema_is ss (all-within ss within) most made d (subst (λ n. d < n) (sym (length-map ds view)) l) all
 
--- the schema that is put together at a place of the order
-pub next_schema : (resolved : List Resolved) (terms : List (Tree TermLeaf)) (made now : List (Tree RefLeaf)) (d : ℕ) (x : Tree TermLeaf) (s : SchemaOf RefLeaf) → map term_view terms ≡ map (λ s. term (resolved_view s)) resolved →
-    AreWithin (length (map resolved_view resolved)) (map resolved_view resolved) → IsAtMost most_inlined (inlining_of (map resolved_view resolved)) → d < length resolved → AreMade (map resolved_view resolved) made (targets_of (inlining_of (map resolved_view resolved)) d) →
-    now ≡ made → x ≡ get_or terms d x → s ≡ bind (put (map resolved_view resolved) (schema_in (map schema_view now))) (term_view x) → s ≡ declared_schema (map resolved_view resolved) d
-next_schema resolved terms made now d x s are within most l all same at is =
-    let ss = map resolved_view resolved in
-    let here : d < length terms = subst (λ n. d < n) (sym (as_many_terms terms resolved are)) l in
-    is
-    ∙ ap (λ m. bind (put ss (schema_in (map schema_view m))) (term_view x)) same
-    ∙ ap (bind (put ss (schema_in (map schema_view made)))) (ap term_view at ∙ term_at terms resolved d x are here)
-    ∙ schema_is ss (all-within ss within) most made d (subst (λ n. d < n) (sym (length-map resolved resolved_view)) l) all
+  -- a place of the order is that of a declaration
+  pub declaration_place : (ds : List A) (d : ℕ) → d < length (inlining_of (map view ds)) → d < length ds
+  declaration_place ds d l = subst (λ n. d < n) (as_many-targets (map view ds) ∙ length-map ds view) l
 
--- a place of the order is that of a declaration
-pub declaration_place : (resolved : List Resolved) (d : ℕ) → d < length (inlining_of (map resolved_view resolved)) → d < length resolved
-declaration_place resolved d l = subst (λ n. d < n) (as_many-targets (map resolved_view resolved) ∙ length-map resolved resolved_view) l
-
-pub declaration_place_back : (resolved : List Resolved) (d : ℕ) → d < length resolved → d < length (inlining_of (map resolved_view resolved))
-declaration_place_back resolved d l = subst (λ n. d < n) (sym (as_many-targets (map resolved_view resolved) ∙ length-map resolved resolved_view)) l
+  pub declaration_place_back : (ds : List A) (d : ℕ) → d < length ds → d < length (inlining_of (map view ds))
+  declaration_place_back ds d l = subst (λ n. d < n) (sym (as_many-targets (map view ds) ∙ length-map ds view)) l
 
 -- ---- the last schema
 

@@ -7,9 +7,9 @@ use Rattle.open_types.specs.Open.{Opens}
 use Rattle.open_types.specs.Open as types
 use Rattle.component.specs.Leaves.{LeafOf, param, named}
 use Rattle.component.specs.References.{leaf_references, named_leaves}
-use Rattle.derive_decl.specs.Resolved.{DeclarationOf, declaration_at, types_of}
-use Rattle.derive_decl.specs.Plain.{StandsInOne, AreAllPlain}
-use Rattle.derive_decl.specs.Terms.{term}
+use Rattle.shapes.specs.Declarations.{DeclarationOf, declaration_at, types_of}
+use Rattle.shapes.specs.Plain.{StandsInOne, AreAllPlain}
+use Rattle.shapes.specs.Terms.{term}
 use Rattle.inlining.specs.Inlining.{targets_of, IsAmong, AreTargets, IsPath, IsAtMost}
 use Rattle.closing.specs.Targets.{inlined_among, inlining_of, most_inlined}
 use Rattle.closing.specs.Closed.{put, closed}
@@ -44,7 +44,7 @@ module _ (S : LeafOf → Type 0) (ToBePlain : Type 0) (P T : ℕ → Type 0) (in
   pub at-each : (s : DeclarationOf) → ((e : ℕ) → StandsInOne e (types_of s.form) → P e) → (ToBePlain → AreAllPlain (types_of s.form)) → AtInlined T (named_leaves (term s)) → EachLeaf S (term s)
   at-each s stands plain inline =
       each-both Follows (λ x. AtInlined T (leaf_references x)) S (λ x f t. f t) (term s)
-      (form-leaves Follows ToBePlain P at_named (λ i h t. at_param i h) s.deprecated s.description s.form stands plain) (at-leaves T (term s) inline)
+      (form-leaves Follows ToBePlain P at_named (λ i h t. at_param i h) s.remarks s.form stands plain) (at-leaves T (term s) inline)
 
 -- ---- short paths
 
@@ -84,7 +84,7 @@ module _ (ss : List DeclarationOf) where
     are-targets d t among =
         subst (λ m. t < m) (sym (as_many-targets ss))
         (from-leaves (λ e. e < length ss) (term (declaration_at ss d))
-        (form-leaves (λ x. AtInlined (λ e. e < length ss) (leaf_references x)) ⊥ (λ e. e < length ss) at_named (λ i h e a. absurd a) (declaration_at ss d).deprecated (declaration_at ss d).description (declaration_at ss d).form (within d) (λ a. absurd a)) t
+        (form-leaves (λ x. AtInlined (λ e. e < length ss) (leaf_references x)) ⊥ (λ e. e < length ss) at_named (λ i h e a. absurd a) (declaration_at ss d).remarks (declaration_at ss d).form (within d) (λ a. absurd a)) t
         (subst (IsAmong t) (targets-are ss d) among))
       where
         at_named : (e : ℕ) (ts : Opens) (inline : Bool) (notes : Notes) → e < length ss → AtInlined (λ e. e < length ss) (leaf_references (named (types.named e ts) inline notes))

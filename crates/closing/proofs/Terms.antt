@@ -1,7 +1,7 @@
 -- The terms of places and of declarations: no object names a property twice, and what holds of each leaf.
 use Rattle.std.proofs.Common.{ℕ, List, [], ◌∷◌, Bool, true, false, cond, Option, Some, None, ◌≡◌, refl, ap, sym, subst, ◌∙◌, inl, inr}
 use Rattle.schema_core.specs.declared.notes.Notes.{Notes}
-use Rattle.schema_core.specs.Notes.{no_notes}
+use Rattle.schema_core.specs.Notes.{no_notes, described}
 use Rattle.schema_core.specs.Schema.{SchemaOf, property_names, EachLeaf, EachSchemaLeaf, EachPropertyLeaf}
 use Rattle.schema_core.specs.Schema as tree
 use Rattle.schema_core.specs.Meaning.{IsProper, AreProper, ArePropertiesProper}
@@ -9,10 +9,11 @@ use Rattle.texts.specs.Names.{IsDistinct}
 use Rattle.open_types.specs.Open.{Open, Opens, leaf, any_value, free_object, unit, tuple, items, set, map_of, option, through, no_types, more_types}
 use Rattle.open_types.specs.Open as types
 use Rattle.component.specs.Leaves.{LeafOf, param, named}
-use Rattle.component.specs.Places.{described, or_null, in_place, declared, argument, place, inline_places}
-use Rattle.derive_decl.specs.Resolved.{MemberOf, FormOf, named_fields, unnamed_fields, no_fields, names_of, member_names, member_types, types_of}
-use Rattle.derive_decl.specs.Plain.{StandsIn, StandsAmong, StandsInOne, IsTextKey, IsPlainType, ArePlainTypes, AreAllPlain, IsPlainForm}
-use Rattle.derive_decl.specs.Terms.{properties_of, are_all, any_object, unnamed_term, form_term}
+use Rattle.component.specs.Places.{or_null, in_place, declared, argument, place, inline_places}
+use Rattle.shapes.specs.declared.remarks.Remarks.{Remarks}
+use Rattle.shapes.specs.Declarations.{MemberOf, FormOf, named_fields, unnamed_fields, no_fields, names_of, member_names, member_types, types_of}
+use Rattle.shapes.specs.Plain.{StandsIn, StandsAmong, StandsInOne, IsTextKey, IsPlainType, ArePlainTypes, AreAllPlain, IsPlainForm}
+use Rattle.shapes.specs.Terms.{field_term, properties_of, are_all, any_object, unnamed_term, form_term}
 
 -- ---- no property is named twice
 
@@ -54,7 +55,7 @@ mutual
 
 properties-proper : (ms : List MemberOf) → ArePropertiesProper (properties_of ms)
 properties-proper [] = tt
-properties-proper (m ∷ ms) = (place-proper false false m.deprecated m.description m.of, properties-proper ms)
+properties-proper (m ∷ ms) = (place-proper false false m.remarks.deprecated m.remarks.description m.of, properties-proper ms)
 
 names-are : (ms : List MemberOf) → property_names (properties_of ms) ≡ member_names ms
 names-are [] = refl
@@ -64,18 +65,18 @@ either-proper : (b : Bool) (s t : SchemaOf LeafOf) → IsProper s → IsProper t
 either-proper true s t h k = h
 either-proper false s t h k = k
 
-unnamed-proper : (deprecated : Bool) (description : Option (List ℕ)) (ts : List Open) → IsProper (unnamed_term deprecated description ts)
-unnamed-proper deprecated description [] = (tt, (tt, (tt, (tt, tt))))
-unnamed-proper deprecated description (t ∷ []) = place-proper false false deprecated description t
-unnamed-proper deprecated description (t ∷ u ∷ us) =
-    (tt, either-proper (are_all t (u ∷ us)) (place false false deprecated description t) (any_object deprecated) (place-proper false false deprecated description t) (tt, (tt, (tt, tt))))
+unnamed-proper : (r : Remarks) (ts : List Open) → IsProper (unnamed_term r ts)
+unnamed-proper r [] = (tt, (tt, (tt, (tt, tt))))
+unnamed-proper r (t ∷ []) = place-proper false false r.deprecated r.description t
+unnamed-proper r (t ∷ u ∷ us) =
+    (tt, either-proper (are_all t (u ∷ us)) (field_term r t) (any_object r.deprecated) (place-proper false false r.deprecated r.description t) (tt, (tt, (tt, tt))))
 
 -- The term of a declaration is proper where its members' names differ.
-pub form-proper : (deprecated : Bool) (description : Option (List ℕ)) (form : FormOf) → IsDistinct (names_of form) → IsProper (form_term deprecated description form)
-form-proper deprecated description (named_fields true ms) h = (subst IsDistinct (sym (names-are ms)) h, (properties-proper ms, (tt, tt)))
-form-proper deprecated description (named_fields false ms) h = (subst IsDistinct (sym (names-are ms)) h, (properties-proper ms, (tt, tt)))
-form-proper deprecated description (unnamed_fields ts) h = unnamed-proper deprecated description ts
-form-proper deprecated description no_fields h = (tt, (tt, (tt, tt)))
+pub form-proper : (r : Remarks) (form : FormOf) → IsDistinct (names_of form) → IsProper (form_term r form)
+form-proper r (named_fields true ms) h = (subst IsDistinct (sym (names-are ms)) h, (properties-proper ms, (tt, tt)))
+form-proper r (named_fields false ms) h = (subst IsDistinct (sym (names-are ms)) h, (properties-proper ms, (tt, tt)))
+form-proper r (unnamed_fields ts) h = unnamed-proper r ts
+form-proper r no_fields h = (tt, (tt, (tt, tt)))
 
 -- ---- what holds of each leaf
 
@@ -132,20 +133,20 @@ module _ (Q : LeafOf → Type 0) (ToBePlain : Type 0) (P : ℕ → Type 0) (at_n
 
   properties-leaves : (ms : List MemberOf) → ((e : ℕ) → StandsInOne e (member_types ms) → P e) → (ToBePlain → AreAllPlain (member_types ms)) → EachPropertyLeaf Q (properties_of ms)
   properties-leaves [] w p = tt
-  properties-leaves (m ∷ ms) w p = (place-leaves false false m.deprecated m.description m.of (λ e s. w e (inl s)) (λ a. (p a).0), properties-leaves ms (λ e s. w e (inr s)) (λ a. (p a).1))
+  properties-leaves (m ∷ ms) w p = (place-leaves false false m.remarks.deprecated m.remarks.description m.of (λ e s. w e (inl s)) (λ a. (p a).0), properties-leaves ms (λ e s. w e (inr s)) (λ a. (p a).1))
 
   either-leaves : (b : Bool) (s t : SchemaOf LeafOf) → EachLeaf Q s → EachLeaf Q t → EachLeaf Q (cond b s t)
   either-leaves true s t h k = h
   either-leaves false s t h k = k
 
-  unnamed-leaves : (deprecated : Bool) (description : Option (List ℕ)) (ts : List Open) → ((e : ℕ) → StandsInOne e ts → P e) → (ToBePlain → AreAllPlain ts) → EachLeaf Q (unnamed_term deprecated description ts)
-  unnamed-leaves deprecated description [] w p = (tt, (tt, (tt, tt)))
-  unnamed-leaves deprecated description (t ∷ []) w p = place-leaves false false deprecated description t (λ e s. w e (inl s)) (λ a. (p a).0)
-  unnamed-leaves deprecated description (t ∷ u ∷ us) w p =
-      (tt, either-leaves (are_all t (u ∷ us)) (place false false deprecated description t) (any_object deprecated) (place-leaves false false deprecated description t (λ e s. w e (inl s)) (λ a. (p a).0)) (tt, (tt, tt)))
+  unnamed-leaves : (r : Remarks) (ts : List Open) → ((e : ℕ) → StandsInOne e ts → P e) → (ToBePlain → AreAllPlain ts) → EachLeaf Q (unnamed_term r ts)
+  unnamed-leaves r [] w p = (tt, (tt, (tt, tt)))
+  unnamed-leaves r (t ∷ []) w p = place-leaves false false r.deprecated r.description t (λ e s. w e (inl s)) (λ a. (p a).0)
+  unnamed-leaves r (t ∷ u ∷ us) w p =
+      (tt, either-leaves (are_all t (u ∷ us)) (field_term r t) (any_object r.deprecated) (place-leaves false false r.deprecated r.description t (λ e s. w e (inl s)) (λ a. (p a).0)) (tt, (tt, tt)))
 
-  pub form-leaves : (deprecated : Bool) (description : Option (List ℕ)) (form : FormOf) → ((e : ℕ) → StandsInOne e (types_of form) → P e) → (ToBePlain → AreAllPlain (types_of form)) → EachLeaf Q (form_term deprecated description form)
-  form-leaves deprecated description (named_fields true ms) w p = (properties-leaves ms w p, (tt, tt))
-  form-leaves deprecated description (named_fields false ms) w p = (properties-leaves ms w p, (tt, tt))
-  form-leaves deprecated description (unnamed_fields ts) w p = unnamed-leaves deprecated description ts w p
-  form-leaves deprecated description no_fields w p = (tt, (tt, tt))
+  pub form-leaves : (r : Remarks) (form : FormOf) → ((e : ℕ) → StandsInOne e (types_of form) → P e) → (ToBePlain → AreAllPlain (types_of form)) → EachLeaf Q (form_term r form)
+  form-leaves r (named_fields true ms) w p = (properties-leaves ms w p, (tt, tt))
+  form-leaves r (named_fields false ms) w p = (properties-leaves ms w p, (tt, tt))
+  form-leaves r (unnamed_fields ts) w p = unnamed-leaves r ts w p
+  form-leaves r no_fields w p = (tt, (tt, tt))

@@ -7,9 +7,9 @@ use Rattle.schema_core.specs.Schema.{SchemaOf, leaf, bind}
 use Rattle.open_types.specs.Open.{Open}
 use Rattle.open_types.specs.Open as types
 use Rattle.component.specs.Leaves.{LeafOf, param, named}
-use Rattle.component.specs.Places.{only_word}
-use Rattle.derive_decl.specs.Resolved.{DeclarationOf, declaration_at}
-use Rattle.derive_decl.specs.Terms.{term}
+use Rattle.schema_core.specs.Objects.{only_word}
+use Rattle.shapes.specs.Declarations.{DeclarationOf, declaration_at}
+use Rattle.shapes.specs.Terms.{term}
 use Rattle.closing.specs.Targets.{most_inlined}
 
 -- the name of the component of a declaration

@@ -10,11 +10,9 @@ use Rattle.schema_core.specs.Document.{Entry, document}
 use Rattle.schema_core.specs.Entries.{find, names_of, IsInOrder}
 use Rattle.texts.specs.Names.{IsDistinct}
 use Rattle.open_types.specs.Open.{Open}
-use Rattle.open_types.specs.Within.{IsWithin}
-use Rattle.derive_decl.specs.Resolved.{DeclarationOf, declaration_at, declaration_names, types_of}
-use Rattle.derive_decl.specs.Shape.{HasShape}
-use Rattle.derive_decl.specs.Plain.{IsPlain}
-use Rattle.derive_decl.specs.Whole.{MembersDiffer}
+use Rattle.shapes.specs.Declarations.{DeclarationOf, declaration_at, declaration_names, MembersDiffer, AreWithin}
+use Rattle.shapes.specs.Shape.{HasShape}
+use Rattle.shapes.specs.Plain.{IsPlain}
 use Rattle.inlining.specs.Inlining.{AreTargets, IsAtMost}
 use Rattle.closing.specs.Targets.{inlining_of, most_inlined}
 use Rattle.closing.specs.Closed.{declared_schema}
@@ -39,15 +37,6 @@ pub record Describes (ss : List DeclarationOf) (doc : Json) : Type 0 where
   pub roots : (d : ℕ) → d < length ss → HasComponent doc (declaration_at ss d).name
   pub references : (name : List ℕ) (s : Json) → component_schema doc name ≡ Some s → EachReference (HasComponent doc) s
   pub accepts : (d : ℕ) → d < length ss → IsPlain ss d → (s v : Json) → component_schema doc (declaration_at ss d).name ≡ Some s → Accepts doc s v ↔ HasShape ss d v
-
--- each declaration that the types name is one of the first n
-abbrev pub TypesWithin : ℕ → List Open → Type 0
-TypesWithin n [] = Unit {0}
-TypesWithin n (t ∷ ts) = IsWithin n t × TypesWithin n ts
-
-abbrev pub AreWithin : ℕ → List DeclarationOf → Type 0
-AreWithin n [] = Unit {0}
-AreWithin n (s ∷ ss) = TypesWithin n (types_of s.form) × AreWithin n ss
 
 -- The law: a document of components describes the declarations, where each name leads to one of them, and no inline path is longer than it may be.
 abbrev pub ComponentsDescribe : Type 0

@@ -4,8 +4,8 @@ use Rattle.schema_core.specs.Schema.{SchemaOf}
 use Rattle.open_types.specs.Open.{Open, named}
 use Rattle.component.specs.Leaves.{LeafOf}
 use Rattle.component.specs.References.{ReferenceOf, named_leaves}
-use Rattle.derive_decl.specs.Resolved.{DeclarationOf}
-use Rattle.derive_decl.specs.Terms.{term}
+use Rattle.shapes.specs.Declarations.{DeclarationOf}
+use Rattle.shapes.specs.Terms.{term}
 
 -- the declaration that the type names, where it names one
 abbrev pub declaration_of : Open → List ℕ

@@ -4,47 +4,45 @@ ghost use Rattle.std.specs.Prelude.{◌≡◌, ◌<◌, ℕ, length, map, get_or
 ghost use Rattle.schema_core.specs.Schema.{schema_view, leaf};
 ghost use Rattle.open_types.specs.Open.{open_view};
 ghost use Rattle.component.specs.Leaves.{term_view};
-ghost use Rattle.derive_decl.specs.Resolved.{DeclarationOf, declaration_at};
-ghost use Rattle.derive_decl.specs.Terms.{term};
-ghost use Rattle.derive_decl.specs.Views.{resolved_view};
+ghost use Rattle.shapes.specs.Declarations.{DeclarationOf, declaration_at, AreWithin};
+ghost use Rattle.shapes.specs.Terms.{term};
 ghost use Rattle.inlining.specs.Inlining.{IsAtMost, IsOrder};
 ghost use Rattle.closing.specs.Targets.{inlining_of, most_inlined};
 ghost use Rattle.closing.specs.Closed.{any_value, name_of, schema_of, schema_in, declared_schema};
-ghost use Rattle.closing.specs.Described.{AreWithin};
 
 use component::{Term, TermLeaf};
-use derive_decl::Resolved;
 use filling::{Fill, copy_schema, filled};
 use open_types::OpenType;
-use schema_core::{Additional, Notes, Object, RefLeaf, Schema, Tree, TypeWord};
+use schema_core::{Notes, Object, RefLeaf, Schema, Tree, TypeWord};
+use shapes::Declared;
 use std::alloc::{AllocError, Global};
 use texts::{List, Text};
 
 /// What stands at the leaves of a term: the schemas of declarations, as far as they are made, and references to components.
-#[derive(Clone, Copy)]
-pub(crate) struct Closing<'s> {
-    pub(crate) resolved: &'s [Resolved],
+#[derive(Drop)]
+pub(crate) struct Closing<'s, D> {
+    pub(crate) declared: &'s [D],
     /// The schema of each declaration; of one that is not made yet, one that says nothing.
     pub(crate) made: &'s [Schema],
 }
 
 /// The name of the component of the declaration at a place; past the end, an empty one.
-fn name_at(alloc: Global, resolved: &[Resolved], place: usize) -> Result<Text, AllocError>
-    ensures { IfOk result (λ name. name ≡ (declaration_at (map resolved_view resolved.now) place).name) }
+fn name_at<D: Declared>(alloc: Global, declared: &[D], place: usize) -> Result<Text, AllocError>
+    ensures { IfOk result (λ name. name ≡ (declaration_at (map D.declaration declared.now) place).name) }
 {
-    if place < resolved.len() {
-        resolved[place].name.copy(alloc)
+    if place < declared.len() {
+        declared[place].name().copy(alloc)
     } else {
         Text::new(alloc, "")
     }
 }
 
 /// The name of the component of the type's declaration; of another type, an empty one.
-fn name_of(alloc: Global, resolved: &[Resolved], ty: &OpenType) -> Result<Text, AllocError>
-    ensures { IfOk result (λ name. name ≡ name_of (map resolved_view resolved.now) (open_view ty.now)) }
+fn name_of<D: Declared>(alloc: Global, declared: &[D], ty: &OpenType) -> Result<Text, AllocError>
+    ensures { IfOk result (λ name. name ≡ name_of (map D.declaration declared.now) (open_view ty.now)) }
 {
     match ty {
-        OpenType::Named(place, _) => name_at(alloc, resolved, *place),
+        OpenType::Named(place, _) => name_at(alloc, declared, *place),
         _ => Text::new(alloc, ""),
     }
 }
@@ -53,17 +51,7 @@ fn name_of(alloc: Global, resolved: &[Resolved], ty: &OpenType) -> Result<Text, 
 fn any_value(alloc: Global) -> Result<Schema, AllocError>
     ensures { IfOk result (λ s. schema_view s ≡ any_value) }
 {
-    let object = Object {
-        ty: TypeWord::Any,
-        format: None,
-        enum_values: None,
-        properties: List::new(alloc),
-        required: List::new(alloc),
-        additional: Additional::Absent,
-        property_names: None,
-        minimum: None,
-        notes: Notes::new(),
-    };
+    let object = Object::new(alloc, TypeWord::Any, Notes::new());
     Ok(Tree::Object(Box::new(alloc, object)?))
 }
 
@@ -89,26 +77,25 @@ fn schema_of(alloc: Global, made: &[Schema], ty: &OpenType) -> Result<Schema, Al
 }
 
 /// A reference with the notes to the component of the type's declaration.
-fn reference_to(
+fn reference_to<D: Declared>(
     alloc: Global,
-    resolved: &[Resolved],
+    declared: &[D],
     ty: &OpenType,
     notes: &Notes,
 ) -> Result<Schema, AllocError>
-    ensures { IfOk result (λ s. schema_view s ≡ leaf (record { name = name_of (map resolved_view resolved.now) (open_view ty.now); notes = notes.now })) }
+    ensures { IfOk result (λ s. schema_view s ≡ leaf (record { name = name_of (map D.declaration declared.now) (open_view ty.now); notes = notes.now })) }
 {
     Ok(Tree::Leaf(RefLeaf {
-        name: name_of(alloc, resolved, ty)?,
+        name: name_of(alloc, declared, ty)?,
         notes: notes.copy(alloc)?,
     }))
 }
 
-impl Fill for Closing<'_> {
+impl<D: Declared> Fill for Closing<'_, D> {
     ghost use Rattle.std.specs.Prelude.{map};
     ghost use Rattle.schema_core.specs.declared.tree.RefLeaf.{RefLeaf as AnyReference};
     ghost use Rattle.schema_core.specs.Schema.{schema_view};
     ghost use Rattle.component.specs.Leaves.{LeafOf, leaf_view};
-    ghost use Rattle.derive_decl.specs.Views.{resolved_view};
     ghost use Rattle.closing.specs.Closed.{put, schema_in};
 
     type Hole = TermLeaf;
@@ -123,7 +110,7 @@ impl Fill for Closing<'_> {
 
     ghost meaning = { λ l. l };
 
-    ghost put = { λ c l. put (map resolved_view c.resolved.now) (schema_in (map schema_view c.made.now)) l };
+    ghost put = { λ c l. put (map D.declaration c.declared.now) (schema_in (map schema_view c.made.now)) l };
 
     fn fill(&self, alloc: Global, leaf: &TermLeaf) -> Result<Schema, AllocError> {
         match leaf {
@@ -132,43 +119,43 @@ impl Fill for Closing<'_> {
                 if *inline {
                     schema_of(alloc, self.made, of)
                 } else {
-                    reference_to(alloc, self.resolved, of, notes)
+                    reference_to(alloc, self.declared, of, notes)
                 }
             }
         }
     }
 }
 
-/// As many schemas that say nothing as there are declarations.
-fn none_made(alloc: Global, resolved: &[Resolved]) -> Result<Vec<Schema>, AllocError>
-    ensures { IfOk result (λ made. length made.items ≡ length resolved.now) }
+/// So many schemas that say nothing.
+fn none_made(alloc: Global, count: usize) -> Result<Vec<Schema>, AllocError>
+    ensures { IfOk result (λ made. length made.items ≡ count) }
 {
     let mut made = Vec::new(alloc);
-    for _ in 0..resolved.len() {
+    for _ in 0..count {
         made.push(any_value(alloc)?)?;
     }
     Ok(made)
 }
 
 /// The schema of each declaration, where `order` has each behind those whose schemas stand in its own.
-pub(crate) fn closed(
+pub(crate) fn closed<D: Declared>(
     alloc: Global,
-    resolved: &[Resolved],
+    declared: &[D],
     terms: &[Term],
     order: &[usize],
 ) -> Result<Vec<Schema>, AllocError>
-    requires terms { map term_view terms.now ≡ map (λ s. term (resolved_view s)) resolved.now }
-    requires within { AreWithin (length (map resolved_view resolved.now)) (map resolved_view resolved.now) }
-    requires depth { IsAtMost most_inlined (inlining_of (map resolved_view resolved.now)) }
-    requires order { IsOrder (inlining_of (map resolved_view resolved.now)) order.now }
-    ensures many { IfOk result (λ made. length made.items ≡ length resolved.now) }
-    ensures schemas { IfOk result (λ made. (d : ℕ) → d < length resolved.now → schema_in (map schema_view made.items) d ≡ declared_schema (map resolved_view resolved.now) d) }
+    requires terms { map term_view terms.now ≡ map (λ s. term (D.declaration s)) declared.now }
+    requires within { AreWithin (length (map D.declaration declared.now)) (map D.declaration declared.now) }
+    requires depth { IsAtMost most_inlined (inlining_of (map D.declaration declared.now)) }
+    requires order { IsOrder (inlining_of (map D.declaration declared.now)) order.now }
+    ensures many { IfOk result (λ made. length made.items ≡ length declared.now) }
+    ensures schemas { IfOk result (λ made. (d : ℕ) → d < length declared.now → schema_in (map schema_view made.items) d ≡ declared_schema (map D.declaration declared.now) d) }
 {
     inlining::orders_stand();
-    let mut made = none_made(alloc, resolved)?;
+    let mut made = none_made(alloc, declared.len())?;
     for place in order {
         let closing = Closing {
-            resolved,
+            declared,
             made: made.as_slice(),
         };
         let schema = filled(alloc, &terms[*place], &closing)?;

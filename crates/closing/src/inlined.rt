@@ -4,23 +4,22 @@ ghost use Rattle.std.specs.Prelude.{◌≡◌, ◌++◌, map, IfOk, OnOk};
 ghost use Rattle.schema_core.specs.Schema.{object_view, tree_views, named_views, additional_view, array_items_view, optional_view, array_view};
 ghost use Rattle.component.specs.Leaves.{leaf_view, term_view};
 ghost use Rattle.component.specs.References.{leaf_references, schema_leaves, property_leaves, part_leaves};
-ghost use Rattle.derive_decl.specs.Terms.{term};
-ghost use Rattle.derive_decl.specs.Views.{resolved_view};
+ghost use Rattle.shapes.specs.Terms.{term};
 ghost use Rattle.closing.specs.Targets.{inlined_among, targets_in};
 
 use component::{Term, TermLeaf};
-use derive_decl::Resolved;
 use open_types::OpenType;
 use schema_core::{Additional, Array, ArrayItems, Object, Tree};
+use shapes::Declared;
 use std::alloc::{AllocError, Global};
 use texts::{List, Text};
 
 /// The terms of the declarations, in their order.
-pub fn terms_of(alloc: Global, resolved: &[Resolved]) -> Result<List<Term>, AllocError>
-    ensures { IfOk result (λ terms. map term_view terms ≡ map (λ s. term (resolved_view s)) resolved.now) }
+pub fn terms_of<D: Declared>(alloc: Global, declared: &[D]) -> Result<List<Term>, AllocError>
+    ensures { IfOk result (λ terms. map term_view terms ≡ map (λ s. term (D.declaration s)) declared.now) }
 {
     let mut terms = List::new(alloc);
-    for of in resolved {
+    for of in declared {
         terms.push(of.term(alloc)?)?;
     }
     Ok(terms)

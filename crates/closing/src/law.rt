@@ -10,7 +10,7 @@ pub fn components_describe()
     schema_core::forms_accept();
     schema_core::forms_refer();
     schema_core::documents_hold();
-    derive_decl::terms_accept();
+    shapes::terms_accept();
 }
 
 /// The declarations whose schemas stand in others are declarations, where each name leads to one.

@@ -1,13 +1,15 @@
 -- The schema of a place by its type (JSON Schema 2020-12; OpenAPI 3.1, "Schema Object"), over parameters and declarations.
 use Rattle.std.specs.Prelude.{ℕ, List, [], Bool, true, false, cond, ℤ, pos, Option, Some, None}
-use Rattle.acceptance.specs.Json.{null}
 use Rattle.schema_core.specs.declared.tree.SchemaTypeInner.{SchemaTypeInner}
 use Rattle.schema_core.specs.declared.tree.SchemaTypeInner.TheVariants as word
 use Rattle.schema_core.specs.declared.tree.TypeWord.{TypeWord}
 use Rattle.schema_core.specs.declared.tree.TypeWord.TheVariants.{Any, One, Nullable}
 use Rattle.schema_core.specs.declared.notes.Notes.{Notes}
-use Rattle.schema_core.specs.Notes.{no_notes}
-use Rattle.schema_core.specs.Schema.{Facts, ArrayFacts, SchemaOf, object, array, one_of, all_of, SchemasOf, no_schemas, schema, PropertiesOf, no_properties, PartOf, no_part, truth, part}
+use Rattle.schema_core.specs.declared.bounds.Bounds.{Bounds}
+use Rattle.schema_core.specs.Bounds.{at_least}
+use Rattle.schema_core.specs.Notes.{no_notes, noted, described, null_default}
+use Rattle.schema_core.specs.Objects.{word_facts, with_format, with_bounds, only_word}
+use Rattle.schema_core.specs.Schema.{ArrayFacts, SchemaOf, object, array, one_of, all_of, SchemasOf, no_schemas, schema, PropertiesOf, no_properties, PartOf, no_part, truth, part}
 use Rattle.schema_core.specs.Schema as tree
 use Rattle.leaves.specs.declared.leaf.Leaf.{Leaf}
 use Rattle.leaves.specs.declared.leaf.LeafKind.{LeafKind}
@@ -17,7 +19,7 @@ use Rattle.open_types.specs.Open.{Open, Opens, leaf, any_value, free_object, uni
 use Rattle.open_types.specs.Open as types
 use Rattle.component.specs.Leaves.{LeafOf, param, named}
 
--- the word of `type` for a kind, and the least number
+-- the word of `type` for a kind, and the least number, where there is one
 abbrev pub word_of : LeafKind → SchemaTypeInner
 word_of kinds.Text = word.String
 word_of kinds.Boolean = word.Boolean
@@ -32,54 +34,14 @@ minimum_of kinds.Signed = None
 minimum_of kinds.Unsigned = Some (pos 0)
 minimum_of kinds.Float = None
 
+abbrev pub bounds_of : LeafKind → Bounds
+bounds_of x = at_least (minimum_of x)
+
 abbrev pub type_word : Bool → SchemaTypeInner → TypeWord
 type_word false w = One w
 type_word true w = Nullable w
 
--- ---- notes
-
-abbrev pub where_true : Bool → Option Bool
-where_true false = None
-where_true true = Some true
-
--- that the place is deprecated, and its description
-abbrev pub noted : Bool → Option (List ℕ) → Notes
-noted deprecated description = record {
-  title = None;
-  description = description;
-  default = None;
-  example = None;
-  examples = None;
-  deprecated = where_true deprecated;
-  read_only = None;
-  write_only = None;
-  content_encoding = None;
-  content_media_type = None;
-}
-
-abbrev pub described : Option (List ℕ) → Notes
-described = noted false
-
--- a description, and null as the default
-abbrev pub null_default : Option (List ℕ) → Notes
-null_default description = record {
-  title = None;
-  description = description;
-  default = Some null;
-  example = None;
-  examples = None;
-  deprecated = None;
-  read_only = None;
-  write_only = None;
-  content_encoding = None;
-  content_media_type = None;
-}
-
 -- ---- schemas
-
--- a word and notes alone
-abbrev pub only_word : {X : Type 0} → TypeWord → Notes → SchemaOf X
-only_word w notes = object (record { type_word = w; format = None; enum_values = None; required = []; minimum = None; notes = notes }) no_properties no_part no_part
 
 abbrev pub null_alone : {X : Type 0} → SchemaOf X
 null_alone = only_word (One word.Null) no_notes
@@ -105,7 +67,8 @@ in_place true description s = one_of_null (described description) s
 
 abbrev pub leaf_object : {X : Type 0} → Bool → Notes → Leaf → SchemaOf X
 leaf_object nullable notes x =
-    object (record { type_word = type_word nullable (word_of (kind_of x)); format = format_of x; enum_values = None; required = []; minimum = minimum_of (kind_of x); notes = notes }) no_properties no_part no_part
+    object (with_bounds (bounds_of (kind_of x)) (with_format (format_of x) (word_facts (type_word nullable (word_of (kind_of x))) notes)))
+    no_properties no_part no_part
 
 -- a list of what the schema accepts, whose elements are distinct where it is `unique`
 abbrev pub list_of : {X : Type 0} → Bool → Bool → Notes → SchemaOf X → SchemaOf X
@@ -118,7 +81,7 @@ tuple_of nullable notes ss = array (record { nullable = nullable; unique = false
 -- a map whose names and values the schemas accept
 abbrev pub map_object : {X : Type 0} → Bool → Notes → (names values : SchemaOf X) → SchemaOf X
 map_object nullable notes names values =
-    object (record { type_word = type_word nullable word.Object; format = None; enum_values = None; required = []; minimum = None; notes = notes }) no_properties (part values) (part names)
+    object (word_facts (type_word nullable word.Object) notes) no_properties (part values) (part names)
 
 -- ---- places
 

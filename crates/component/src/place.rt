@@ -4,7 +4,9 @@ ghost use Rattle.std.specs.Prelude.{◌≡◌, IfOk, None, false};
 ghost use Rattle.schema_core.specs.Schema.{tree_views};
 ghost use Rattle.open_types.specs.Open.{open_view, opens_view};
 ghost use Rattle.component.specs.Leaves.{leaf_view, term_view};
-ghost use Rattle.component.specs.Places.{noted, type_word, only_word, leaf_object, tuple_of, list_of, map_object, place, inline_places, declared, argument};
+ghost use Rattle.schema_core.specs.Notes.{noted};
+ghost use Rattle.schema_core.specs.Objects.{only_word};
+ghost use Rattle.component.specs.Places.{type_word, leaf_object, tuple_of, list_of, map_object, place, inline_places, declared, argument};
 
 use crate::schemas::{
     any_object, in_place, leaf_object, list_of, map_object, noted, null_default, only_word,

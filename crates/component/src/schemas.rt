@@ -3,12 +3,14 @@
 ghost use Rattle.std.specs.Prelude.{◌≡◌, IfOk};
 ghost use Rattle.schema_core.specs.Schema.{SchemaOf, tree_view, object_view, tree_views, named_views, no_schemas, schema};
 ghost use Rattle.component.specs.Leaves.{leaf_view, term_view};
-ghost use Rattle.component.specs.Places.{word_of, minimum_of, type_word, where_true, noted, null_default, only_word, one_of_null, or_null, beside, in_place, leaf_object, list_of, tuple_of, map_object};
+ghost use Rattle.schema_core.specs.Notes.{where_true, noted, null_default};
+ghost use Rattle.schema_core.specs.Objects.{only_word};
+ghost use Rattle.component.specs.Places.{word_of, minimum_of, bounds_of, type_word, one_of_null, or_null, beside, in_place, leaf_object, list_of, tuple_of, map_object};
 
 use crate::term::{Term, TermLeaf};
 use leaves::{Leaf, LeafKind};
 use schema_core::{
-    Additional, AllOfSchema, Array, ArrayItems, Bound, Json, Notes, Object, OneOfSchema,
+    Additional, AllOfSchema, Array, ArrayItems, Bound, Bounds, Json, Notes, Object, OneOfSchema,
     SchemaTypeInner, Tree, TypeWord,
 };
 use serde_json::Value;
@@ -46,6 +48,15 @@ fn minimum_of(kind: LeafKind) -> Option<Bound>
     }
 }
 
+fn bounds_of(kind: LeafKind) -> Bounds
+    ensures { result ≡ bounds_of kind }
+{
+    Bounds {
+        minimum: minimum_of(kind),
+        ..Bounds::none()
+    }
+}
+
 /// Notes that a place is deprecated, and of its description.
 pub fn noted(
     alloc: Global,
@@ -64,22 +75,6 @@ pub fn noted(
     Ok(notes)
 }
 
-fn object(alloc: Global, ty: TypeWord, notes: Notes) -> Object<TermLeaf>
-    ensures { object_view leaf_view result ≡ only_word ty notes }
-{
-    Object {
-        ty,
-        format: None,
-        enum_values: None,
-        properties: List::new(alloc),
-        required: List::new(alloc),
-        additional: Additional::Absent,
-        property_names: None,
-        minimum: None,
-        notes,
-    }
-}
-
 pub(crate) fn boxed(alloc: Global, object: Object<TermLeaf>) -> Result<Term, AllocError>
     ensures { IfOk result (λ s. term_view s ≡ object_view leaf_view object) }
 {
@@ -90,7 +85,7 @@ pub(crate) fn boxed(alloc: Global, object: Object<TermLeaf>) -> Result<Term, All
 pub(crate) fn only_word(alloc: Global, ty: TypeWord, notes: Notes) -> Result<Term, AllocError>
     ensures { IfOk result (λ s. term_view s ≡ only_word ty notes) }
 {
-    boxed(alloc, object(alloc, ty, notes))
+    boxed(alloc, Object::new(alloc, ty, notes))
 }
 
 /// Any object, or null where it may be.
@@ -128,8 +123,8 @@ pub(crate) fn leaf_object(
     let word = type_word(nullable, word_of(leaf.kind()));
     let object = Object {
         format,
-        minimum: minimum_of(leaf.kind()),
-        ..object(alloc, word, notes)
+        bounds: bounds_of(leaf.kind()),
+        ..Object::new(alloc, word, notes)
     };
     boxed(alloc, object)
 }
@@ -247,7 +242,7 @@ pub(crate) fn map_object(
 ) -> Result<Term, AllocError>
     ensures { IfOk result (λ s. term_view s ≡ map_object nullable notes (term_view names) (term_view values)) }
 {
-    let mut object = object(alloc, type_word(nullable, SchemaTypeInner::Object), notes);
+    let mut object = Object::new(alloc, type_word(nullable, SchemaTypeInner::Object), notes);
     object.property_names = Some(names);
     object.additional = Additional::Of(values);
     boxed(alloc, object)

@@ -10,7 +10,7 @@ use Rattle.syntax.specs.Items.{declaration_view}
 use Rattle.texts.specs.Lists.{Somewhere}
 use Rattle.scopes.specs.Names.{declared_names}
 use Rattle.derive_decl.specs.declared.resolved.Resolved.{Resolved}
-use Rattle.derive_decl.specs.Resolved.{DeclarationOf, declaration_at, declaration_names}
+use Rattle.shapes.specs.Declarations.{DeclarationOf, declaration_at, declaration_names}
 use Rattle.derive_decl.specs.Views.{resolved_view}
 use Rattle.inlining.specs.declared.order.Depth.{Depth}
 use Rattle.inlining.specs.declared.order.Depth.TheVariants.{Beyond}

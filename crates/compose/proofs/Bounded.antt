@@ -3,7 +3,7 @@ use Rattle.std.proofs.Common.{inl, inr, List, arith}
 use Rattle.diag.specs.declared.error.DeriveError.{DeriveError}
 use Rattle.syntax.specs.Items.{DeclaredItem}
 use Rattle.configuration.specs.Configuration.{Configuration}
-use Rattle.derive_decl.specs.Resolved.{DeclarationOf}
+use Rattle.shapes.specs.Declarations.{DeclarationOf}
 use Rattle.compose.specs.Bounds.{AreBounded, IsUnbounded}
 
 pub not_refused : (c : Configuration) (ds : List DeclaredItem) (ss : List DeclarationOf) (e : DeriveError) → AreBounded c ds ss → ¬ IsUnbounded c ds ss e

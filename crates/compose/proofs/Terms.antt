@@ -4,7 +4,7 @@ use Rattle.component.specs.Leaves.{term_view}
 use Rattle.component.specs.declared.term.TermLeaf.{TermLeaf}
 use Rattle.schema_core.specs.declared.tree.Tree.{Tree}
 use Rattle.derive_decl.specs.declared.resolved.Resolved.{Resolved}
-use Rattle.derive_decl.specs.Terms.{term}
+use Rattle.shapes.specs.Terms.{term}
 use Rattle.derive_decl.specs.Views.{resolved_view}
 use Rattle.closing.specs.Targets.{targets_in, inlining_of}
 

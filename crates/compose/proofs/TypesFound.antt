@@ -10,7 +10,7 @@ use Rattle.schema_core.specs.Document.{Entry}
 use Rattle.schema_core.specs.Entries.{find, names_of}
 use Rattle.open_types.specs.Open.{Open}
 use Rattle.texts.specs.Names.{place_in}
-use Rattle.derive_decl.specs.Resolved.{DeclarationOf, declaration_at, declaration_names}
+use Rattle.shapes.specs.Declarations.{DeclarationOf, declaration_at, declaration_names}
 use Rattle.closing.specs.Closed.{name_of}
 use Rattle.closing.specs.Described.{AreComponents}
 use Rattle.compose.specs.Types.{declared, AreTypesOf}

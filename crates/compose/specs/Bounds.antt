@@ -12,7 +12,7 @@ use Rattle.texts.specs.declared.span.Span.{Span}
 use Rattle.syntax.specs.Items.{DeclaredItem}
 use Rattle.texts.specs.Lists.{Somewhere}
 use Rattle.configuration.specs.Configuration.{Configuration}
-use Rattle.derive_decl.specs.Resolved.{DeclarationOf, declaration_at}
+use Rattle.shapes.specs.Declarations.{DeclarationOf, declaration_at}
 use Rattle.inlining.specs.Inlining.{IsPath, IsAtMost, all_copies}
 use Rattle.closing.specs.Targets.{inlining_of, most_inlined}
 

@@ -3,9 +3,9 @@ use Rattle.std.specs.Prelude.{◌≡◌, List, length, Some}
 use Rattle.diag.specs.declared.rename_row.RenameRow.{RenameRow}
 use Rattle.syntax.specs.Items.{DeclaredItem}
 use Rattle.scopes.specs.Names.{declared_names}
-use Rattle.derive_decl.specs.Resolved.{DeclarationOf, declaration_names}
+use Rattle.shapes.specs.Declarations.{DeclarationOf, declaration_names, AreWithin}
 use Rattle.derive_decl.specs.Whole.{resolved_declarations}
-use Rattle.closing.specs.Described.{IsApart, AreWithin}
+use Rattle.closing.specs.Described.{IsApart}
 use Rattle.compose.specs.Faults.{AreClear}
 
 -- declarations that have declarations, where no condition of a refusal holds

@@ -2,7 +2,7 @@
 use Rattle.std.specs.Prelude.{◌≡◌, ◌<◌, ℕ, List, length, map}
 use Rattle.std.specs.List.{AllByRecursion}
 use Rattle.open_types.specs.Open.{Open, named, no_types}
-use Rattle.derive_decl.specs.Resolved.{DeclarationOf}
+use Rattle.shapes.specs.Declarations.{DeclarationOf}
 use Rattle.closing.specs.Closed.{name_of}
 
 -- the declaration at a place, without arguments

@@ -1,7 +1,8 @@
 //! Attributes that nothing is derived from.
 
-ghost use Rattle.std.specs.Prelude.{◌≡◌, ◌⊎◌, [], ◌∷◌, map, IfOk, IfErr};
+ghost use Rattle.std.specs.Prelude.{◌≡◌, [], ◌∷◌, map, IfOk};
 ghost use Rattle.std.specs.List.{flat_map};
+ghost use Rattle.diag.specs.Refusal.{Refuses};
 ghost use Rattle.texts.specs.declared.span.Span.{Span as AnySpan};
 ghost use Rattle.attributes.specs.Attributes.{attribute_view};
 ghost use Rattle.syntax.specs.Items.{field_view, body_view, declaration_view, declarations_view};
@@ -92,8 +93,11 @@ fn first_among(alloc: Global, declarations: &[Declaration]) -> Result<Option<Spa
 
 /// Refuses declarations that have an attribute from which nothing is derived, at the first one.
 pub(crate) fn only_derivable(alloc: Global, declarations: &Declarations) -> Result<(), DeriveError>
-    ensures derivable { IfOk result (λ _. (span : AnySpan) → ¬ IsAttributed (declarations_view declarations.now) span) }
-    ensures refused { IfErr result (λ e. (e ≡ DeriveError.Memory) ⊎ IsUnderivable (declarations_view declarations.now) e) }
+    ensures derivable {
+        IfOk result (λ _. (span : AnySpan)
+            → ¬ IsAttributed (declarations_view declarations.now) span)
+    }
+    ensures refused { Refuses result (IsUnderivable (declarations_view declarations.now)) }
 {
     match first_among(alloc, declarations.items.as_slice())? {
         Some(span) => Err(DeriveError::syntax(alloc, span)),

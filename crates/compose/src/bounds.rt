@@ -1,11 +1,11 @@
 //! The bounds on instances.
 
-ghost use Rattle.std.specs.Prelude.{◌≡◌, ◌<◌, ◌≤◌, ◌⊎◌, length, map, IfOk, IfErr};
-ghost use Rattle.diag.specs.Refusal.{IsRefusal};
+ghost use Rattle.std.specs.Prelude.{◌≡◌, ◌<◌, ◌≤◌, length, map, IfOk};
+ghost use Rattle.diag.specs.Refusal.{IsErrorFor, IsRefusal, Refuses};
 ghost use Rattle.texts.specs.Span.{no_span};
 ghost use Rattle.syntax.specs.Items.{declaration_view};
 ghost use Rattle.scopes.specs.Names.{declared_names};
-ghost use Rattle.derive_decl.specs.Resolved.{declaration_names};
+ghost use Rattle.shapes.specs.Declarations.{declaration_names};
 ghost use Rattle.derive_decl.specs.Views.{resolved_view};
 ghost use Rattle.inlining.specs.Inlining.{AreTargets, IsAtMost, IsOrder, IsPath, all_copies};
 ghost use Rattle.closing.specs.Targets.{inlining_of, most_inlined};
@@ -23,17 +23,14 @@ use texts::{List, Span};
 const MOST_INLINED: usize = 32;
 
 /// The refusal of more instances than may be reachable, at the name of one.
-fn crowded(alloc: Global, span: Span, limit: usize) -> Result<DeriveError, AllocError>
-    ensures { IfOk result (λ e. IsRefusal Kind.TooManyInstances span (crowded_message limit) e) }
+fn too_many_instances(alloc: Global, span: Span, limit: usize) -> Result<DeriveError, AllocError>
+    ensures {
+        IfOk result (IsErrorFor (IsRefusal Kind.TooManyInstances span (crowded_message limit)))
+    }
 {
     let message = format!(in alloc; "more than {} instances are reachable", limit)?;
-    let diagnostics = Diagnostics::with_span(
-        alloc,
-        Kind::TooManyInstances,
-        span,
-        message.as_str(),
-    )?;
-    Ok(DeriveError::Refused(diagnostics))
+    let kind = Kind::TooManyInstances;
+    Ok(DeriveError::refusal(alloc, kind, span, message.as_str()))
 }
 
 /// Refuses more declarations than instances may be reachable: each is one.
@@ -43,24 +40,29 @@ fn few_instances(
     config: &Config,
 ) -> Result<(), DeriveError>
     ensures few { IfOk result (λ _. length declarations.now ≤ config.now.limit) }
-    ensures refused { IfErr result (λ e. (e ≡ DeriveError.Memory) ⊎ IsCrowded config.now (map declaration_view declarations.now) e) }
+    ensures refused {
+        Refuses result (IsCrowded config.now (map declaration_view declarations.now))
+    }
 {
     let limit = config.limit();
     if declarations.len() <= limit {
         return Ok(());
     }
-    Err(crowded(alloc, declarations[limit].ident.span, limit)?)
+    Err(too_many_instances(alloc, declarations[limit].ident.span, limit)?)
 }
 
 /// The refusal of an inline path that is too long, whose instances are the names along it.
-fn deep(
+fn inline_depth(
     alloc: Global,
     span: Span,
     resolved: &[Resolved],
     path: &[usize],
 ) -> Result<DeriveError, AllocError>
     requires { IsPath (inlining_of (map resolved_view resolved.now)) path.now }
-    ensures { IfOk result (λ e. IsRefusalOf Kind.InlineDepth span deep_message (names_along (map resolved_view resolved.now) path.now) e) }
+    ensures {
+        IfOk result (IsRefusalOf Kind.InlineDepth span deep_message
+            (names_along (map resolved_view resolved.now) path.now))
+    }
 {
     let message = "types are inlined deeper than 32";
     let mut diagnostics = Diagnostics::with_span(alloc, Kind::InlineDepth, span, message)?;
@@ -77,31 +79,38 @@ fn shallow_order(
     resolved: &[Resolved],
     targets: &[List<usize>],
 ) -> Result<List<usize>, DeriveError>
-    requires names { declaration_names (map resolved_view resolved.now) ≡ declared_names (map declaration_view declarations.now) }
+    requires names {
+        declaration_names (map resolved_view resolved.now)
+            ≡ declared_names (map declaration_view declarations.now)
+    }
     requires targets { targets.now ≡ inlining_of (map resolved_view resolved.now) }
     requires declared { AreTargets targets.now }
     ensures shallow { IfOk result (λ _. IsAtMost most_inlined targets.now) }
     ensures order { IfOk result (λ order. IsOrder targets.now order) }
-    ensures refused { IfErr result (λ e. (e ≡ DeriveError.Memory) ⊎ IsDeep (map declaration_view declarations.now) (map resolved_view resolved.now) e) }
+    ensures refused {
+        Refuses result
+            (IsDeep (map declaration_view declarations.now) (map resolved_view resolved.now))
+    }
 {
     match inline_order(alloc, targets, MOST_INLINED)? {
         Depth::Within(order) => Ok(order),
         Depth::Beyond(path) => {
             let path = path.as_slice();
             let span = declarations[path[0]].ident.span;
-            Err(deep(alloc, span, resolved, path)?)
+            Err(inline_depth(alloc, span, resolved, path)?)
         }
     }
 }
 
 /// The refusal of more copies than may be inlined.
-fn copied(alloc: Global, copies: usize) -> Result<DeriveError, AllocError>
-    ensures { IfOk result (λ e. IsRefusal Kind.TooManyCopies no_span (copied_message copies) e) }
+fn too_many_copies(alloc: Global, copies: usize) -> Result<DeriveError, AllocError>
+    ensures {
+        IfOk result (IsErrorFor (IsRefusal Kind.TooManyCopies no_span (copied_message copies)))
+    }
 {
     let message = format!(in alloc; "more than {} copies are inlined", copies)?;
-    let span = Span::nowhere();
-    let diagnostics = Diagnostics::with_span(alloc, Kind::TooManyCopies, span, message.as_str())?;
-    Ok(DeriveError::Refused(diagnostics))
+    let kind = Kind::TooManyCopies;
+    Ok(DeriveError::refusal(alloc, kind, Span::nowhere(), message.as_str()))
 }
 
 /// Refuses more copies than may be inlined.
@@ -114,11 +123,14 @@ fn few_copies(
     requires shallow { IsAtMost most_inlined targets.now }
     requires order { IsOrder targets.now order.now }
     ensures few { IfOk result (λ _. all_copies targets.now most_inlined ≤ config.now.copies) }
-    ensures refused { IfErr result (λ e. (e ≡ DeriveError.Memory) ⊎ ((config.now.copies < all_copies targets.now most_inlined) × IsRefusal Kind.TooManyCopies no_span (copied_message config.now.copies) e)) }
+    ensures refused {
+        Refuses result (λ e. (config.now.copies < all_copies targets.now most_inlined)
+            × IsRefusal Kind.TooManyCopies no_span (copied_message config.now.copies) e)
+    }
 {
     let copies = config.copies();
     if are_more_copies(alloc, targets, order, MOST_INLINED, copies)? {
-        return Err(copied(alloc, copies)?);
+        return Err(too_many_copies(alloc, copies)?);
     }
     Ok(())
 }
@@ -137,12 +149,21 @@ pub fn inline_order_of(
     targets: &[List<usize>],
     config: &Config,
 ) -> Result<List<usize>, DeriveError>
-    requires names { declaration_names (map resolved_view resolved.now) ≡ declared_names (map declaration_view declarations.now) }
+    requires names {
+        declaration_names (map resolved_view resolved.now)
+            ≡ declared_names (map declaration_view declarations.now)
+    }
     requires targets { targets.now ≡ inlining_of (map resolved_view resolved.now) }
     requires declared { AreTargets targets.now }
-    ensures bounded { IfOk result (λ _. AreBounded config.now (map declaration_view declarations.now) (map resolved_view resolved.now)) }
-    ensures order { IfOk result (λ order. IsOrder (inlining_of (map resolved_view resolved.now)) order) }
-    ensures refused { IfErr result (λ e. (e ≡ DeriveError.Memory) ⊎ IsUnbounded config.now (map declaration_view declarations.now) (map resolved_view resolved.now) e) }
+    ensures bounded {
+        IfOk result (λ _. AreBounded config.now (map declaration_view declarations.now)
+            (map resolved_view resolved.now))
+    }
+    ensures order { IfOk result (IsOrder (inlining_of (map resolved_view resolved.now))) }
+    ensures refused {
+        Refuses result (IsUnbounded config.now (map declaration_view declarations.now)
+            (map resolved_view resolved.now))
+    }
 {
     few_instances(alloc, declarations, config)?;
     let order = shallow_order(alloc, declarations, resolved, targets)?;

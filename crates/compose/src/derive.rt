@@ -1,7 +1,8 @@
 //! From a source to its components.
 
-ghost use Rattle.std.specs.Prelude.{◌≡◌, ◌⊎◌, ℕ, List as Items, map, IfOk, IfErr};
+ghost use Rattle.std.specs.Prelude.{◌≡◌, ℕ, List as Items, map, IfOk};
 ghost use Rattle.std.specs.BTreeMap.{get_by_text};
+ghost use Rattle.diag.specs.Refusal.{Refuses};
 ghost use Rattle.schema_core.specs.Document.{document};
 ghost use Rattle.schema_core.specs.Entries.{names_of};
 ghost use Rattle.open_types.specs.Open.{open_view};
@@ -53,15 +54,21 @@ fn settle(
     config: &Config,
 ) -> Result<Settled, DeriveError>
     requires { AreNamed (declarations_view declarations.now) }
-    ensures settled { IfOk result (λ s. IsSettled config.now.renames (declarations_view declarations.now) (map resolved_view s.resolved)) }
-    ensures places { IfOk result (λ s. (name : Items ℕ) → get_by_text s.places name ≡ place_among (declarations_view declarations.now) name) }
-    ensures refused { IfErr result (λ e. (e ≡ DeriveError.Memory) ⊎ AreAtFault config.now.renames (declarations_view declarations.now) e) }
+    ensures settled {
+        IfOk result (λ s. IsSettled config.now.renames (declarations_view declarations.now)
+            (map resolved_view s.resolved))
+    }
+    ensures places {
+        IfOk result (λ s. (name : Items ℕ)
+            → get_by_text s.places name ≡ place_among (declarations_view declarations.now) name)
+    }
+    ensures refused {
+        Refuses result (AreAtFault config.now.renames (declarations_view declarations.now))
+    }
 {
     only_derivable(alloc, declarations)?;
     let places = declared_places(alloc, declarations)?;
     let resolved = resolved_declarations(alloc, declarations, &places, config)?;
-    resolving::resolved_have_no_fault();
-    resolving::resolved_are_within();
     Ok(Settled { resolved, places })
 }
 
@@ -72,10 +79,19 @@ fn bounded_components(
     resolved: &[Resolved],
     config: &Config,
 ) -> Result<Components, DeriveError>
-    requires { IsSettled config.now.renames (map declaration_view declarations.now) (map resolved_view resolved.now) }
-    ensures bounded { IfOk result (λ _. AreBounded config.now (map declaration_view declarations.now) (map resolved_view resolved.now)) }
-    ensures components { IfOk result (λ components. AreComponents (map resolved_view resolved.now) components) }
-    ensures refused { IfErr result (λ e. (e ≡ DeriveError.Memory) ⊎ IsUnbounded config.now (map declaration_view declarations.now) (map resolved_view resolved.now) e) }
+    requires {
+        IsSettled config.now.renames (map declaration_view declarations.now)
+            (map resolved_view resolved.now)
+    }
+    ensures bounded {
+        IfOk result (λ _. AreBounded config.now (map declaration_view declarations.now)
+            (map resolved_view resolved.now))
+    }
+    ensures components { IfOk result (AreComponents (map resolved_view resolved.now)) }
+    ensures refused {
+        Refuses result (IsUnbounded config.now (map declaration_view declarations.now)
+            (map resolved_view resolved.now))
+    }
 {
     closing::targets_are_declared();
     let terms = terms_of(alloc, resolved)?;
@@ -98,11 +114,17 @@ pub fn derive_components(
     source: &str,
     config: &Config,
 ) -> Result<Derived, DeriveError>
-    ensures derived { IfOk result (λ derived. IsDerived config.now source.now derived.components) }
-    ensures refused { IfErr result (λ e. (e ≡ DeriveError.Memory) ⊎ IsRefused config.now source.now e) }
+    ensures derived { IfOk result (λ d. IsDerived config.now source.now d.components) }
+    ensures refused { Refuses result (IsRefused config.now source.now) }
     // The document of the components describes the declarations of the source.
-    ensures describes { IfOk result (λ derived. (made : IsDerived config.now source.now derived.components) × Describes made.resolved (document derived.components)) }
-    ensures types { IfOk result (λ derived. (made : IsDerived config.now source.now derived.components) × AreTypesOf made.resolved (names_of derived.components) (map open_view derived.types)) }
+    ensures describes {
+        IfOk result (λ d. (made : IsDerived config.now source.now d.components)
+            × Describes made.resolved (document d.components))
+    }
+    ensures types {
+        IfOk result (λ d. (made : IsDerived config.now source.now d.components)
+            × AreTypesOf made.resolved (names_of d.components) (map open_view d.types))
+    }
 {
     let declarations = parse_declarations(alloc, source)?;
     syntax::read_fields_are_named();

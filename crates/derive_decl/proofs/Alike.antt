@@ -3,7 +3,7 @@ use Rattle.std.proofs.Common.{ℕ, ◌+◌, ◌<◌, List, Bool, true, false, no
 use Rattle.open_types.specs.declared.open_type.OpenType.{OpenType}
 use Rattle.open_types.specs.Open.{Open, open_view}
 use Rattle.open_types.specs.Same.{same_type}
-use Rattle.derive_decl.specs.Terms.{are_all}
+use Rattle.shapes.specs.Terms.{are_all}
 
 -- the first of the rest, and what follows it
 pub alike_at : (t : Open) (us : List OpenType) (i : ℕ) (u : OpenType) → i < length us → u ≡ get_or us i u → are_all t (map open_view (drop i us)) ≡ (same_type t (open_view u) && are_all t (map open_view (drop (i + 1) us)))

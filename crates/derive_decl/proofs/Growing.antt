@@ -13,9 +13,9 @@ use Rattle.texts.specs.Names.{IsDistinct}
 use Rattle.scopes.specs.Names.{texts}
 use Rattle.derive_decl.specs.declared.member.Member.{Member}
 use Rattle.derive_decl.specs.Fields.{FieldRules, is_kept, kept, written_ident, written_idents}
-use Rattle.derive_decl.specs.Resolved.{Around, DeclarationOf, all_of, member_of, member_names, names_of}
+use Rattle.shapes.specs.Declarations.{DeclarationOf, member_names, names_of, MembersDiffer}
+use Rattle.derive_decl.specs.Resolved.{Around, all_of, member_of}
 use Rattle.derive_decl.specs.Views.{member_view}
-use Rattle.derive_decl.specs.Whole.{MembersDiffer}
 
 -- ---- one more
 
@@ -57,6 +57,15 @@ somewhere {I = I} P u items i item l is p = by items i l (subst (λ x. P (u x)) 
     by [] j h q = absurd (omega arith)
     by (x ∷ xs) zero h q = inl q
     by (x ∷ xs) (suc j) h q = inr (by xs j (omega arith) q)
+
+-- a fact of all is one of each
+pub fact_at : {A I : Type 0} (P : A → Type 0) (u : I → A) (items : List I) (i : ℕ) (item : I) → i < length items → item ≡ get_or items i item → AllByRecursion P (map u items) → P (u item)
+fact_at {I = I} P u items i item l is all = subst (λ x. P (u x)) (sym is) (by items i l all)
+  where
+    by : (xs : List I) (j : ℕ) → j < length xs → AllByRecursion P (map u xs) → P (u (get_or xs j item))
+    by [] j h a = absurd (omega arith)
+    by (x ∷ xs) zero h a = a.0
+    by (x ∷ xs) (suc j) h a = by xs j (omega arith) a.1
 
 -- a fact of all so far, and of one more
 all-push : {A : Type 0} (P : A → Type 0) (xs : List A) (x : A) → AllByRecursion P xs → P x → AllByRecursion P (xs ++ x ∷ [])

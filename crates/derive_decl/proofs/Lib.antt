@@ -1,6 +1,6 @@
-pub mod Accepted
 pub mod Alike
-pub mod Deeper
 pub mod Growing
 pub mod Members
 pub mod Rules
+pub mod Within
+pub mod Faultless

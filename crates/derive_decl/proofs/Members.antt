@@ -5,19 +5,18 @@ use Rattle.open_types.specs.Open.{Open, open_view}
 use Rattle.schema_core.specs.Schema.{SchemaOf}
 use Rattle.schema_core.specs.Schema as tree
 use Rattle.component.specs.Leaves.{LeafOf}
-use Rattle.component.specs.Places.{place}
 use Rattle.derive_decl.specs.declared.member.Member.{Member}
-use Rattle.derive_decl.specs.Resolved.{MemberOf, member_types}
-use Rattle.derive_decl.specs.Terms.{properties_of, required_names}
+use Rattle.shapes.specs.Declarations.{MemberOf, member_types}
+use Rattle.shapes.specs.Terms.{field_term, properties_of, required_names}
 use Rattle.derive_decl.specs.Views.{member_view}
 
 -- a member's property
 abbrev pub property_of : Member → List ℕ × SchemaOf LeafOf
-property_of m = (m.ident.text, place false false m.deprecated m.description (open_view m.ty))
+property_of m = (m.ident.text, field_term m.remarks (open_view m.ty))
 
 pub properties_are : (ms : List Member) → tree.properties_of (map property_of ms) ≡ properties_of (map member_view ms)
 properties_are [] = refl
-properties_are (m ∷ ms) = ap (tree.property m.ident.text (place false false m.deprecated m.description (open_view m.ty))) (properties_are ms)
+properties_are (m ∷ ms) = ap (tree.property m.ident.text (field_term m.remarks (open_view m.ty))) (properties_are ms)
 
 -- a member's type
 abbrev pub type_in : Member → Open

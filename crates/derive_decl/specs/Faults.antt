@@ -1,25 +1,22 @@
--- Why a declaration has no schema: serde's items that contradict each other or name a rename rule that there is not, a name that has no row or that two fields have, a type that stands for nothing or is too large, a form of unnamed fields without a field, a field without a name among named ones.
-use Rattle.std.specs.Prelude.{◌≡◌, ◌≤◌, ◌⊎◌, ℕ, List, [], ◌++◌, Option, Some, None, codes}
-use Rattle.std.specs.List.{AllByRecursion}
-use Rattle.diag.specs.Refusal.{IsRefusal, IsSyntaxRefusal}
+-- Why a declaration has no schema: serde's items that contradict each other or name a rename rule that there is not, a name that has no row or that two fields have, a type that stands for nothing or is too large, a form of unnamed fields without a field.
+use Rattle.std.specs.Prelude.{◌≡◌, ◌⊎◌, ℕ, List, [], ◌++◌, Option, Some, None, codes}
+use Rattle.diag.specs.Refusal.{IsRefusal}
 use Rattle.diag.specs.declared.error.DeriveError.{DeriveError}
-use Rattle.diag.specs.declared.kind.Kind.TheVariants.{DuplicateName, MissingRow, Arity}
+use Rattle.diag.specs.declared.kind.Kind.TheVariants.{MissingRow, Arity}
 use Rattle.diag.specs.declared.rename_rule.RenameRule.{RenameRule}
 use Rattle.diag.specs.declared.rename_row.RenameRow.{RenameRow}
 use Rattle.diag.specs.RenameRules.{name_of}
+use Rattle.texts.specs.Lists.{Somewhere}
 use Rattle.written_types.specs.declared.written.Ident.{Ident}
-use Rattle.attributes.specs.Attributes.{AttributeItem}
 use Rattle.attributes.specs.AttributeReading.{serde_items}
 use Rattle.attributes.specs.declared.serde_item.SerdeItem.{SerdeItem}
 use Rattle.serde_rules.specs.declared.value.SerdeValue.{SerdeValue}
 use Rattle.serde_rules.specs.Container.{IsContainerRefusal}
 use Rattle.syntax.specs.Items.{FieldItem, FieldItems, named, unnamed, unit, BodyItem, struct_body, DeclaredItem}
-use Rattle.resolving.specs.Names.{size}
-use Rattle.resolving.specs.Resolved.{Fault, IsFault, IsRefusedFor, most_names}
-use Rattle.texts.specs.Lists.{Somewhere}
-use Rattle.scopes.specs.Names.{Repeats, duplicate_message}
+use Rattle.resolving.specs.Resolved.{Fault, IsFault, IsRefusedFor}
+use Rattle.scopes.specs.Names.{IsGivenTwice}
 use Rattle.derive_decl.specs.Fields.{FieldRules, field_rules, value_of, kept, name_by, written_idents}
-use Rattle.derive_decl.specs.Resolved.{Around}
+use Rattle.derive_decl.specs.Resolved.{Around, around_of}
 
 abbrev pub fields_in : FieldItems → List FieldItem
 fields_in (named fs) = fs
@@ -28,35 +25,6 @@ fields_in unit = []
 
 abbrev pub body_fields : BodyItem → List FieldItem
 body_fields (struct_body fs) = fields_in fs
-
--- the fields whose types stand in a schema: of named fields those that serde does not skip, of unnamed fields all
-abbrev pub kept_in : FieldItems → List FieldItem
-kept_in (named fs) = kept fs
-kept_in (unnamed fs) = fs
-kept_in unit = []
-
-abbrev pub kept_fields : BodyItem → List FieldItem
-kept_fields (struct_body fs) = kept_in fs
-
--- serde's items before a struct count where its fields have names
-abbrev pub items_of : List AttributeItem → FieldItems → List SerdeItem
-items_of attributes (named fs) = serde_items attributes
-items_of attributes (unnamed fs) = []
-items_of attributes unit = []
-
-abbrev pub container_items : List AttributeItem → BodyItem → List SerdeItem
-container_items attributes (struct_body fs) = items_of attributes fs
-
--- a type has no more names than it may
-abbrev pub IsSmall : FieldItem → Type 0
-IsSmall f = size f.ty ≤ most_names
-
-abbrev pub HasSmall : BodyItem → Type 0
-HasSmall b = AllByRecursion IsSmall (kept_fields b)
-
--- Serde's items do not contradict each other, and name rename rules that there are.
-pub record AreAllowed (items : List SerdeItem) : Type 0 where
-  pub none : (e : DeriveError) → ¬ IsContainerRefusal items e
 
 abbrev pub fieldless_message : List ℕ
 fieldless_message = codes "a tuple form without a field"
@@ -79,16 +47,15 @@ IsUnwritten rows (Some rule) value x e = (name_by rows (Some rule) value x ≡ N
 abbrev pub IsFaultyName : List RenameRow → Option RenameRule → FieldItem → DeriveError → Type 0
 IsFaultyName rows rule f e = (x : Ident) × (f.ident ≡ Some x) × IsUnwritten rows rule (value_of f) x e
 
--- the error refuses the field among named ones: for its type, its name, or since it has none
+-- the error refuses the field among named ones: for its type, or its name
 abbrev pub IsFaultyMember : Around → FieldRules → FieldItem → DeriveError → Type 0
-IsFaultyMember around rules f e =
-    IsFaultyType around f e ⊎ IsFaultyName around.rows rules.rule f e ⊎ ((f.ident ≡ None) × IsSyntaxRefusal f.span e)
+IsFaultyMember around rules f e = IsFaultyType around f e ⊎ IsFaultyName around.rows rules.rule f e
 
 -- the error refuses the named fields: one of them, or a name that two have
 abbrev pub AreFaultyMembers : Around → FieldRules → List FieldItem → DeriveError → Type 0
 AreFaultyMembers around rules fs e =
     Somewhere (λ f. IsFaultyMember around rules f e) (kept fs)
-    ⊎ ((x : Ident) × Repeats (written_idents around.rows rules.rule (kept fs)) x × IsRefusal DuplicateName x.span (duplicate_message x.text) e)
+    ⊎ IsGivenTwice (written_idents around.rows rules.rule (kept fs)) e
 
 -- the error refuses the named fields of a struct, or serde's items before it
 abbrev pub AreFaultyNamed : Around → List SerdeItem → List FieldItem → DeriveError → Type 0
@@ -96,7 +63,8 @@ AreFaultyNamed around items fs e = IsContainerRefusal items e ⊎ AreFaultyMembe
 
 -- the error refuses the unnamed fields: the type of one, or since there is none
 abbrev pub AreFaultyTypes : Around → Ident → List FieldItem → DeriveError → Type 0
-AreFaultyTypes around x fs e = Somewhere (λ f. IsFaultyType around f e) fs ⊎ ((fs ≡ []) × IsRefusal Arity x.span fieldless_message e)
+AreFaultyTypes around x fs e =
+    Somewhere (λ f. IsFaultyType around f e) fs ⊎ ((fs ≡ []) × IsRefusal Arity x.span fieldless_message e)
 
 abbrev pub AreFaulty : Around → List SerdeItem → Ident → FieldItems → DeriveError → Type 0
 AreFaulty around items x (named fs) e = AreFaultyNamed around items fs e
@@ -109,3 +77,7 @@ IsFaultyBody around items x (struct_body fs) e = AreFaulty around items x fs e
 
 abbrev pub IsFaultyItem : Around → DeclaredItem → DeriveError → Type 0
 IsFaultyItem around d e = IsFaultyBody around (serde_items d.attrs) d.ident d.body e
+
+-- the error refuses one of the declarations
+abbrev pub AreFaultyItems : List RenameRow → List DeclaredItem → DeriveError → Type 0
+AreFaultyItems rows ds e = Somewhere (λ d. IsFaultyItem (around_of rows ds) d e) ds

@@ -1,9 +1,6 @@
 pub mod Fields
 pub mod Faults
-pub mod Meaning
-pub mod Plain
-pub mod Shape
 pub mod Resolved
-pub mod Terms
+pub mod Schemas
 pub mod Views
 pub mod Whole

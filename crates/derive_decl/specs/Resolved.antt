@@ -1,4 +1,4 @@
--- What declarations are resolved to (the serde data model): declarations with named fields, with unnamed ones, and without fields.
+-- What written declarations are resolved to, by serde's rules and their attributes.
 use Rattle.std.specs.Prelude.{ℕ, zero, suc, List, [], ◌∷◌, Bool, true, false, not, ◌&&◌, Option, Some, None, option_map, option_and_then}
 use Rattle.diag.specs.declared.rename_row.RenameRow.{RenameRow}
 use Rattle.written_types.specs.declared.written.Ident.{Ident}
@@ -8,32 +8,15 @@ use Rattle.attributes.specs.Comments.{docs_of, formatted}
 use Rattle.serde_rules.specs.Value.{is_required}
 use Rattle.syntax.specs.Items.{FieldItem, FieldItems, named, unnamed, unit, BodyItem, struct_body, DeclaredItem}
 use Rattle.open_types.specs.Open.{Open}
+use Rattle.shapes.specs.declared.remarks.Remarks.{Remarks}
+use Rattle.shapes.specs.Declarations.{MemberOf, FormOf, named_fields, unnamed_fields, no_fields, DeclarationOf}
 use Rattle.open_types.specs.Open as types
 use Rattle.resolving.specs.Resolved.{type_of}
 use Rattle.scopes.specs.Names.{place_among}
 use Rattle.scopes.specs.Descriptions.{said}
 use Rattle.derive_decl.specs.Fields.{is_deprecated, FieldRules, field_rules, value_of, kept, written_name}
 
--- a field by its name in JSON, whether its member must be there, whether it is deprecated, its description and its type
-pub record MemberOf : Type 0 where
-  pub name : List ℕ
-  pub required : Bool
-  pub deprecated : Bool
-  pub description : Option (List ℕ)
-  pub of : Open
-
--- named fields, and whether members that none of them has are refused; unnamed fields; none
-pub data FormOf : Type 0 where
-  named_fields : Bool → List MemberOf → FormOf
-  unnamed_fields : List Open → FormOf
-  no_fields : FormOf
-
-pub record DeclarationOf : Type 0 where
-  pub name : List ℕ
-  pub deprecated : Bool
-  pub description : Option (List ℕ)
-  pub form : FormOf
-
+-- null stands for the type
 abbrev pub is_option : Open → Bool
 is_option (types.leaf x) = false
 is_option types.any_value = false
@@ -48,37 +31,6 @@ is_option (types.through h t) = false
 is_option (types.param i) = false
 is_option (types.named d ts) = false
 
-abbrev pub member_names : List MemberOf → List (List ℕ)
-member_names [] = []
-member_names (m ∷ ms) = m.name ∷ member_names ms
-
-abbrev pub member_types : List MemberOf → List Open
-member_types [] = []
-member_types (m ∷ ms) = m.of ∷ member_types ms
-
--- the names of the members, and the types of the places, in order
-abbrev pub names_of : FormOf → List (List ℕ)
-names_of (named_fields denies ms) = member_names ms
-names_of (unnamed_fields ts) = []
-names_of no_fields = []
-
-abbrev pub types_of : FormOf → List Open
-types_of (named_fields denies ms) = member_types ms
-types_of (unnamed_fields ts) = ts
-types_of no_fields = []
-
--- the declaration at a place; past the end, one without a name
-abbrev pub declaration_at : List DeclarationOf → ℕ → DeclarationOf
-declaration_at [] d = record { name = []; deprecated = false; description = None; form = no_fields }
-declaration_at (s ∷ ss) zero = s
-declaration_at (s ∷ ss) (suc d) = declaration_at ss d
-
-abbrev pub declaration_names : List DeclarationOf → List (List ℕ)
-declaration_names [] = []
-declaration_names (s ∷ ss) = s.name ∷ declaration_names ss
-
--- ---- resolving
-
 -- each item's result, where all have one
 abbrev pub all_of : {A B : Type 0} → (A → Option B) → List A → Option (List B)
 all_of f [] = Some []
@@ -87,6 +39,10 @@ all_of f (x ∷ xs) = option_and_then (λ y. option_map (λ ys. y ∷ ys) (all_o
 -- doc comments as a description, where they say something
 abbrev pub description_of : List AttributeItem → Option (List ℕ)
 description_of attributes = said (formatted (docs_of attributes))
+
+-- what the attributes say of what they stand before
+abbrev pub remarks_of : List AttributeItem → Remarks
+remarks_of attributes = record { deprecated = is_deprecated attributes; description = description_of attributes }
 
 -- what is known around a declaration: the places of the names that are declared, and what names become by rename rules
 pub record Around : Type 0 where
@@ -101,8 +57,7 @@ abbrev pub member_from : FieldRules → FieldItem → List ℕ → Open → Memb
 member_from rules f name of = record {
   name = name;
   required = not (is_option of) && is_required (value_of f) rules.default;
-  deprecated = is_deprecated f.attrs;
-  description = description_of f.attrs;
+  remarks = remarks_of f.attrs;
   of = of;
 }
 
@@ -127,7 +82,7 @@ body_form around rules (struct_body fs) = form_of around rules fs
 
 -- what a declaration is resolved to, where it has a form
 abbrev pub declaration_from : List AttributeItem → Ident → FormOf → DeclarationOf
-declaration_from attributes x form = record { name = x.text; deprecated = is_deprecated attributes; description = description_of attributes; form = form }
+declaration_from attributes x form = record { name = x.text; remarks = remarks_of attributes; form = form }
 
 abbrev pub resolved_of : Around → DeclaredItem → Option DeclarationOf
 resolved_of around d = option_map (declaration_from d.attrs d.ident) (body_form around (field_rules (serde_items d.attrs)) d.body)

@@ -1,10 +1,16 @@
 -- What the program's resolved declarations are, and where their names are known.
 use Rattle.std.specs.Prelude.{ℕ, List, Bool, Option, map}
+use Rattle.attributes.specs.Attributes.{AttributeItem, attribute_view}
+use Rattle.attributes.specs.AttributeReading.{serde_items}
+use Rattle.attributes.specs.declared.serde_item.SerdeItem.{SerdeItem}
 use Rattle.open_types.specs.Open.{open_view}
 use Rattle.scopes.specs.Scopes.{declared_in}
 use Rattle.scopes.specs.declared.container.Container.{Container}
-use Rattle.derive_decl.specs.Resolved.{MemberOf, FormOf, named_fields, unnamed_fields, no_fields, DeclarationOf, Around, around_of}
+use Rattle.shapes.specs.declared.remarks.Remarks.{Remarks}
+use Rattle.shapes.specs.Declarations.{MemberOf, FormOf, named_fields, unnamed_fields, no_fields, DeclarationOf}
+use Rattle.derive_decl.specs.Resolved.{Around, around_of}
 use Rattle.derive_decl.specs.declared.member.Member.{Member}
+use Rattle.derive_decl.specs.declared.root.Root.{Root}
 use Rattle.derive_decl.specs.declared.named_struct.NamedStructSchema.{NamedStructSchema}
 use Rattle.derive_decl.specs.declared.unnamed_struct.UnnamedStructSchema.{UnnamedStructSchema}
 use Rattle.derive_decl.specs.declared.schema_variant.SchemaVariant.{SchemaVariant}
@@ -15,8 +21,15 @@ use Rattle.derive_decl.specs.declared.resolved.Resolved.{Resolved}
 abbrev pub known : Container → Around
 known container = around_of container.config.now.renames (declared_in container.scope.now)
 
+-- the attributes before a declaration, and serde's items among them
+abbrev pub attributes_of : Root → List AttributeItem
+attributes_of root = map attribute_view root.attributes.now
+
+abbrev pub items_of : Root → List SerdeItem
+items_of root = serde_items (attributes_of root)
+
 abbrev pub member_view : Member → MemberOf
-member_view m = record { name = m.ident.text; required = m.required; deprecated = m.deprecated; description = m.description; of = open_view m.ty }
+member_view m = record { name = m.ident.text; required = m.required; remarks = m.remarks; of = open_view m.ty }
 
 abbrev pub named_view : NamedStructSchema → FormOf
 named_view s = named_fields s.denies_others (map member_view s.members)
@@ -29,15 +42,10 @@ variant_view (variants.Named s) = named_view s
 variant_view (variants.Unnamed s) = unnamed_view s
 variant_view (variants.Unit s) = no_fields
 
-abbrev pub variant_description : SchemaVariant → Option (List ℕ)
-variant_description (variants.Named s) = s.description
-variant_description (variants.Unnamed s) = s.description
-variant_description (variants.Unit s) = s.description
-
-abbrev pub variant_deprecated : SchemaVariant → Bool
-variant_deprecated (variants.Named s) = s.deprecated
-variant_deprecated (variants.Unnamed s) = s.deprecated
-variant_deprecated (variants.Unit s) = s.deprecated
+abbrev pub variant_remarks : SchemaVariant → Remarks
+variant_remarks (variants.Named s) = s.remarks
+variant_remarks (variants.Unnamed s) = s.remarks
+variant_remarks (variants.Unit s) = s.remarks
 
 abbrev pub resolved_view : Resolved → DeclarationOf
-resolved_view s = record { name = s.name; deprecated = variant_deprecated s.form; description = variant_description s.form; form = variant_view s.form }
+resolved_view s = record { name = s.name; remarks = variant_remarks s.form; form = variant_view s.form }

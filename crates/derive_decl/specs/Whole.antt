@@ -1,35 +1,23 @@
 -- What a declaration is resolved to where nothing is at fault, and what all declarations of a source are.
-use Rattle.std.specs.Prelude.{◌≡◌, List, [], ◌∷◌, Option, Some, option_map}
+use Rattle.std.specs.Prelude.{◌≡◌, List, Option, Some, option_map}
 use Rattle.texts.specs.Names.{IsDistinct}
 use Rattle.written_types.specs.declared.written.Ident.{Ident}
+use Rattle.diag.specs.Refusal.{RefusesNone}
 use Rattle.diag.specs.declared.rename_row.RenameRow.{RenameRow}
 use Rattle.attributes.specs.Attributes.{AttributeItem}
 use Rattle.attributes.specs.AttributeReading.{serde_items}
 use Rattle.syntax.specs.Items.{BodyItem, DeclaredItem}
+use Rattle.shapes.specs.Declarations.{DeclarationOf, names_of}
 use Rattle.derive_decl.specs.Fields.{field_rules}
-use Rattle.derive_decl.specs.Resolved.{DeclarationOf, Around, around_of, names_of, all_of, body_form, declaration_from, resolved_of}
-use Rattle.derive_decl.specs.Faults.{HasSmall, container_items, AreAllowed}
+use Rattle.derive_decl.specs.Resolved.{Around, around_of, all_of, body_form, declaration_from, resolved_of}
+use Rattle.derive_decl.specs.Faults.{IsFaultyBody}
 
--- This is what a declaration of these attributes, this name and this body is resolved to: its members have different names, its types are not too large, and serde's items before it are allowed.
+-- This is what a declaration of these attributes, this name and this body is resolved to: its members have different names, and nothing of it is at fault.
 pub record IsResolved (around : Around) (attributes : List AttributeItem) (x : Ident) (body : BodyItem) (of : DeclarationOf) : Type 0 where
   pub resolved : option_map (declaration_from attributes x) (body_form around (field_rules (serde_items attributes)) body) ≡ Some of
   pub distinct : IsDistinct (names_of of.form)
-  pub small : HasSmall body
-  pub allowed : AreAllowed (container_items attributes body)
+  pub faultless : RefusesNone (IsFaultyBody around (serde_items attributes) x body)
 
 -- what all declarations are resolved to, where each type stands for something and each name has its row
 abbrev pub resolved_declarations : List RenameRow → List DeclaredItem → Option (List DeclarationOf)
 resolved_declarations rows ds = all_of (resolved_of (around_of rows ds)) ds
-
--- no two members of a declaration have one name
-abbrev pub MembersDiffer : List DeclarationOf → Type 0
-MembersDiffer [] = Unit {0}
-MembersDiffer (s ∷ ss) = IsDistinct (names_of s.form) × MembersDiffer ss
-
--- the types of the declaration have no more names than they may
-abbrev pub IsSmallItem : DeclaredItem → Type 0
-IsSmallItem d = HasSmall d.body
-
--- serde's items before the declaration are allowed
-abbrev pub IsAllowedItem : DeclaredItem → Type 0
-IsAllowedItem d = AreAllowed (container_items d.attrs d.body)

@@ -1,7 +1,7 @@
-//! Declarations: what they are resolved to, their schemas as terms, and the shape of the JSON that serde reads for them.
+//! What written declarations are resolved to, by their attributes and the names around them, and why they may be refused.
 #![tactic(auto)]
 
-mod law;
+mod field_term;
 mod member;
 mod named_struct;
 mod remarks;
@@ -13,7 +13,6 @@ mod unit_struct;
 mod unnamed_struct;
 mod whole;
 
-pub use law::{shapes_deepen, terms_accept};
 pub use member::Member;
 pub use named_struct::NamedStructSchema;
 pub use resolved::Resolved;

@@ -1,24 +1,25 @@
 //! Named fields with resolved types.
 
-ghost use Rattle.std.specs.Prelude.{◌≡◌, ◌⊎◌, ◌∷◌, [], IfOk, IfErr, Some, map, option_map};
+ghost use Rattle.std.specs.Prelude.{◌≡◌, ◌∷◌, [], IfOk, Some, map, option_map};
 ghost use Rattle.std.specs.List.{AllByRecursion, cons_option};
-ghost use Rattle.diag.specs.Refusal.{IsRefusal};
+ghost use Rattle.diag.specs.Refusal.{IsErrorFor, IsRefusal, Refuses, RefusesNone};
 ghost use Rattle.open_types.specs.Open.{open_view};
 ghost use Rattle.texts.specs.Lists.{Somewhere};
-ghost use Rattle.scopes.specs.Scopes.{IsScope};
 ghost use Rattle.syntax.specs.Items.{field_view};
+ghost use Rattle.syntax.specs.Named.{HasName};
 ghost use Rattle.derive_decl.specs.Fields.{kept, name_by, named_at, rules_view, value_of, written_ident, written_idents};
 ghost use Rattle.derive_decl.specs.Resolved.{all_of, is_option, member_of, member_from};
-ghost use Rattle.derive_decl.specs.Faults.{IsUnwritten, IsFaultyMember, IsSmall, row_message};
+ghost use Rattle.derive_decl.specs.Faults.{IsUnwritten, IsFaultyMember, row_message};
 ghost use Rattle.derive_decl.specs.Views.{known, member_view};
 
-use crate::remarks::{description_of, is_deprecated};
+use crate::remarks::remarks_of;
 use configuration::Config;
-use diag::{DeriveError, Diagnostics, Kind, RenameRule};
+use diag::{DeriveError, Kind, RenameRule};
 use open_types::OpenType;
 use scopes::{Container, Named, resolve};
 use serde_rules::names::rename;
 use serde_rules::{FieldRename, SerdeContainer, SerdeValue, is_required, parse_value};
+use shapes::Remarks;
 use std::alloc::{AllocError, Global};
 use syntax::{Field, Ident};
 use texts::Text;
@@ -31,8 +32,7 @@ pub struct Member {
     /// Whether the member must be there: null may stand for an option that is not, and serde may leave a member out or
     /// need not find it.
     pub required: bool,
-    pub deprecated: bool,
-    pub description: Option<Text>,
+    pub remarks: Remarks,
     pub ty: OpenType,
 }
 
@@ -56,16 +56,12 @@ fn is_option(ty: &OpenType) -> bool
 
 /// The refusal of an identifier that needs a row of the rule.
 fn missing_row(alloc: Global, rule: &RenameRule, ident: &Ident) -> Result<DeriveError, AllocError>
-    ensures { IfOk result (λ e. IsRefusal Kind.MissingRow ident.now.span (row_message rule.now ident.now.text) e) }
+    ensures { IfOk result (IsErrorFor (IsRefusal Kind.MissingRow ident.now.span
+        (row_message rule.now ident.now.text))) }
 {
     let message = format!(in alloc; "no row for {} of {}", rule.name(), ident.text.as_str())?;
-    let diagnostics = Diagnostics::with_span(
-        alloc,
-        Kind::MissingRow,
-        ident.span,
-        message.as_str(),
-    )?;
-    Ok(DeriveError::Refused(diagnostics))
+    let kind = Kind::MissingRow;
+    Ok(DeriveError::refusal(alloc, kind, ident.span, message.as_str()))
 }
 
 /// The name of the identifier in JSON, where the identifier stands.
@@ -76,8 +72,10 @@ fn written_ident(
     value: &SerdeValue,
     ident: &Ident,
 ) -> Result<Ident, DeriveError>
-    ensures written { IfOk result (λ x. option_map (named_at ident.now) (name_by config.now.renames rule value.now ident.now) ≡ Some x) }
-    ensures refused { IfErr result (λ e. (e ≡ DeriveError.Memory) ⊎ IsUnwritten config.now.renames rule value.now ident.now e) }
+    ensures written { IfOk result (λ x.
+        option_map (named_at ident.now) (name_by config.now.renames rule value.now ident.now)
+        ≡ Some x) }
+    ensures refused { Refuses result (IsUnwritten config.now.renames rule value.now ident.now) }
 {
     let given = value.rename.as_ref().map(|text| text.as_str());
     let renamed = rename::<FieldRename>(
@@ -108,13 +106,12 @@ fn member_with(
 ) -> Result<Member, AllocError>
     requires { value.now ≡ value_of (field_view field.now) }
     ensures ident { IfOk result (λ m. m.ident ≡ ident) }
-    ensures member { IfOk result (λ m. member_view m ≡ member_from (rules_view rules.now) (field_view field.now) ident.text (open_view ty)) }
+    ensures member { IfOk result (λ m. member_view m
+        ≡ member_from (rules_view rules.now) (field_view field.now) ident.text (open_view ty)) }
 {
-    let attributes = field.attrs.as_slice();
     Ok(Member {
         required: !is_option(&ty) && is_required(value, rules),
-        deprecated: is_deprecated(attributes),
-        description: description_of(alloc, attributes)?,
+        remarks: remarks_of(alloc, field.attrs.as_slice())?,
         ident,
         ty,
     })
@@ -128,15 +125,20 @@ fn kept_member(
     value: &SerdeValue,
     field: &Field,
 ) -> Result<Member, DeriveError>
-    requires scope { IsScope container.now.scope.now }
+    requires named { HasName (field_view field.now) }
     requires value { value.now ≡ value_of (field_view field.now) }
-    ensures member { IfOk result (λ m. member_of (known container.now) (rules_view rules.now) (field_view field.now) ≡ Some (member_view m)) }
-    ensures ident { IfOk result (λ m. written_ident container.now.config.now.renames rules.now.rename_all (field_view field.now) ≡ Some m.ident) }
-    ensures small { IfOk result (λ _. IsSmall (field_view field.now)) }
-    ensures refused { IfErr result (λ e. (e ≡ DeriveError.Memory) ⊎ IsFaultyMember (known container.now) (rules_view rules.now) (field_view field.now) e) }
+    ensures member { IfOk result (λ m.
+        member_of (known container.now) (rules_view rules.now) (field_view field.now)
+        ≡ Some (member_view m)) }
+    ensures ident { IfOk result (λ m. written_ident container.now.config.now.renames rules.now.rename_all
+        (field_view field.now) ≡ Some m.ident) }
+    ensures faultless { IfOk result (λ _. RefusesNone
+        (IsFaultyMember (known container.now) (rules_view rules.now) (field_view field.now))) }
+    ensures refused { Refuses result
+        (IsFaultyMember (known container.now) (rules_view rules.now) (field_view field.now)) }
 {
     let Some(ident) = &field.ident else {
-        return Err(DeriveError::syntax(alloc, field.span));
+        unreachable!()
     };
     let name = written_ident(alloc, container.config, rules.rename_all, value, ident)?;
     let ty = resolve(alloc, container.scope, &field.ty, container.config)?;
@@ -150,11 +152,17 @@ pub(crate) fn resolve_member(
     rules: &SerdeContainer,
     field: &Field,
 ) -> Result<Option<Member>, DeriveError>
-    requires { IsScope container.now.scope.now }
-    ensures member { IfOk result (λ m. all_of (member_of (known container.now) (rules_view rules.now)) (kept (field_view field.now ∷ [])) ≡ Some (map member_view (cons_option m []))) }
-    ensures ident { IfOk result (λ m. written_idents container.now.config.now.renames rules.now.rename_all (kept (field_view field.now ∷ [])) ≡ map (λ n. n.ident) (cons_option m [])) }
-    ensures small { IfOk result (λ _. AllByRecursion IsSmall (kept (field_view field.now ∷ []))) }
-    ensures refused { IfErr result (λ e. (e ≡ DeriveError.Memory) ⊎ Somewhere (λ f. IsFaultyMember (known container.now) (rules_view rules.now) f e) (kept (field_view field.now ∷ []))) }
+    requires { HasName (field_view field.now) }
+    ensures member { IfOk result (λ m. all_of (member_of (known container.now) (rules_view rules.now))
+        (kept (field_view field.now ∷ [])) ≡ Some (map member_view (cons_option m []))) }
+    ensures ident { IfOk result (λ m. written_idents container.now.config.now.renames rules.now.rename_all
+        (kept (field_view field.now ∷ [])) ≡ map (λ n. n.ident) (cons_option m [])) }
+    ensures faultless { IfOk result (λ _. AllByRecursion
+        (λ f. RefusesNone (IsFaultyMember (known container.now) (rules_view rules.now) f))
+        (kept (field_view field.now ∷ []))) }
+    ensures refused { Refuses result (λ e. Somewhere
+        (λ f. IsFaultyMember (known container.now) (rules_view rules.now) f e)
+        (kept (field_view field.now ∷ []))) }
 {
     let value = parse_value(alloc, field.attrs.as_slice())?;
     if value.skip {

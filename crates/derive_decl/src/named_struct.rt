@@ -1,29 +1,31 @@
 //! Structs with named fields.
 
-ghost use Rattle.std.specs.Prelude.{◌≡◌, ◌⊎◌, ◌++◌, [], ◌∷◌, map, IfOk, IfErr, OnOk, Some};
-ghost use Rattle.attributes.specs.Attributes.{attribute_view};
-ghost use Rattle.attributes.specs.AttributeReading.{serde_items};
+ghost use Rattle.std.specs.Prelude.{◌≡◌, ◌++◌, [], ◌∷◌, map, IfOk, OnOk, Some};
 ghost use Rattle.std.specs.List.{AllByRecursion, cons_option};
+ghost use Rattle.diag.specs.Refusal.{Refuses, RefusesNone};
 ghost use Rattle.texts.specs.Names.{IsDistinct};
-ghost use Rattle.schema_core.specs.Schema.{object_view, named_views, additional_view};
-ghost use Rattle.scopes.specs.Scopes.{IsScope};
-ghost use Rattle.syntax.specs.Items.{field_view, named};
-ghost use Rattle.component.specs.Leaves.{leaf_view, term_view};
-ghost use Rattle.derive_decl.specs.Fields.{is_deprecated, field_rules, kept, rules_view, written_idents};
-ghost use Rattle.derive_decl.specs.Resolved.{all_of, description_of, form_of, member_of, member_names};
-ghost use Rattle.derive_decl.specs.Terms.{properties_of, required_names, others_of, object_of, form_term};
-ghost use Rattle.derive_decl.specs.Faults.{IsFaultyMember, AreFaultyMembers, AreFaultyNamed, IsSmall, AreAllowed};
-ghost use Rattle.derive_decl.specs.Views.{known, member_view, named_view};
 ghost use Rattle.texts.specs.Lists.{Somewhere};
+ghost use Rattle.schema_core.specs.Schema.{object_view, named_views, additional_view};
+ghost use Rattle.syntax.specs.Items.{field_view, named};
+ghost use Rattle.syntax.specs.Named.{HasName};
+ghost use Rattle.component.specs.Leaves.{leaf_view, term_view};
+ghost use Rattle.shapes.specs.Declarations.{member_names};
+ghost use Rattle.shapes.specs.Terms.{properties_of, required_names, others_of, object_of, form_term};
+ghost use Rattle.derive_decl.specs.Fields.{field_rules, kept, rules_view, written_idents};
+ghost use Rattle.derive_decl.specs.Resolved.{all_of, form_of, member_of, remarks_of};
+ghost use Rattle.derive_decl.specs.Faults.{IsFaultyMember, AreFaultyMembers, AreFaultyNamed};
+ghost use Rattle.derive_decl.specs.Views.{attributes_of, items_of, known, member_view, named_view};
 
+use crate::field_term::field_term;
 use crate::member::{Member, resolve_member};
-use crate::remarks::{description_of, is_deprecated};
+use crate::remarks::remarks_of;
 use crate::root::Root;
-use component::{Place, Term, TermLeaf, ToTerm, noted, place_term};
+use component::{Term, TermLeaf, ToTerm, noted};
 use diag::DeriveError;
 use schema_core::{Additional, Notes, Object, SchemaTypeInner, Tree, TypeWord};
 use scopes::{Container, places_of};
 use serde_rules::{SerdeContainer, parse_container};
+use shapes::Remarks;
 use std::alloc::{AllocError, Global};
 use syntax::Field;
 use texts::{List, Text};
@@ -31,8 +33,7 @@ use texts::{List, Text};
 /// A struct with named fields. Its schema is an object with a property for each field that serde does not skip.
 #[derive(Debug, Drop)]
 pub struct NamedStructSchema {
-    pub deprecated: bool,
-    pub description: Option<Text>,
+    pub remarks: Remarks,
     /// Whether members that no field has are refused.
     pub denies_others: bool,
     pub members: List<Member>,
@@ -55,11 +56,17 @@ fn resolve_members(
     rules: &SerdeContainer,
     fields: &[Field],
 ) -> Result<List<Member>, DeriveError>
-    requires { IsScope container.now.scope.now }
-    ensures members { IfOk result (λ ms. all_of (member_of (known container.now) (rules_view rules.now)) (kept (map field_view fields.now)) ≡ Some (map member_view ms)) }
-    ensures idents { IfOk result (λ ms. written_idents container.now.config.now.renames rules.now.rename_all (kept (map field_view fields.now)) ≡ map (λ m. m.ident) ms) }
-    ensures small { IfOk result (λ _. AllByRecursion IsSmall (kept (map field_view fields.now))) }
-    ensures refused { IfErr result (λ e. (e ≡ DeriveError.Memory) ⊎ Somewhere (λ f. IsFaultyMember (known container.now) (rules_view rules.now) f e) (kept (map field_view fields.now))) }
+    requires { AllByRecursion HasName (map field_view fields.now) }
+    ensures members { IfOk result (λ ms. all_of (member_of (known container.now) (rules_view rules.now))
+        (kept (map field_view fields.now)) ≡ Some (map member_view ms)) }
+    ensures idents { IfOk result (λ ms. written_idents container.now.config.now.renames rules.now.rename_all
+        (kept (map field_view fields.now)) ≡ map (λ m. m.ident) ms) }
+    ensures faultless { IfOk result (λ _. AllByRecursion
+        (λ f. RefusesNone (IsFaultyMember (known container.now) (rules_view rules.now) f))
+        (kept (map field_view fields.now))) }
+    ensures refused { Refuses result (λ e. Somewhere
+        (λ f. IsFaultyMember (known container.now) (rules_view rules.now) f e)
+        (kept (map field_view fields.now))) }
 {
     let mut members = List::new(alloc);
     for field in fields {
@@ -76,11 +83,14 @@ fn distinct_members(
     rules: &SerdeContainer,
     fields: &[Field],
 ) -> Result<List<Member>, DeriveError>
-    requires { IsScope container.now.scope.now }
-    ensures members { IfOk result (λ ms. all_of (member_of (known container.now) (rules_view rules.now)) (kept (map field_view fields.now)) ≡ Some (map member_view ms)) }
+    requires { AllByRecursion HasName (map field_view fields.now) }
+    ensures members { IfOk result (λ ms. all_of (member_of (known container.now) (rules_view rules.now))
+        (kept (map field_view fields.now)) ≡ Some (map member_view ms)) }
     ensures distinct { IfOk result (λ ms. IsDistinct (member_names (map member_view ms))) }
-    ensures small { IfOk result (λ _. AllByRecursion IsSmall (kept (map field_view fields.now))) }
-    ensures refused { IfErr result (λ e. (e ≡ DeriveError.Memory) ⊎ AreFaultyMembers (known container.now) (rules_view rules.now) (map field_view fields.now) e) }
+    ensures faultless { IfOk result (λ _. RefusesNone (AreFaultyMembers (known container.now)
+        (rules_view rules.now) (map field_view fields.now))) }
+    ensures refused { Refuses result (AreFaultyMembers (known container.now) (rules_view rules.now)
+        (map field_view fields.now)) }
 {
     let members = resolve_members(alloc, container, rules, fields)?;
     let _ = places_of(alloc, members.as_slice())?;
@@ -88,31 +98,30 @@ fn distinct_members(
 }
 
 impl NamedStructSchema {
-    /// The struct with these fields.
+    /// The struct with these fields, of which each has a name.
     ///
     /// A refusal is of kind `SerdeTag` or `BadValue`, for serde's attributes of the struct; or, of the fields that are
     /// kept, `UnknownType`, `Arity` or `TypeSize`, for the type of one; `MissingRow`, at an identifier whose name is that
-    /// of a row that there is not; `DuplicateName`, at the second identifier of two that have one name; or `Syntax`, at a
-    /// field without a name.
+    /// of a row that there is not; or `DuplicateName`, at the second identifier of two that have one name.
     pub fn new(
         alloc: Global,
         root: &Root<'_>,
         fields: &[Field],
     ) -> Result<NamedStructSchema, DeriveError>
-        requires { IsScope root.now.container.now.scope.now }
-        ensures form { IfOk result (λ s. form_of (known root.now.container.now) (field_rules (serde_items (map attribute_view root.now.attributes.now))) (named (map field_view fields.now)) ≡ Some (named_view s)) }
-        ensures deprecated { IfOk result (λ s. s.deprecated ≡ is_deprecated (map attribute_view root.now.attributes.now)) }
-        ensures description { IfOk result (λ s. s.description ≡ description_of (map attribute_view root.now.attributes.now)) }
+        requires { AllByRecursion HasName (map field_view fields.now) }
+        ensures form { IfOk result (λ s. form_of (known root.now.container.now)
+            (field_rules (items_of root.now)) (named (map field_view fields.now))
+            ≡ Some (named_view s)) }
+        ensures remarks { IfOk result (λ s. s.remarks ≡ remarks_of (attributes_of root.now)) }
         ensures distinct { IfOk result (λ s. IsDistinct (member_names (map member_view s.members))) }
-        ensures small { IfOk result (λ _. AllByRecursion IsSmall (kept (map field_view fields.now))) }
-        ensures allowed { IfOk result (λ _. AreAllowed (serde_items (map attribute_view root.now.attributes.now))) }
-        ensures refused { IfErr result (λ e. (e ≡ DeriveError.Memory)
-            ⊎ AreFaultyNamed (known root.now.container.now) (serde_items (map attribute_view root.now.attributes.now)) (map field_view fields.now) e) }
+        ensures faultless { IfOk result (λ _. RefusesNone (AreFaultyNamed (known root.now.container.now)
+            (items_of root.now) (map field_view fields.now))) }
+        ensures refused { Refuses result (AreFaultyNamed (known root.now.container.now) (items_of root.now)
+            (map field_view fields.now)) }
     {
         let rules = parse_container(alloc, root.attributes)?;
         Ok(NamedStructSchema {
-            deprecated: is_deprecated(root.attributes),
-            description: description_of(alloc, root.attributes)?,
+            remarks: remarks_of(alloc, root.attributes)?,
             denies_others: rules.deny_unknown_fields,
             members: distinct_members(alloc, root.container, &rules, fields)?,
         })
@@ -121,18 +130,13 @@ impl NamedStructSchema {
 
 /// A property for each member.
 fn properties_of(alloc: Global, members: &[Member]) -> Result<List<(Text, Term)>, AllocError>
-    ensures { IfOk result (λ ps. named_views leaf_view ps ≡ properties_of (map member_view members.now)) }
+    ensures { IfOk result (λ ps.
+        named_views leaf_view ps ≡ properties_of (map member_view members.now)) }
 {
     let mut properties = List::new(alloc);
     for member in members {
-        let place = Place {
-            nullable: false,
-            inline: false,
-            deprecated: member.deprecated,
-            description: &member.description,
-        };
         let name = member.ident.text.copy(alloc)?;
-        properties.push((name, place_term(alloc, place, &member.ty)?))?;
+        properties.push((name, field_term(alloc, &member.remarks, &member.ty)?))?;
     }
     Ok(properties)
 }
@@ -143,7 +147,8 @@ fn push_required(
     required: &mut List<Text>,
     member: &Member,
 ) -> Result<(), AllocError>
-    ensures { OnOk result (required.new ≡ required.old ++ required_names (member_view member.now ∷ [])) }
+    ensures { OnOk result
+        (required.new ≡ required.old ++ required_names (member_view member.now ∷ [])) }
 {
     if member.required {
         required.push(member.ident.text.copy(alloc)?)?;
@@ -175,48 +180,45 @@ fn others_of(denies: bool) -> Additional<TermLeaf>
 
 /// An object with these properties, which denies others or does not.
 fn object_of(
+    alloc: Global,
     properties: List<(Text, Term)>,
     denies: bool,
     required: List<Text>,
     notes: Notes,
 ) -> Object<TermLeaf>
-    ensures { object_view leaf_view result ≡ object_of notes denies required (named_views leaf_view properties) }
+    ensures { object_view leaf_view result
+        ≡ object_of notes denies required (named_views leaf_view properties) }
 {
     Object {
-        ty: TypeWord::One(SchemaTypeInner::Object),
-        format: None,
-        enum_values: None,
         properties,
         required,
         additional: others_of(denies),
-        property_names: None,
-        minimum: None,
-        notes,
+        ..Object::new(alloc, TypeWord::One(SchemaTypeInner::Object), notes)
     }
 }
 
 impl NamedStructSchema {
     /// The schema of the struct.
     pub(crate) fn term(&self, alloc: Global) -> Result<Term, AllocError>
-        ensures { IfOk result (λ t. term_view t ≡ form_term self.now.deprecated self.now.description (named_view self.now)) }
+        ensures { IfOk result (λ t. term_view t ≡ form_term self.now.remarks (named_view self.now)) }
     {
         let members = self.members.as_slice();
-        let notes = noted(alloc, self.deprecated, &self.description)?;
+        let notes = noted(alloc, self.remarks.deprecated, &self.remarks.description)?;
         let required = required_of(alloc, members)?;
         let properties = properties_of(alloc, members)?;
-        let object = object_of(properties, self.denies_others, required, notes);
+        let object = object_of(alloc, properties, self.denies_others, required, notes);
         Ok(Tree::Object(Box::new(alloc, object)?))
     }
 }
 
 impl ToTerm for NamedStructSchema {
     ghost use Rattle.std.specs.Prelude.{◌≡◌};
-    ghost use Rattle.derive_decl.specs.Terms.{form_term};
+    ghost use Rattle.shapes.specs.Terms.{form_term};
     ghost use Rattle.derive_decl.specs.Views.{named_view};
 
     ghost is_ready = { λ _. Unit {0} };
 
-    ghost has_term = { λ s t. t ≡ form_term s.deprecated s.description (named_view s) };
+    ghost has_term = { λ s t. t ≡ form_term s.remarks (named_view s) };
 
     ghost is_refused = { λ _ _. ⊥ };
 

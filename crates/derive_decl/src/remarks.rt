@@ -3,15 +3,16 @@
 ghost use Rattle.std.specs.Prelude.{◌≡◌, map, IfOk};
 ghost use Rattle.attributes.specs.Attributes.{attribute_view};
 ghost use Rattle.derive_decl.specs.Fields.{is_deprecated};
-ghost use Rattle.derive_decl.specs.Resolved.{description_of};
+ghost use Rattle.derive_decl.specs.Resolved.{description_of, remarks_of};
 
 use scopes::ComponentDescription;
+use shapes::Remarks;
 use std::alloc::{AllocError, Global};
 use syntax::{Attribute, CommentAttributes};
 use texts::Text;
 
 /// Whether Rust's attribute `deprecated` is among these.
-pub(crate) fn is_deprecated(attributes: &[Attribute]) -> bool
+fn is_deprecated(attributes: &[Attribute]) -> bool
     ensures { result ≡ is_deprecated (map attribute_view attributes.now) }
 {
     for attribute in attributes {
@@ -23,12 +24,20 @@ pub(crate) fn is_deprecated(attributes: &[Attribute]) -> bool
 }
 
 /// Doc comments as a description, where they say something.
-pub(crate) fn description_of(
-    alloc: Global,
-    attributes: &[Attribute],
-) -> Result<Option<Text>, AllocError>
-    ensures { IfOk result (λ description. description ≡ description_of (map attribute_view attributes.now)) }
+fn description_of(alloc: Global, attributes: &[Attribute]) -> Result<Option<Text>, AllocError>
+    ensures { IfOk result (λ description.
+        description ≡ description_of (map attribute_view attributes.now)) }
 {
     let comments = CommentAttributes::from_attributes(alloc, attributes)?;
     ComponentDescription::CommentAttributes(&comments).text(alloc)
+}
+
+/// What the attributes say of what they stand before.
+pub(crate) fn remarks_of(alloc: Global, attributes: &[Attribute]) -> Result<Remarks, AllocError>
+    ensures { IfOk result (λ remarks. remarks ≡ remarks_of (map attribute_view attributes.now)) }
+{
+    Ok(Remarks {
+        deprecated: is_deprecated(attributes),
+        description: description_of(alloc, attributes)?,
+    })
 }

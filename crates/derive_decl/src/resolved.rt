@@ -1,8 +1,6 @@
 ghost use Rattle.std.specs.Prelude.{◌≡◌, map, IfOk};
 ghost use Rattle.open_types.specs.Open.{open_view};
-ghost use Rattle.derive_decl.specs.Resolved.{member_types, types_of};
-ghost use Rattle.component.specs.Leaves.{term_view};
-ghost use Rattle.derive_decl.specs.Terms.{term};
+ghost use Rattle.shapes.specs.Declarations.{member_types, types_of};
 ghost use Rattle.derive_decl.specs.Views.{member_view, variant_view, resolved_view};
 
 use crate::member::Member;
@@ -10,6 +8,7 @@ use crate::schema_variant::SchemaVariant;
 use component::{Term, ToTerm};
 use diag::DeriveError;
 use open_types::OpenType;
+use shapes::Declared;
 use std::alloc::{AllocError, Global};
 use texts::{List, Text};
 
@@ -42,18 +41,23 @@ pub(crate) fn types_of(alloc: Global, form: SchemaVariant) -> Result<List<OpenTy
     }
 }
 
-impl Resolved {
-    /// The schema of the declaration, as a term.
-    pub fn term(&self, alloc: Global) -> Result<Term, AllocError>
-        ensures { IfOk result (λ t. term_view t ≡ term (resolved_view self.now)) }
-    {
+impl Declared for Resolved {
+    ghost use Rattle.derive_decl.specs.Views.{resolved_view};
+
+    ghost declaration = { resolved_view };
+
+    fn name(&self) -> &Text {
+        &self.name
+    }
+
+    fn term(&self, alloc: Global) -> Result<Term, AllocError> {
         self.form.term(alloc)
     }
 }
 
 impl ToTerm for Resolved {
     ghost use Rattle.std.specs.Prelude.{◌≡◌};
-    ghost use Rattle.derive_decl.specs.Terms.{term};
+    ghost use Rattle.shapes.specs.Terms.{term};
     ghost use Rattle.derive_decl.specs.Views.{resolved_view};
 
     ghost is_ready = { λ _. Unit {0} };

@@ -1,15 +1,13 @@
 //! The schema of a declaration.
 
-ghost use Rattle.std.specs.Prelude.{◌≡◌, ◌⊎◌, map, IfOk, IfErr};
-ghost use Rattle.attributes.specs.Attributes.{attribute_view};
-ghost use Rattle.attributes.specs.AttributeReading.{serde_items};
+ghost use Rattle.std.specs.Prelude.{◌≡◌, map, IfOk};
+ghost use Rattle.diag.specs.Refusal.{Refuses};
 ghost use Rattle.open_types.specs.Open.{open_view};
-ghost use Rattle.scopes.specs.Scopes.{IsScope};
 ghost use Rattle.syntax.specs.Items.{body_view};
-ghost use Rattle.derive_decl.specs.Resolved.{DeclarationOf, types_of};
-ghost use Rattle.derive_decl.specs.Faults.{IsFaultyBody};
-ghost use Rattle.derive_decl.specs.Views.{known, resolved_view};
-ghost use Rattle.derive_decl.specs.Whole.{IsResolved};
+ghost use Rattle.syntax.specs.Named.{IsNamedBody};
+ghost use Rattle.shapes.specs.Declarations.{DeclarationOf, types_of};
+ghost use Rattle.derive_decl.specs.Schemas.{IsFaultySchema, ResolvesTo};
+ghost use Rattle.derive_decl.specs.Views.{resolved_view};
 
 use crate::resolved::{Resolved, types_of};
 use crate::root::Root;
@@ -58,9 +56,9 @@ impl<'a> Schema<'a> {
     /// declaration whose form is unnamed fields without a field; or, of a struct with named fields, as that of
     /// `NamedStructSchema::new`.
     pub fn resolve(&self, alloc: Global) -> Result<Resolved, DeriveError>
-        requires { IsScope self.now.container.now.scope.now }
-        ensures resolved { IfOk result (λ s. IsResolved (known self.now.container.now) (map attribute_view self.now.attributes.now) self.now.ident.now (body_view self.now.body.now) (resolved_view s)) }
-        ensures refused { IfErr result (λ e. (e ≡ DeriveError.Memory) ⊎ IsFaultyBody (known self.now.container.now) (serde_items (map attribute_view self.now.attributes.now)) self.now.ident.now (body_view self.now.body.now) e) }
+        requires { IsNamedBody (body_view self.now.body.now) }
+        ensures resolved { IfOk result (λ s. ResolvesTo self.now (resolved_view s)) }
+        ensures refused { Refuses result (IsFaultySchema self.now) }
     {
         let root = Root {
             ident: self.ident,
@@ -77,9 +75,10 @@ impl<'a> Schema<'a> {
     ///
     /// It is refused as `resolve` is.
     pub fn place_types(&self, alloc: Global) -> Result<List<OpenType>, DeriveError>
-        requires { IsScope self.now.container.now.scope.now }
-        ensures types { IfOk result (λ ts. (of : DeclarationOf) × IsResolved (known self.now.container.now) (map attribute_view self.now.attributes.now) self.now.ident.now (body_view self.now.body.now) of × (types_of of.form ≡ map open_view ts)) }
-        ensures refused { IfErr result (λ e. (e ≡ DeriveError.Memory) ⊎ IsFaultyBody (known self.now.container.now) (serde_items (map attribute_view self.now.attributes.now)) self.now.ident.now (body_view self.now.body.now) e) }
+        requires { IsNamedBody (body_view self.now.body.now) }
+        ensures types { IfOk result (λ ts. (of : DeclarationOf) × ResolvesTo self.now of
+            × (types_of of.form ≡ map open_view ts)) }
+        ensures refused { Refuses result (IsFaultySchema self.now) }
     {
         let resolved = self.resolve(alloc)?;
         Ok(types_of(alloc, resolved.form)?)
@@ -87,22 +86,18 @@ impl<'a> Schema<'a> {
 }
 
 impl ToTerm for Schema<'_> {
-    ghost use Rattle.std.specs.Prelude.{◌≡◌, map};
-    ghost use Rattle.attributes.specs.Attributes.{attribute_view};
-    ghost use Rattle.attributes.specs.AttributeReading.{serde_items};
-    ghost use Rattle.scopes.specs.Scopes.{IsScope};
+    ghost use Rattle.std.specs.Prelude.{◌≡◌};
     ghost use Rattle.syntax.specs.Items.{body_view};
-    ghost use Rattle.derive_decl.specs.Resolved.{DeclarationOf};
-    ghost use Rattle.derive_decl.specs.Terms.{term};
-    ghost use Rattle.derive_decl.specs.Faults.{IsFaultyBody};
-    ghost use Rattle.derive_decl.specs.Views.{known};
-    ghost use Rattle.derive_decl.specs.Whole.{IsResolved};
+    ghost use Rattle.syntax.specs.Named.{IsNamedBody};
+    ghost use Rattle.shapes.specs.Declarations.{DeclarationOf};
+    ghost use Rattle.shapes.specs.Terms.{term};
+    ghost use Rattle.derive_decl.specs.Schemas.{IsFaultySchema, ResolvesTo};
 
-    ghost is_ready = { λ s. IsScope s.container.now.scope.now };
+    ghost is_ready = { λ s. IsNamedBody (body_view s.body.now) };
 
-    ghost has_term = { λ s t. (of : DeclarationOf) × IsResolved (known s.container.now) (map attribute_view s.attributes.now) s.ident.now (body_view s.body.now) of × (t ≡ term of) };
+    ghost has_term = { λ s t. (of : DeclarationOf) × ResolvesTo s of × (t ≡ term of) };
 
-    ghost is_refused = { λ s e. IsFaultyBody (known s.container.now) (serde_items (map attribute_view s.attributes.now)) s.ident.now (body_view s.body.now) e };
+    ghost is_refused = { IsFaultySchema };
 
     fn to_term(&self, alloc: Global) -> Result<Term, DeriveError> {
         let resolved = self.resolve(alloc)?;

@@ -1,56 +1,53 @@
 //! Structs without fields.
 
-ghost use Rattle.std.specs.Prelude.{◌≡◌, IfOk, IfErr, map};
-ghost use Rattle.attributes.specs.Attributes.{attribute_view};
+ghost use Rattle.std.specs.Prelude.{◌≡◌, IfOk, IfErr};
 ghost use Rattle.component.specs.Leaves.{term_view};
-ghost use Rattle.derive_decl.specs.Resolved.{description_of, no_fields};
-ghost use Rattle.derive_decl.specs.Fields.{is_deprecated};
-ghost use Rattle.derive_decl.specs.Terms.{form_term};
+ghost use Rattle.shapes.specs.Declarations.{no_fields};
+ghost use Rattle.shapes.specs.Terms.{form_term};
+ghost use Rattle.derive_decl.specs.Resolved.{remarks_of};
+ghost use Rattle.derive_decl.specs.Views.{attributes_of};
 
-use crate::remarks::{description_of, is_deprecated};
+use crate::remarks::remarks_of;
 use crate::root::Root;
 use component::{Term, ToTerm, null_default};
 use diag::DeriveError;
+use shapes::Remarks;
 use std::alloc::{AllocError, Global};
-use texts::Text;
 
 /// A struct without fields. Its schema has null as its default.
 #[derive(Debug, Drop)]
 pub struct UnitStructVariant {
-    /// Whether the declaration is deprecated, which null as the default does not say.
-    pub deprecated: bool,
-    pub description: Option<Text>,
+    /// What is said of the declaration. Null as the default does not say that it is deprecated.
+    pub remarks: Remarks,
 }
 
 impl UnitStructVariant {
     /// The struct of the declaration.
     pub fn new(alloc: Global, root: &Root<'_>) -> Result<UnitStructVariant, DeriveError>
-        ensures deprecated { IfOk result (λ s. s.deprecated ≡ is_deprecated (map attribute_view root.now.attributes.now)) }
-        ensures description { IfOk result (λ s. s.description ≡ description_of (map attribute_view root.now.attributes.now)) }
+        ensures remarks { IfOk result (λ s. s.remarks ≡ remarks_of (attributes_of root.now)) }
         ensures refused { IfErr result (λ e. e ≡ DeriveError.Memory) }
     {
         Ok(UnitStructVariant {
-            deprecated: is_deprecated(root.attributes),
-            description: description_of(alloc, root.attributes)?,
+            remarks: remarks_of(alloc, root.attributes)?,
         })
     }
 
     /// The schema of the struct.
     pub(crate) fn term(&self, alloc: Global) -> Result<Term, AllocError>
-        ensures { IfOk result (λ t. term_view t ≡ form_term self.now.deprecated self.now.description no_fields) }
+        ensures { IfOk result (λ t. term_view t ≡ form_term self.now.remarks no_fields) }
     {
-        null_default(alloc, &self.description)
+        null_default(alloc, &self.remarks.description)
     }
 }
 
 impl ToTerm for UnitStructVariant {
     ghost use Rattle.std.specs.Prelude.{◌≡◌};
-    ghost use Rattle.derive_decl.specs.Resolved.{no_fields};
-    ghost use Rattle.derive_decl.specs.Terms.{form_term};
+    ghost use Rattle.shapes.specs.Declarations.{no_fields};
+    ghost use Rattle.shapes.specs.Terms.{form_term};
 
     ghost is_ready = { λ _. Unit {0} };
 
-    ghost has_term = { λ s t. t ≡ form_term s.deprecated s.description no_fields };
+    ghost has_term = { λ s t. t ≡ form_term s.remarks no_fields };
 
     ghost is_refused = { λ _ _. ⊥ };
 

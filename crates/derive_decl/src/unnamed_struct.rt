@@ -1,51 +1,44 @@
 //! Structs with unnamed fields.
 
-ghost use Rattle.std.specs.Prelude.{◌≡◌, ◌⊎◌, map, IfOk, IfErr, Some};
-ghost use Rattle.attributes.specs.Attributes.{attribute_view};
+ghost use Rattle.std.specs.Prelude.{◌≡◌, map, IfOk, Some};
 ghost use Rattle.std.specs.List.{AllByRecursion};
-ghost use Rattle.diag.specs.Refusal.{IsRefusal};
+ghost use Rattle.diag.specs.Refusal.{IsErrorFor, IsRefusal, Refuses, RefusesNone};
+ghost use Rattle.texts.specs.Lists.{Somewhere};
 ghost use Rattle.open_types.specs.Open.{open_view};
 ghost use Rattle.resolving.specs.Resolved.{type_of};
-ghost use Rattle.texts.specs.Lists.{Somewhere};
-ghost use Rattle.scopes.specs.Scopes.{IsScope};
 ghost use Rattle.syntax.specs.Items.{field_view, unnamed};
 ghost use Rattle.component.specs.Leaves.{term_view};
-ghost use Rattle.derive_decl.specs.Fields.{FieldRules as AnyRules, is_deprecated};
-ghost use Rattle.derive_decl.specs.Resolved.{all_of, description_of, form_of};
-ghost use Rattle.derive_decl.specs.Terms.{are_all, any_object, list_of_length, unnamed_term, form_term};
-ghost use Rattle.derive_decl.specs.Faults.{IsFaultyType, AreFaultyTypes, IsSmall, fieldless_message};
-ghost use Rattle.derive_decl.specs.Views.{known, unnamed_view};
+ghost use Rattle.shapes.specs.Terms.{are_all, list_of_length, unnamed_term, form_term};
+ghost use Rattle.derive_decl.specs.Fields.{FieldRules as AnyRules};
+ghost use Rattle.derive_decl.specs.Resolved.{all_of, form_of, remarks_of};
+ghost use Rattle.derive_decl.specs.Faults.{IsFaultyType, AreFaultyTypes, fieldless_message};
+ghost use Rattle.derive_decl.specs.Views.{attributes_of, known, unnamed_view};
 
-use crate::remarks::{description_of, is_deprecated};
+use crate::field_term::field_term;
+use crate::remarks::remarks_of;
 use crate::root::Root;
-use component::{Place, Term, ToTerm, any_object, noted, place_term};
-use diag::{DeriveError, Diagnostics, Kind};
+use component::{Term, ToTerm, any_object, noted};
+use diag::{DeriveError, Kind};
 use open_types::OpenType;
 use schema_core::{Array, ArrayItems, Bound, Notes, Tree};
 use scopes::{Container, resolve};
+use shapes::Remarks;
 use std::alloc::{AllocError, Global};
 use syntax::Field;
-use texts::{List, Span, Text};
+use texts::{List, Span};
 
 /// A struct with unnamed fields. One field is read as its content, several as a list.
 #[derive(Debug, Drop)]
 pub struct UnnamedStructSchema {
-    pub deprecated: bool,
-    pub description: Option<Text>,
+    pub remarks: Remarks,
     pub types: List<OpenType>,
 }
 
 /// The refusal of a form without a field.
-fn fieldless(alloc: Global, span: Span) -> Result<DeriveError, AllocError>
-    ensures { IfOk result (λ e. IsRefusal Kind.Arity span fieldless_message e) }
+fn fieldless(alloc: Global, span: Span) -> DeriveError
+    ensures { IsErrorFor (IsRefusal Kind.Arity span fieldless_message) result }
 {
-    let diagnostics = Diagnostics::with_span(
-        alloc,
-        Kind::Arity,
-        span,
-        "a tuple form without a field",
-    )?;
-    Ok(DeriveError::Refused(diagnostics))
+    DeriveError::refusal(alloc, Kind::Arity, span, "a tuple form without a field")
 }
 
 /// The types of the fields, resolved.
@@ -54,10 +47,12 @@ fn resolve_types(
     container: &Container<'_>,
     fields: &[Field],
 ) -> Result<List<OpenType>, DeriveError>
-    requires { IsScope container.now.scope.now }
-    ensures types { IfOk result (λ ts. all_of (λ f. type_of (known container.now).place_of f.ty) (map field_view fields.now) ≡ Some (map open_view ts)) }
-    ensures small { IfOk result (λ _. AllByRecursion IsSmall (map field_view fields.now)) }
-    ensures refused { IfErr result (λ e. (e ≡ DeriveError.Memory) ⊎ Somewhere (λ f. IsFaultyType (known container.now) f e) (map field_view fields.now)) }
+    ensures types { IfOk result (λ ts. all_of (λ f. type_of (known container.now).place_of f.ty)
+        (map field_view fields.now) ≡ Some (map open_view ts)) }
+    ensures faultless { IfOk result (λ _. AllByRecursion
+        (λ f. RefusesNone (IsFaultyType (known container.now) f)) (map field_view fields.now)) }
+    ensures refused { Refuses result (λ e. Somewhere (λ f. IsFaultyType (known container.now) f e)
+        (map field_view fields.now)) }
 {
     let mut types = List::new(alloc);
     for field in fields {
@@ -76,19 +71,20 @@ impl UnnamedStructSchema {
         root: &Root<'_>,
         fields: &[Field],
     ) -> Result<UnnamedStructSchema, DeriveError>
-        requires { IsScope root.now.container.now.scope.now }
-        ensures form { IfOk result (λ s. (rules : AnyRules) → form_of (known root.now.container.now) rules (unnamed (map field_view fields.now)) ≡ Some (unnamed_view s)) }
-        ensures deprecated { IfOk result (λ s. s.deprecated ≡ is_deprecated (map attribute_view root.now.attributes.now)) }
-        ensures description { IfOk result (λ s. s.description ≡ description_of (map attribute_view root.now.attributes.now)) }
-        ensures small { IfOk result (λ _. AllByRecursion IsSmall (map field_view fields.now)) }
-        ensures refused { IfErr result (λ e. (e ≡ DeriveError.Memory) ⊎ AreFaultyTypes (known root.now.container.now) root.now.ident.now (map field_view fields.now) e) }
+        ensures form { IfOk result (λ s. (rules : AnyRules)
+            → form_of (known root.now.container.now) rules (unnamed (map field_view fields.now))
+            ≡ Some (unnamed_view s)) }
+        ensures remarks { IfOk result (λ s. s.remarks ≡ remarks_of (attributes_of root.now)) }
+        ensures faultless { IfOk result (λ _. RefusesNone (AreFaultyTypes (known root.now.container.now)
+            root.now.ident.now (map field_view fields.now))) }
+        ensures refused { Refuses result (AreFaultyTypes (known root.now.container.now) root.now.ident.now
+            (map field_view fields.now)) }
     {
         if fields.is_empty() {
-            return Err(fieldless(alloc, root.ident.span)?);
+            return Err(fieldless(alloc, root.ident.span));
         }
         Ok(UnnamedStructSchema {
-            deprecated: is_deprecated(root.attributes),
-            description: description_of(alloc, root.attributes)?,
+            remarks: remarks_of(alloc, root.attributes)?,
             types: resolve_types(alloc, root.container, fields)?,
         })
     }
@@ -130,25 +126,20 @@ fn list_of_length(
 impl UnnamedStructSchema {
     /// The schema of the struct.
     pub(crate) fn term(&self, alloc: Global) -> Result<Term, AllocError>
-        ensures { IfOk result (λ t. term_view t ≡ form_term self.now.deprecated self.now.description (unnamed_view self.now)) }
+        ensures { IfOk result (λ t. term_view t ≡ form_term self.now.remarks (unnamed_view self.now)) }
     {
-        unnamed_term(
-            alloc,
-            self.deprecated,
-            &self.description,
-            self.types.as_slice(),
-        )
+        unnamed_term(alloc, &self.remarks, self.types.as_slice())
     }
 }
 
 impl ToTerm for UnnamedStructSchema {
     ghost use Rattle.std.specs.Prelude.{◌≡◌};
-    ghost use Rattle.derive_decl.specs.Terms.{form_term};
+    ghost use Rattle.shapes.specs.Terms.{form_term};
     ghost use Rattle.derive_decl.specs.Views.{unnamed_view};
 
     ghost is_ready = { λ _. Unit {0} };
 
-    ghost has_term = { λ s t. t ≡ form_term s.deprecated s.description (unnamed_view s) };
+    ghost has_term = { λ s t. t ≡ form_term s.remarks (unnamed_view s) };
 
     ghost is_refused = { λ _ _. ⊥ };
 
@@ -158,25 +149,14 @@ impl ToTerm for UnnamedStructSchema {
 }
 
 /// The schema of unnamed fields of these types.
-fn unnamed_term(
-    alloc: Global,
-    deprecated: bool,
-    description: &Option<Text>,
-    types: &[OpenType],
-) -> Result<Term, AllocError>
-    ensures { IfOk result (λ s. term_view s ≡ unnamed_term deprecated description.now (map open_view types.now)) }
+fn unnamed_term(alloc: Global, remarks: &Remarks, types: &[OpenType]) -> Result<Term, AllocError>
+    ensures { IfOk result (λ s. term_view s ≡ unnamed_term remarks.now (map open_view types.now)) }
 {
-    let place = Place {
-        nullable: false,
-        inline: false,
-        deprecated,
-        description,
-    };
     let items = match types {
-        [ty] => return place_term(alloc, place, ty),
-        [first, others @ ..] if are_all(first, others) => place_term(alloc, place, first)?,
-        _ => any_object(alloc, false, noted(alloc, deprecated, &None)?)?,
+        [ty] => return field_term(alloc, remarks, ty),
+        [first, others @ ..] if are_all(first, others) => field_term(alloc, remarks, first)?,
+        _ => any_object(alloc, false, noted(alloc, remarks.deprecated, &None)?)?,
     };
-    let notes = noted(alloc, false, description)?;
+    let notes = noted(alloc, false, &remarks.description)?;
     list_of_length(alloc, types.len(), notes, items)
 }

@@ -1,17 +1,17 @@
 //! All declarations of a source.
 
-ghost use Rattle.std.specs.Prelude.{◌≡◌, ◌⊎◌, ℕ, List as Items, map, IfOk, IfErr, Some};
+ghost use Rattle.std.specs.Prelude.{◌≡◌, ℕ, List as Items, length, map, IfOk, Some};
 ghost use Rattle.std.specs.BTreeMap.{get_by_text};
-ghost use Rattle.std.specs.List.{AllByRecursion};
+ghost use Rattle.diag.specs.Refusal.{Refuses, RefusesNone};
 ghost use Rattle.texts.specs.Names.{IsDistinct};
 ghost use Rattle.syntax.specs.Items.{declaration_view, declarations_view};
-ghost use Rattle.texts.specs.Lists.{Somewhere};
-ghost use Rattle.scopes.specs.Names.{place_among};
-ghost use Rattle.scopes.specs.Scopes.{IsScope};
-ghost use Rattle.derive_decl.specs.Resolved.{names_of, around_of, resolved_of};
-ghost use Rattle.derive_decl.specs.Faults.{IsFaultyItem};
+ghost use Rattle.syntax.specs.Named.{AreNamed, IsNamedBody};
+ghost use Rattle.scopes.specs.Names.{declared_names, place_among};
+ghost use Rattle.shapes.specs.Declarations.{declaration_names, names_of, AreWithin, MembersDiffer};
+ghost use Rattle.derive_decl.specs.Resolved.{resolved_of};
+ghost use Rattle.derive_decl.specs.Faults.{IsFaultyItem, AreFaultyItems};
 ghost use Rattle.derive_decl.specs.Views.{known, resolved_view};
-ghost use Rattle.derive_decl.specs.Whole.{resolved_declarations, MembersDiffer, IsSmallItem, IsAllowedItem};
+ghost use Rattle.derive_decl.specs.Whole.{resolved_declarations};
 
 use crate::resolved::Resolved;
 use crate::schema::Schema;
@@ -29,12 +29,13 @@ fn resolved_of(
     container: &Container<'_>,
     declaration: &Declaration,
 ) -> Result<Resolved, DeriveError>
-    requires { IsScope container.now.scope.now }
-    ensures resolved { IfOk result (λ s. resolved_of (known container.now) (declaration_view declaration.now) ≡ Some (resolved_view s)) }
+    requires { IsNamedBody (declaration_view declaration.now).body }
+    ensures resolved { IfOk result (λ s. resolved_of (known container.now) (declaration_view declaration.now)
+        ≡ Some (resolved_view s)) }
     ensures distinct { IfOk result (λ s. IsDistinct (names_of (resolved_view s).form)) }
-    ensures small { IfOk result (λ _. IsSmallItem (declaration_view declaration.now)) }
-    ensures allowed { IfOk result (λ _. IsAllowedItem (declaration_view declaration.now)) }
-    ensures refused { IfErr result (λ e. (e ≡ DeriveError.Memory) ⊎ IsFaultyItem (known container.now) (declaration_view declaration.now) e) }
+    ensures faultless { IfOk result (λ _. RefusesNone
+        (IsFaultyItem (known container.now) (declaration_view declaration.now))) }
+    ensures refused { Refuses result (IsFaultyItem (known container.now) (declaration_view declaration.now)) }
 {
     let schema = Schema::new(
         &declaration.body,
@@ -45,7 +46,8 @@ fn resolved_of(
     schema.resolve(alloc)
 }
 
-/// What the declarations are resolved to, in their order, where `places` has the places of their names.
+/// What the declarations are resolved to, in their order, where `places` has the places of their names, and each field in
+/// braces has a name.
 ///
 /// It refuses a declaration that `Schema::resolve` refuses, as that does.
 pub fn resolved_declarations(
@@ -54,13 +56,21 @@ pub fn resolved_declarations(
     places: &BTreeMap<String, usize>,
     config: &Config,
 ) -> Result<List<Resolved>, DeriveError>
-    requires { (name : Items ℕ) → get_by_text places.now name ≡ place_among (declarations_view declarations.now) name }
-    ensures resolved { IfOk result (λ ss. resolved_declarations config.now.renames (declarations_view declarations.now) ≡ Some (map resolved_view ss)) }
+    requires places { (name : Items ℕ)
+        → get_by_text places.now name ≡ place_among (declarations_view declarations.now) name }
+    requires named { AreNamed (declarations_view declarations.now) }
+    ensures resolved { IfOk result (λ ss.
+        resolved_declarations config.now.renames (declarations_view declarations.now)
+        ≡ Some (map resolved_view ss)) }
+    ensures names { IfOk result (λ ss. declaration_names (map resolved_view ss)
+        ≡ declared_names (declarations_view declarations.now)) }
     ensures distinct { IfOk result (λ ss. MembersDiffer (map resolved_view ss)) }
-    ensures small { IfOk result (λ _. AllByRecursion IsSmallItem (declarations_view declarations.now)) }
-    ensures allowed { IfOk result (λ _. AllByRecursion IsAllowedItem (declarations_view declarations.now)) }
-    ensures refused { IfErr result (λ e. (e ≡ DeriveError.Memory) ⊎ Somewhere (λ d. IsFaultyItem (around_of config.now.renames (declarations_view declarations.now)) d e) (declarations_view declarations.now)) }
+    ensures within { IfOk result (λ ss. AreWithin (length (map resolved_view ss)) (map resolved_view ss)) }
+    ensures faultless { IfOk result (λ _. RefusesNone
+        (AreFaultyItems config.now.renames (declarations_view declarations.now))) }
+    ensures refused { Refuses result (AreFaultyItems config.now.renames (declarations_view declarations.now)) }
 {
+    resolving::resolved_are_within();
     let mut resolved = List::new(alloc);
     for owner in 0..declarations.items.len() {
         let scope = Scope {

@@ -1,5 +1,5 @@
 -- Errors that refuse.
-use Rattle.std.specs.Prelude.{◌≡◌, ℕ, List, [], ◌∷◌, codes}
+use Rattle.std.specs.Prelude.{◌≡◌, ◌⊎◌, ℕ, List, [], ◌∷◌, Result, IfErr, codes}
 use Rattle.diag.specs.declared.error.DeriveError.{DeriveError}
 use Rattle.diag.specs.declared.error.DeriveError.TheVariants.{Refused, Memory}
 use Rattle.diag.specs.declared.kind.Kind.{Kind}
@@ -19,3 +19,15 @@ IsSyntaxRefusal span e = IsRefusal Syntax span (codes "unexpected text in a decl
 -- the error refuses, at the span, text that nests deeper than it may
 abbrev pub IsDepthRefusal : Span → DeriveError → Type 0
 IsDepthRefusal span e = IsRefusal TooDeep span (codes "nesting is deeper than 64") e
+
+-- the error is want of memory, or refuses so
+abbrev pub IsErrorFor : (DeriveError → Type 0) → DeriveError → Type 0
+IsErrorFor refuses e = (e ≡ Memory) ⊎ refuses e
+
+-- an error that is answered is one for that
+abbrev pub Refuses : {A : Type 0} → Result A DeriveError → (DeriveError → Type 0) → Type 0
+Refuses result refuses = IfErr result (IsErrorFor refuses)
+
+-- no error refuses so
+abbrev pub RefusesNone : (DeriveError → Type 0) → Type 0
+RefusesNone refuses = (e : DeriveError) → ¬ refuses e

@@ -1,5 +1,4 @@
-ghost use Rattle.std.specs.Prelude.{◌≡◌, ◌⊎◌};
-ghost use Rattle.diag.specs.Refusal.{IsRefusal, IsSyntaxRefusal, IsDepthRefusal};
+ghost use Rattle.diag.specs.Refusal.{IsErrorFor, IsRefusal, IsSyntaxRefusal, IsDepthRefusal};
 
 use crate::diagnostics::Diagnostics;
 use crate::kind::Kind;
@@ -19,7 +18,7 @@ pub enum DeriveError {
 impl DeriveError {
     /// The refusal by one diagnostic, without suggestions and instances, or want of memory.
     pub fn refusal(alloc: Global, kind: Kind, span: Span, message: &str) -> DeriveError
-        ensures { (result ≡ DeriveError.Memory) ⊎ IsRefusal kind span message.now result }
+        ensures { IsErrorFor (IsRefusal kind span message.now) result }
     {
         match Diagnostics::with_span(alloc, kind, span, message) {
             Ok(diagnostics) => DeriveError::Refused(diagnostics),
@@ -29,7 +28,7 @@ impl DeriveError {
 
     /// The refusal of kind `Syntax` of text that its grammar cannot go on with, or want of memory.
     pub fn syntax(alloc: Global, span: Span) -> DeriveError
-        ensures { (result ≡ DeriveError.Memory) ⊎ IsSyntaxRefusal span result }
+        ensures { IsErrorFor (IsSyntaxRefusal span) result }
     {
         DeriveError::refusal(
             alloc,
@@ -41,7 +40,7 @@ impl DeriveError {
 
     /// The refusal of kind `TooDeep` of text that nests deeper than 64 levels, or want of memory.
     pub fn too_deep(alloc: Global, span: Span) -> DeriveError
-        ensures { (result ≡ DeriveError.Memory) ⊎ IsDepthRefusal span result }
+        ensures { IsErrorFor (IsDepthRefusal span) result }
     {
         DeriveError::refusal(alloc, Kind::TooDeep, span, "nesting is deeper than 64")
     }

@@ -3,14 +3,11 @@ use Rattle.std.proofs.Common.{ℕ, ◌+◌, ◌<◌, List, [], ◌∷◌, ◌++�
 use Rattle.std.proofs.lemmas.List.{take_more, map_push}
 use Rattle.schema_core.specs.declared.tree.Tree.{Tree, the_lemmas}
 use Rattle.schema_core.specs.declared.tree.Object.{Object}
-use Rattle.schema_core.specs.Schema.{Facts, SchemaOf, object, property, schema, bind, bind_schemas, bind_properties, tree_view, tree_views, named_views, object_view, additional_view, optional_view, schemas_of, properties_of}
+use Rattle.schema_core.specs.Schema.{object_facts, SchemaOf, object, property, schema, bind, bind_schemas, bind_properties, tree_view, tree_views, named_views, object_view, additional_view, optional_view, schemas_of, properties_of}
 
 module _ {L X : Type 0} (m : L → X) where
-  abbrev facts_of : Object L → Facts
-  facts_of o = record { type_word = o.ty; format = o.format; enum_values = o.enum_values; required = o.required; minimum = o.minimum; notes = o.notes }
-
   -- an object by its fields
-  pub object_view-is : (o : Object L) → object_view m o ≡ object (facts_of o) (named_views m o.properties) (additional_view m o.additional) (optional_view m o.property_names)
+  pub object_view-is : (o : Object L) → object_view m o ≡ object (object_facts o) (named_views m o.properties) (additional_view m o.additional) (optional_view m o.property_names)
   object_view-is o = search (rules, the_lemmas)
 
   module _ {Y : Type 0} (f : X → SchemaOf Y) where

@@ -3,10 +3,7 @@
 ghost use Rattle.std.specs.Prelude.{◌≡◌, IfOk};
 ghost use Rattle.schema_core.specs.Schema.{SchemaOf, bind, bind_schemas, bind_properties, bind_part, tree_view, object_view, array_view, one_of_view, all_of_view, additional_view, array_items_view, optional_view, tree_views, named_views};
 
-use schema_core::{
-    Additional, AllOfSchema, Array, ArrayItems, Json, Notes, Object, OneOfSchema, Tree, copy_jsons,
-    copy_text, copy_texts,
-};
+use schema_core::{Additional, AllOfSchema, Array, ArrayItems, Object, OneOfSchema, Tree};
 use std::alloc::{AllocError, Global};
 use texts::{List, Text};
 
@@ -78,30 +75,6 @@ fn filled_tree<F: Fill>(
     }
 }
 
-/// What an object says of itself, beside its type, its least number and the schemas in it.
-#[derive(Drop)]
-struct Plain {
-    format: Option<Text>,
-    enum_values: Option<List<Json>>,
-    required: List<Text>,
-    notes: Notes,
-}
-
-/// A copy of what the object says of itself.
-fn plain_of<L>(alloc: Global, object: &Object<L>) -> Result<Plain, AllocError>
-    ensures format { IfOk result (λ plain. plain.format ≡ object.now.format) }
-    ensures enum_values { IfOk result (λ plain. plain.enum_values ≡ object.now.enum_values) }
-    ensures required { IfOk result (λ plain. plain.required ≡ object.now.required) }
-    ensures notes { IfOk result (λ plain. plain.notes ≡ object.now.notes) }
-{
-    Ok(Plain {
-        format: copy_text(alloc, &object.format)?,
-        enum_values: copy_jsons(alloc, &object.enum_values)?,
-        required: copy_texts(alloc, &object.required)?,
-        notes: object.notes.copy(alloc)?,
-    })
-}
-
 #[cycle(filled)]
 fn filled_object<F: Fill>(
     alloc: Global,
@@ -113,17 +86,12 @@ fn filled_object<F: Fill>(
     let properties = filled_properties(alloc, object.properties.as_slice(), fill)?;
     let additional = filled_additional(alloc, &object.additional, fill)?;
     let property_names = filled_option(alloc, &object.property_names, fill)?;
-    let plain = plain_of(alloc, object)?;
+    let facts = object.copy_facts(alloc)?;
     Ok(Object {
-        ty: object.ty,
-        format: plain.format,
-        enum_values: plain.enum_values,
         properties,
-        required: plain.required,
         additional,
         property_names,
-        minimum: object.minimum,
-        notes: plain.notes,
+        ..facts
     })
 }
 

@@ -1,22 +1,17 @@
 -- The schema of a place by its written type.
-use Rattle.std.specs.Prelude.{◌≡◌, ◌≤◌, ℕ, List, [], Bool, map, Option, Some}
+use Rattle.std.specs.Prelude.{◌≡◌, ℕ, List, [], Bool, map, Option, Some}
 use Rattle.diag.specs.declared.error.DeriveError.{DeriveError}
 use Rattle.written_types.specs.Written.{written_view}
 use Rattle.open_types.specs.Open.{Open}
-use Rattle.resolving.specs.Names.{size}
-use Rattle.resolving.specs.Resolved.{type_of, most_names, Fault, IsFault, IsRefusedFor}
+use Rattle.resolving.specs.Resolved.{type_of, Fault, IsFault, IsRefusedFor}
 use Rattle.scopes.specs.Names.{place_among}
-use Rattle.scopes.specs.Scopes.{declared_in, IsScope}
+use Rattle.scopes.specs.Scopes.{declared_in}
 use Rattle.place_schemas.specs.declared.component_schema.ComponentSchema.{ComponentSchema}
 use Rattle.place_schemas.specs.declared.component_schema.ComponentSchemaProps.{ComponentSchemaProps}
 use Rattle.scopes.specs.Descriptions.{described_by}
 use Rattle.component.specs.Leaves.{term_view}
 use Rattle.component.specs.Places.{place, parameter_type}
 use Rattle.component.specs.References.{reference_view, references}
-
--- the place stands in a scope
-abbrev pub IsScoped : ComponentSchemaProps → Type 0
-IsScoped props = IsScope props.container.now.scope.now
 
 -- the places of the names that are declared
 abbrev pub places_in : ComponentSchemaProps → List ℕ → Option ℕ
@@ -26,7 +21,7 @@ places_in props = place_among (declared_in props.container.now.scope.now)
 pub record IsSchemaOf (option_is_nullable : Bool) (props : ComponentSchemaProps) (made : ComponentSchema) : Type 0 where
   pub of : Open
   pub resolved : type_of (places_in props) (written_view props.written.now) ≡ Some of
-  pub small : size (written_view props.written.now) ≤ most_names
+  pub faultless : (fault : Fault) → ¬ IsFault (places_in props) (written_view props.written.now) fault
   pub term : term_view made.term ≡ place props.nullable props.inline props.deprecated (described_by props.description) (parameter_type option_is_nullable of)
   pub references : map reference_view made.schema_references ≡ references props.inline (parameter_type option_is_nullable of)
   pub warnings : made.warnings ≡ []

@@ -1,11 +1,12 @@
 //! The schema of a place by its written type.
 
-ghost use Rattle.std.specs.Prelude.{◌≡◌, ◌⊎◌, IfOk, IfErr, true};
+ghost use Rattle.std.specs.Prelude.{◌≡◌, IfOk, true};
+ghost use Rattle.diag.specs.Refusal.{Refuses};
 ghost use Rattle.open_types.specs.Open.{open_view};
 ghost use Rattle.scopes.specs.Descriptions.{described_by};
 ghost use Rattle.component.specs.Leaves.{term_view};
 ghost use Rattle.component.specs.Places.{place, without_option};
-ghost use Rattle.place_schemas.specs.Schemas.{IsScoped, IsSchemaOf, IsRefusedPlace};
+ghost use Rattle.place_schemas.specs.Schemas.{IsSchemaOf, IsRefusedPlace};
 
 use component::{Place, SchemaReference, Term, ToTerm, copy_term, place_term, references_of};
 use diag::{DeriveError, Diagnostics};
@@ -91,9 +92,8 @@ impl ComponentSchema {
         alloc: Global,
         props: ComponentSchemaProps<'_, '_>,
     ) -> Result<ComponentSchema, DeriveError>
-        requires { IsScoped props }
-        ensures schema { IfOk result (λ c. IsSchemaOf true props.entry c) }
-        ensures refused { IfErr result (λ e. (e ≡ DeriveError.Memory) ⊎ IsRefusedPlace props.entry e) }
+        ensures schema { IfOk result (IsSchemaOf true props.entry) }
+        ensures refused { Refuses result (IsRefusedPlace props.entry) }
     {
         ComponentSchema::for_params(alloc, props, true)
     }
@@ -105,9 +105,8 @@ impl ComponentSchema {
         props: ComponentSchemaProps<'_, '_>,
         option_is_nullable: bool,
     ) -> Result<ComponentSchema, DeriveError>
-        requires { IsScoped props }
-        ensures schema { IfOk result (λ c. IsSchemaOf option_is_nullable props.entry c) }
-        ensures refused { IfErr result (λ e. (e ≡ DeriveError.Memory) ⊎ IsRefusedPlace props.entry e) }
+        ensures schema { IfOk result (IsSchemaOf option_is_nullable props.entry) }
+        ensures refused { Refuses result (IsRefusedPlace props.entry) }
     {
         let container = props.container;
         let resolved = resolve(alloc, container.scope, props.written, container.config)?;

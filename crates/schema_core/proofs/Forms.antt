@@ -14,7 +14,7 @@ use Rattle.schema_core.specs.declared.tree.TypeWord.TheVariants.{Any, One, Nulla
 use Rattle.schema_core.specs.declared.tree.RefLeaf.{RefLeaf}
 use Rattle.schema_core.specs.Schema.{SchemaOf, leaf, object, array, one_of, all_of, SchemasOf, no_schemas, schema, schema_count, PropertiesOf, no_properties, property, property_names, PartOf, no_part, truth, part}
 use Rattle.schema_core.specs.Form.{word_text, type_form, texts_form, required_form, entries_form, value_items, values_form, true_form, schemas_form, array_word, put_fields, note_fields, object_fields, array_fields, one_of_fields, all_of_fields, reference_fields, form, part_form, schema_forms, property_forms}
-use Rattle.schema_core.specs.Meaning.{word_accepts, enum_accepts, unique_accepts, max_items_accepts, min_items_accepts, minimum_accepts, required_accepts, tree_accepts, where_given, each_in_order, all_accept, some_accepts, properties_accept, IsProper, IsPartProper, AreProper, ArePropertiesProper}
+use Rattle.schema_core.specs.Meaning.{word_accepts, enum_accepts, unique_accepts, max_items_accepts, min_items_accepts, minimum_accepts, bounds_accept, required_accepts, tree_accepts, where_given, each_in_order, all_accept, some_accepts, properties_accept, IsProper, IsPartProper, AreProper, ArePropertiesProper}
 use Rattle.std.proofs.lemmas.Slice.Eq.{bytes_eq-Decides}
 use Rattle.std.proofs.Math.Bool.{or-true}
 use Rattle.schema_core.proofs.Fields.{AreOthers, others-notes, given_at, names-put_all, field_holds, fields_hold, look-fields, map-of-fields, entries_accept, map-of-entries, AreNew, or-false-of, same_name}
@@ -156,17 +156,17 @@ module _ (R : List ℕ → Json → Bool) where
         && (part-accepts additional p.1.1.0 (λ accepts. on_map v (others_pass (named w) accepts)) i
         && (part-accepts others p.1.1.1 (λ accepts. on_map v (names_pass accepts)) i
         && (required-field R w facts.required v i
-        && (minimum-field R w facts.minimum v i && note-fields R w facts.notes v i))))))))
+        && (minimum-field R w facts.bounds.minimum v i && note-fields R w facts.notes v i))))))))
         ∙ (λ i. word_accepts facts.type_word v
         && (enum_accepts facts.enum_values v
         && (on_map v (properties_accept at_leaf ps)
         && (where_given at_leaf additional (λ accepts. on_map v (list_all (λ e. same_names e.0 i || accepts e.1)))
         && (where_given at_leaf others (λ accepts. on_map v (names_pass accepts))
         && (required_accepts facts.required v
-        && (minimum_accepts facts.minimum v && true)))))))
+        && (bounds_accept facts.bounds v && true)))))))
         ∙ last-true (word_accepts facts.type_word v) (enum_accepts facts.enum_values v) (on_map v (properties_accept at_leaf ps))
         (where_given at_leaf additional (λ accepts. on_map v (others_pass (property_names ps) accepts)))
-        (where_given at_leaf others (λ accepts. on_map v (names_pass accepts))) (required_accepts facts.required v) (minimum_accepts facts.minimum v)
+        (where_given at_leaf others (λ accepts. on_map v (names_pass accepts))) (required_accepts facts.required v) (bounds_accept facts.bounds v)
     form-accepts (array facts front rest) p v =
         let fs = array_fields facts (schema_forms front) (part_form rest) in
         let w = put_fields fs no_members in

@@ -112,7 +112,7 @@ module _ (Q : List ℕ → Type 0) where
                   part-refers additional h.1.0,
                   (
                     part-refers names h.1.1,
-                    (at-required facts.required, (at-plain (codes "minimum") (option_map number facts.minimum) (λ x. tt), at-notes facts.notes)),
+                    (at-required facts.required, (at-plain (codes "minimum") (option_map number facts.bounds.minimum) (λ x. tt), at-notes facts.notes)),
                   ),
                 ),
               ),

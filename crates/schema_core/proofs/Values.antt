@@ -9,7 +9,7 @@ use Rattle.schema_core.specs.declared.tree.Tree.{Tree, the_lemmas}
 use Rattle.schema_core.specs.declared.tree.Array.{Array}
 use Rattle.schema_core.specs.declared.tree.Object.{Object}
 use Rattle.schema_core.specs.declared.tree.RefLeaf.{RefLeaf}
-use Rattle.schema_core.specs.Schema.{Facts, ArrayFacts, object, array, object_view, array_view, additional_view, array_items_view, optional_view, schema_view, tree_views, named_views}
+use Rattle.schema_core.specs.Schema.{object_facts, ArrayFacts, object, array, object_view, array_view, additional_view, array_items_view, optional_view, schema_view, tree_views, named_views}
 use Rattle.schema_core.specs.Form.{form, schema_forms, property_forms, texts_form, value_items, schemas_form, entries_form}
 use Rattle.schema_core.proofs.Puts.{data_put}
 
@@ -49,12 +49,9 @@ put_step f xs i x h here name d old new n e o p =
     p ∙ ap (λ k. put_data k d old) n ∙ ap (λ y. put_data (f x).0 y old) e ∙ ap (put_data (f x).0 (data_of (f x).1)) o
     ∙ data_put (f x).0 (f x).1 before ∙ ap members_data (sym more)
 
-abbrev pub facts_of : Object RefLeaf → Facts
-facts_of o = record { type_word = o.ty; format = o.format; required = o.required; enum_values = o.enum_values; minimum = o.minimum; notes = o.notes }
-
 -- an object by its fields
 pub object_view-is : (o : Object RefLeaf) →
-    object_view (λ l. l) o ≡ object (facts_of o) (named_views (λ l. l) o.properties) (additional_view (λ l. l) o.additional) (optional_view (λ l. l) o.property_names)
+    object_view (λ l. l) o ≡ object (object_facts o) (named_views (λ l. l) o.properties) (additional_view (λ l. l) o.additional) (optional_view (λ l. l) o.property_names)
 object_view-is o = search (rules, the_lemmas)
 
 abbrev pub array_facts_of : Array RefLeaf → ArrayFacts

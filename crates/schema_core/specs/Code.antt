@@ -3,8 +3,10 @@ use Rattle.std.proofs.Common.{◌≡◌, ◌≢◌, ℕ, ℤ, Bool, List, Option
 use Rattle.std.specs.Coded.{Coded, code_by, coded×, coded_ℕ, coded_ℤ, coded_bool, coded_list, coded_option}
 use base.Stored.{Gv, gnil, gnum, gcons}
 use Rattle.acceptance.specs.Json.{Json}
+use Rattle.schema_core.specs.contracts.bounds.Bounds as bounds
 use Rattle.schema_core.specs.contracts.notes.Notes as notes
 use Rattle.schema_core.specs.contracts.tree.TypeWord as word
+use Rattle.schema_core.specs.declared.bounds.Bounds.{Bounds}
 use Rattle.schema_core.specs.declared.notes.Notes.{Notes}
 use Rattle.schema_core.specs.declared.tree.TypeWord.{TypeWord}
 use Rattle.schema_core.specs.JsonCode.{coded_json}
@@ -24,10 +26,10 @@ apart : (m n : ℕ) {a b : Gv} → gcons (gnum m) a ≡ gcons (gnum n) b → m �
 apart m n p other = other (cc)
 
 abbrev pub coded_facts : Coded Facts
-coded_facts = code_by (TypeWord × (Option (List ℕ) × (Option (List Json) × (List (List ℕ) × (Option ℤ × Notes)))))
-    (coded× word.the_row.coded (coded× (coded_option (coded_list coded_ℕ)) (coded× (coded_option (coded_list coded_json)) (coded× (coded_list (coded_list coded_ℕ)) (coded× (coded_option coded_ℤ) notes.the_row.coded)))))
-    (λ f. (f.type_word, (f.format, (f.enum_values, (f.required, (f.minimum, f.notes))))))
-    (λ p. record { type_word = p.0; format = p.1.0; enum_values = p.1.1.0; required = p.1.1.1.0; minimum = p.1.1.1.1.0; notes = p.1.1.1.1.1 }) (λ _. refl)
+coded_facts = code_by (TypeWord × (Option (List ℕ) × (Option (List Json) × (List (List ℕ) × (Bounds × Notes)))))
+    (coded× word.the_row.coded (coded× (coded_option (coded_list coded_ℕ)) (coded× (coded_option (coded_list coded_json)) (coded× (coded_list (coded_list coded_ℕ)) (coded× bounds.the_row.coded notes.the_row.coded)))))
+    (λ f. (f.type_word, (f.format, (f.enum_values, (f.required, (f.bounds, f.notes))))))
+    (λ p. record { type_word = p.0; format = p.1.0; enum_values = p.1.1.0; required = p.1.1.1.0; bounds = p.1.1.1.1.0; notes = p.1.1.1.1.1 }) (λ _. refl)
 
 abbrev pub coded_array_facts : Coded ArrayFacts
 coded_array_facts = code_by (Bool × (Bool × (Option ℤ × (Option ℤ × Notes))))

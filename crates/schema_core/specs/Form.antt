@@ -1,6 +1,7 @@
 -- The JSON of a schema (JSON Schema 2020-12; OpenAPI 3.1, "Schema Object", "Reference Object").
 use Rattle.std.specs.Prelude.{ℕ, Bool, true, false, List, [], ◌∷◌, ◌++◌, Option, Some, None, option_map, codes}
 use Rattle.acceptance.specs.Json.{Json, boolean, number, text, list, map, Items, no_items, item, Members, no_members, put_given, map_of}
+use Rattle.schema_core.specs.declared.bounds.Bounds.{Bounds}
 use Rattle.schema_core.specs.declared.notes.Notes.{Notes}
 use Rattle.schema_core.specs.declared.tree.SchemaTypeInner.{SchemaTypeInner}
 use Rattle.schema_core.specs.declared.tree.SchemaTypeInner.TheVariants as word
@@ -77,11 +78,14 @@ note_fields notes =
     ∷ (codes "deprecated", option_map boolean notes.deprecated) ∷ (codes "readOnly", option_map boolean notes.read_only) ∷ (codes "writeOnly", option_map boolean notes.write_only)
     ∷ (codes "contentEncoding", option_map text notes.content_encoding) ∷ (codes "contentMediaType", option_map text notes.content_media_type) ∷ []
 
+abbrev pub bound_fields : Bounds → List (List ℕ × Option Json)
+bound_fields bounds = (codes "minimum", option_map number bounds.minimum) ∷ []
+
 abbrev pub object_fields : Facts → List (List ℕ × Json) → (additional names : Option Json) → List (List ℕ × Option Json)
 object_fields facts properties additional names =
     (codes "type", type_form facts.type_word) ∷ (codes "format", option_map text facts.format) ∷ (codes "enum", values_form facts.enum_values)
     ∷ (codes "properties", entries_form properties) ∷ (codes "additionalProperties", additional) ∷ (codes "propertyNames", names)
-    ∷ (codes "required", required_form facts.required) ∷ (codes "minimum", option_map number facts.minimum) ∷ note_fields facts.notes
+    ∷ (codes "required", required_form facts.required) ∷ (bound_fields facts.bounds ++ note_fields facts.notes)
 
 abbrev pub array_fields : ArrayFacts → Items → Option Json → List (List ℕ × Option Json)
 array_fields facts front rest =

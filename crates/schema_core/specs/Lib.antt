@@ -1,4 +1,5 @@
 pub mod Bound
+pub mod Bounds
 pub mod Code
 pub mod Document
 pub mod Entries
@@ -7,5 +8,6 @@ pub mod JsonCode
 pub mod Meaning
 pub mod Members
 pub mod Notes
+pub mod Objects
 pub mod Schema
 pub mod Whole

@@ -5,6 +5,7 @@ use Rattle.acceptance.specs.Json.{Json, names, look, same, distinct, on_map, on_
 use Rattle.texts.specs.Names.{is_in, IsDistinct}
 use Rattle.acceptance.specs.Acceptance.{kinds_of, others_pass, names_pass, accepts_with, component_schema}
 use Rattle.acceptance.specs.References.{EachReference}
+use Rattle.schema_core.specs.declared.bounds.Bounds.{Bounds}
 use Rattle.schema_core.specs.declared.tree.TypeWord.{TypeWord}
 use Rattle.schema_core.specs.declared.tree.TypeWord.TheVariants.{Any, One, Nullable}
 use Rattle.schema_core.specs.declared.tree.RefLeaf.{RefLeaf}
@@ -43,6 +44,10 @@ abbrev pub minimum_accepts : Option ℤ → Json → Bool
 minimum_accepts None v = true
 minimum_accepts (Some n) v = on_number v (λ m. int_le n m)
 
+-- the value is within the bounds
+abbrev pub bounds_accept : Bounds → Json → Bool
+bounds_accept bounds v = minimum_accepts bounds.minimum v
+
 -- a map has each of the names
 abbrev pub required_accepts : List (List ℕ) → Json → Bool
 required_accepts ks v = on_map v (λ es. list_all (λ k. is_in k (names es)) ks)
@@ -55,7 +60,7 @@ abbrev mutual
       word_accepts facts.type_word v && (enum_accepts facts.enum_values v && (on_map v (properties_accept leaf_accepts ps)
       && (where_given leaf_accepts additional (λ accepts. on_map v (others_pass (property_names ps) accepts))
       && (where_given leaf_accepts names (λ accepts. on_map v (names_pass accepts))
-      && (required_accepts facts.required v && minimum_accepts facts.minimum v)))))
+      && (required_accepts facts.required v && bounds_accept facts.bounds v)))))
   tree_accepts leaf_accepts (array facts front rest) v =
       word_accepts (array_word facts.nullable) v && (unique_accepts facts.unique v && (max_items_accepts facts.max_items v && (min_items_accepts facts.min_items v
       && (on_list v (each_in_order leaf_accepts front) && where_given leaf_accepts rest (λ accepts. on_list v (λ xs. list_all accepts (drop (schema_count front) xs)))))))

@@ -1,6 +1,37 @@
 -- What schemas say of themselves (JSON Schema 2020-12, Validation, 8 and 9). It binds no value.
-use Rattle.std.specs.Prelude.{None}
+use Rattle.std.specs.Prelude.{ℕ, List, Bool, true, false, Option, Some, None}
+use Rattle.acceptance.specs.Json.{Json, null}
 use Rattle.schema_core.specs.declared.notes.Notes.{Notes}
 
+-- a description, a default, and whether what stands there is deprecated
+abbrev pub notes_of : Option (List ℕ) → Option Json → Option Bool → Notes
+notes_of description default deprecated = record {
+  title = None;
+  description = description;
+  default = default;
+  example = None;
+  examples = None;
+  deprecated = deprecated;
+  read_only = None;
+  write_only = None;
+  content_encoding = None;
+  content_media_type = None;
+}
+
 abbrev pub no_notes : Notes
-no_notes = record { title = None; description = None; default = None; example = None; examples = None; deprecated = None; read_only = None; write_only = None; content_encoding = None; content_media_type = None }
+no_notes = notes_of None None None
+
+abbrev pub where_true : Bool → Option Bool
+where_true false = None
+where_true true = Some true
+
+-- that the place is deprecated, and its description
+abbrev pub noted : Bool → Option (List ℕ) → Notes
+noted deprecated description = notes_of description None (where_true deprecated)
+
+abbrev pub described : Option (List ℕ) → Notes
+described = noted false
+
+-- a description, and null as the default
+abbrev pub null_default : Option (List ℕ) → Notes
+null_default description = notes_of description (Some null) None

@@ -1,6 +1,7 @@
 -- Schemas as trees with leaves of any type, without where they lie in memory.
 use Rattle.std.specs.Prelude.{ℕ, zero, suc, ℤ, Bool, false, List, [], ◌∷◌, map, Option, Some, None, option_map}
 use Rattle.acceptance.specs.Json.{Json}
+use Rattle.schema_core.specs.declared.bounds.Bounds.{Bounds}
 use Rattle.schema_core.specs.declared.notes.Notes.{Notes}
 use Rattle.schema_core.specs.declared.tree.TypeWord.{TypeWord}
 use Rattle.schema_core.specs.declared.tree.RefLeaf.{RefLeaf}
@@ -19,7 +20,7 @@ pub record Facts : Type 0 where
   pub format : Option (List ℕ)
   pub enum_values : Option (List Json)
   pub required : List (List ℕ)
-  pub minimum : Option ℤ
+  pub bounds : Bounds
   pub notes : Notes
 
 -- what an array says without a schema
@@ -106,6 +107,17 @@ abbrev mutual
 
 -- ---- what the program's trees are
 
+-- what an object says without a schema
+abbrev pub object_facts : {L : Type 0} → Object L → Facts
+object_facts o = record {
+  type_word = o.ty;
+  format = o.format;
+  enum_values = o.enum_values;
+  required = o.required;
+  bounds = o.bounds;
+  notes = o.notes;
+}
+
 module _ {X : Type 0} where
   abbrev pub schemas_of : List (SchemaOf X) → SchemasOf X
   schemas_of [] = no_schemas
@@ -145,7 +157,7 @@ module _ {L X : Type 0} (leaf_view : L → X) where
 
   abbrev object_step : Object-F L (PartOf X) (PartOf X) (SchemaOf X) (SchemaOf X) (SchemaOf X) (SchemaOf X) (SchemaOf X) → SchemaOf X
   object_step o =
-      object (record { type_word = o.ty; format = o.format; enum_values = o.enum_values; required = o.required; minimum = o.minimum; notes = o.notes })
+      object (record { type_word = o.ty; format = o.format; enum_values = o.enum_values; required = o.required; bounds = o.bounds; notes = o.notes })
       (properties_of o.properties) o.additional (part_of o.property_names)
 
   abbrev one_of_step : OneOfSchema-F L (PartOf X) (PartOf X) (SchemaOf X) (SchemaOf X) (SchemaOf X) (SchemaOf X) (SchemaOf X) → SchemaOf X

@@ -6,9 +6,10 @@ ghost use Rattle.serde_json.specs.Data.{put as put_data};
 ghost use Rattle.acceptance.specs.Json.{Json, text as json_text, number, list as json_list, put_given, put_all, no_members, map_of};
 ghost use Rattle.acceptance.specs.Data.{data_of, members_data, items_data};
 ghost use Rattle.schema_core.specs.Schema.{leaf, schema_view, object_view, array_view, one_of_view, all_of_view, additional_view, array_items_view, optional_view, tree_views, named_views};
-ghost use Rattle.schema_core.specs.Form.{form, note_fields, schema_forms, part_form, value_items, values_form, schemas_form, property_forms, word_text, type_form, texts_form, required_form, entries_form, reference_text, array_word};
+ghost use Rattle.schema_core.specs.Form.{form, note_fields, bound_fields, schema_forms, part_form, value_items, values_form, schemas_form, property_forms, word_text, type_form, texts_form, required_form, entries_form, reference_text, array_word};
 ghost use Rattle.schema_core.specs.Members.{Puts};
 
+use crate::bounds::Bounds;
 use crate::json_value::Json;
 use crate::members::{
     put, put_bound, put_given, put_json, put_text, put_true, put_truth, text_value,
@@ -133,6 +134,18 @@ fn put_notes(
     Ok(())
 }
 
+/// Puts each bound that is given at its name.
+fn put_bounds(
+    alloc: Global,
+    members: &mut Map<String, Value>,
+    bounds: &Bounds,
+) -> Result<(), AllocError>
+    ensures { OnOk result (Puts (bound_fields bounds.now) (members_view members.old.entries)
+        (members_view members.new.entries)) }
+{
+    put_bound(alloc, members, "minimum", &bounds.minimum)
+}
+
 /// The value of a reference.
 fn reference_value(alloc: Global, reference: &RefLeaf) -> Result<Value, AllocError>
     ensures { IfOk result (λ value. view value ≡ data_of (form (leaf reference.now))) }
@@ -176,7 +189,7 @@ fn object_value(alloc: Global, object: &Object<RefLeaf>) -> Result<Value, AllocE
     put_given(alloc, &mut members, "propertyNames", names)?;
     let required = required_value(alloc, object.required.as_slice())?;
     put_given(alloc, &mut members, "required", required)?;
-    put_bound(alloc, &mut members, "minimum", &object.minimum)?;
+    put_bounds(alloc, &mut members, &object.bounds)?;
     put_notes(alloc, &mut members, &object.notes)?;
     Ok(Value::Object(members))
 }

@@ -2,6 +2,7 @@
 #![tactic(auto)]
 
 mod bound;
+mod bounds;
 mod components;
 mod copies;
 mod form;
@@ -9,9 +10,11 @@ mod json_value;
 mod law;
 mod members;
 mod notes;
+mod objects;
 mod tree;
 
 pub use bound::Bound;
+pub use bounds::Bounds;
 pub use components::Components;
 pub use copies::{copy_json, copy_jsons, copy_text, copy_texts};
 pub use json_value::Json;

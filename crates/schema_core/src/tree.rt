@@ -1,4 +1,5 @@
 use crate::bound::Bound;
+use crate::bounds::Bounds;
 use crate::json_value::Json;
 use crate::notes::Notes;
 use texts::{List, Text};
@@ -64,8 +65,7 @@ pub struct Object<L> {
     pub additional: Additional<L>,
     /// What the names of the members are, as texts.
     pub property_names: Option<Tree<L>>,
-    /// The least number, inclusive.
-    pub minimum: Option<Bound>,
+    pub bounds: Bounds,
     pub notes: Notes,
 }
 

@@ -16,16 +16,20 @@ use Rattle.attributes.specs.declared.serde_item.SerdeItem.{SerdeItem}
 use Rattle.attributes.specs.declared.serde_item.SerdeText.{SerdeText}
 use Rattle.serde_rules.specs.declared.enum_repr.SerdeEnumRepr.{SerdeEnumRepr}
 use Rattle.serde_rules.specs.Items.{literal_for}
-use Rattle.serde_rules.specs.Container.{TagFault, representation, rule_named, rename_rule, unknown_rule, IsTagRefusal, IsRuleRefusal, IsContainerRefusal}
-use Rattle.syntax.specs.Items.{FieldItem, DeclaredItem}
+use Rattle.serde_rules.specs.Container.{TagFault, representation, rule_named, unknown_rule, IsTagRefusal, IsRuleRefusal, IsContainerRefusal}
+use Rattle.written_types.specs.declared.written.Ident.{Ident}
+use Rattle.syntax.specs.Items.{FieldItem, named, unnamed, unit, BodyItem, struct_body, DeclaredItem}
+use Rattle.scopes.specs.Names.{IsGivenTwice}
 use Rattle.resolving.specs.Resolved.{Fault, unknown_type, wrong_arity, too_large, IsRefusedFor}
 use Rattle.texts.specs.Lists.{Somewhere}
 use Rattle.configuration.specs.Configuration.{Configuration}
 use Rattle.configuration.specs.Form.{IsBadConfig}
-use Rattle.derive_decl.specs.Resolved.{DeclarationOf}
-use Rattle.derive_decl.specs.Faults.{container_items, IsFaultyName}
+use Rattle.shapes.specs.Declarations.{DeclarationOf}
+use Rattle.derive_decl.specs.Fields.{FieldRules, field_rules, kept}
+use Rattle.derive_decl.specs.Resolved.{Around, around_of}
+use Rattle.derive_decl.specs.Faults.{IsFaultyName, IsFaultyType, IsFaultyMember, IsFaultyBody}
 use Rattle.compose.specs.Bounds.{IsRefusalOf, IsUnbounded}
-use Rattle.compose.specs.Faults.{kept_named, IsFaulty, AreAtFault, IsBeyond, IsRefused}
+use Rattle.compose.specs.Faults.{AreFaulty, AreAtFault, IsBeyond, IsRefused}
 use Rattle.schema_gen.specs.Refusals.{IsRefusedSource}
 
 -- an error that refuses is no want of memory
@@ -82,13 +86,27 @@ module _ (ds : List DiangosticsInner) (first : HasFirst ds (λ d. d.kind ≡ Bad
   disallowed items (inl h) = tagged (representation items) h
   disallowed items (inr h) = none_of (λ item. IsRuleRefusal item (Refused ds)) items (λ item. ruled (literal_for (codes "rename_all") item)) h
 
-  faulty : (rows : List RenameRow) (items : List DeclaredItem) → IsFaulty rows items (Refused ds) → ⊥
-  faulty rows items (inl (x, duplicate, is)) = other DuplicateName _ _ (λ e. cc) is
-  faulty rows items (inr (inl (fault, found, is))) = other_for fault is
-  faulty rows items (inr (inr (inl (x, fieldless, is)))) = other Arity _ _ (λ e. cc) is
-  faulty rows items (inr (inr (inr (inl h)))) =
-      nowhere _ items (λ d. nowhere (λ f. IsFaultyName rows (rename_rule (serde_items d.attrs)) f (Refused ds)) (kept_named d.body) (rowless rows (rename_rule (serde_items d.attrs)))) h
-  faulty rows items (inr (inr (inr (inr h)))) = nowhere _ items (λ d. disallowed (container_items d.attrs d.body)) h
+  typed : (around : Around) (f : FieldItem) → IsFaultyType around f (Refused ds) → ⊥
+  typed around f (fault, found, is) = other_for fault is
+
+  member : (around : Around) (rules : FieldRules) (f : FieldItem) → IsFaultyMember around rules f (Refused ds) → ⊥
+  member around rules f (inl fault) = typed around f fault
+  member around rules f (inr unwritten) = rowless around.rows rules.rule f unwritten
+
+  twice : (xs : List Ident) → IsGivenTwice xs (Refused ds) → ⊥
+  twice xs (x, repeats, is) = other DuplicateName _ _ (λ e. cc) is
+
+  body : (around : Around) (items : List SerdeItem) (x : Ident) (b : BodyItem) → IsFaultyBody around items x b (Refused ds) → ⊥
+  body around items x (struct_body (named fs)) (inl h) = disallowed items h
+  body around items x (struct_body (named fs)) (inr (inl h)) = nowhere _ (kept fs) (member around (field_rules items)) h
+  body around items x (struct_body (named fs)) (inr (inr h)) = twice _ h
+  body around items x (struct_body (unnamed fs)) (inl h) = nowhere _ fs (typed around) h
+  body around items x (struct_body (unnamed fs)) (inr (none, is)) = other Arity _ _ (λ e. cc) is
+  body around items x (struct_body unit) h = h
+
+  faulty : (rows : List RenameRow) (items : List DeclaredItem) → AreFaulty rows items (Refused ds) → ⊥
+  faulty rows items (inl h) = twice _ h
+  faulty rows items (inr h) = nowhere _ items (λ d. body (around_of rows items) (serde_items d.attrs) d.ident d.body) h
 
   declared : (c : Configuration) (items : List DeclaredItem) → AreAtFault c.renames items (Refused ds) ⊎ IsBeyond c items (Refused ds) → ⊥
   declared c items (inl (inl (span, attributed, is))) = other Syntax _ _ (λ e. cc) is

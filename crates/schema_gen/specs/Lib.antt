@@ -12,9 +12,10 @@ pub use Rattle.closing.specs.Described
 pub use Rattle.compose.specs.Faults
 pub use Rattle.configuration.specs.Configuration
 pub use Rattle.configuration.specs.Form
-pub use Rattle.derive_decl.specs.Plain
-pub use Rattle.derive_decl.specs.Shape
-pub use Rattle.derive_decl.specs.Resolved as Declarations
+pub use Rattle.shapes.specs.Declarations
+pub use Rattle.shapes.specs.Plain
+pub use Rattle.shapes.specs.Shape
+pub use Rattle.derive_decl.specs.Resolved as ResolvedDeclarations
 pub use Rattle.diag.specs.Diagnostics
 pub use Rattle.diag.specs.Kind
 pub use Rattle.diag.specs.Refusal

@@ -1,11 +1,12 @@
 -- Places of names in a list that grows at its end.
-use Rattle.std.proofs.Common.{ℕ, zero, suc, ◌<◌, List, [], ◌∷◌, ◌++◌, Option, Some, None, option_map, Bool, true, false, cond, ◌||◌, bytes_eq, length, take, drop, get_or, map, ◌≡◌, refl, ap, sym, ◌∙◌, arith, rules, ◌⊎◌, inl, inr, IsTrue, Result, Ok, Err, MatchResult, is_ok}
+use Rattle.std.proofs.Common.{ℕ, zero, suc, ◌<◌, List, [], ◌∷◌, ◌++◌, Option, Some, None, option_map, Bool, true, false, cond, ◌||◌, bytes_eq, length, take, drop, get_or, map, ◌≡◌, refl, ap, sym, subst, ◌∙◌, arith, rules, ◌⊎◌, inl, inr, IsTrue, Result, Ok, Err, MatchResult, is_ok}
 use Rattle.std.specs.Map.{update}
 use Rattle.std.proofs.lemmas.Slice.Eq.{bytes_eq-Decides}
 use Rattle.std.proofs.lemmas.Bool.{false≢true}
 use Rattle.texts.specs.Names.{is_in, IsDistinct, place_in}
 use Rattle.written_types.specs.declared.written.Ident.{Ident}
-use Rattle.scopes.specs.Names.{texts}
+use Rattle.diag.specs.Refusal.{RefusesNone}
+use Rattle.scopes.specs.Names.{texts, IsGivenTwice}
 
 bool_cases : (b : Bool) → (b ≡ true) ⊎ (b ≡ false)
 bool_cases true = inl refl
@@ -122,3 +123,24 @@ ok_before (Err y) s x Q e f h = absurd (false≢true (sym f ∙ ap is_ok h))
 pub none_from : {A : Type 0} (o : Option A) → ((x : A) → o ≡ Some x → ⊥) → o ≡ None
 none_from None h = refl
 none_from (Some x) h = absurd (h x refl)
+
+-- ---- no name twice
+
+or_true : (a b : Bool) → IsTrue b → IsTrue (a || b)
+or_true true b h = refl
+or_true false b h = h
+
+is_in-middle : (x : Ident) (k : List ℕ) (before behind : List Ident) → k ≡ x.text → IsTrue (is_in k (texts (before ++ x ∷ behind)))
+is_in-middle x k [] behind e = ap (λ b. b || is_in k (texts behind)) ((bytes_eq-Decides k x.text).1 e)
+is_in-middle x k (y ∷ before) behind e = or_true (bytes_eq k y.text) (is_in k (texts (before ++ x ∷ behind))) (is_in-middle x k before behind e)
+
+twice : (x : Ident) (before behind : List Ident) → IsDistinct (texts (before ++ x ∷ behind)) → IsTrue (is_in x.text (texts before)) → ⊥
+twice x [] behind d h = false≢true h
+twice x (y ∷ before) behind d h = by (bytes_eq x.text y.text) refl h (twice x before behind d.1)
+  where
+    by : (b : Bool) → bytes_eq x.text y.text ≡ b → IsTrue (b || is_in x.text (texts before)) → (IsTrue (is_in x.text (texts before)) → ⊥) → ⊥
+    by true t g rest = false≢true (sym d.0 ∙ is_in-middle x y.text before behind (sym ((bytes_eq-Decides x.text y.text).0 t)))
+    by false t g rest = rest g
+
+pub distinct_once : (xs : List Ident) → IsDistinct (texts xs) → RefusesNone (IsGivenTwice xs)
+distinct_once xs d e (x, r, is) = twice x r.0 r.1 (subst (λ ys. IsDistinct (texts ys)) r.2 d) r.3

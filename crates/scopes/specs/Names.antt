@@ -1,6 +1,9 @@
 -- The names that declarations give, and the places where they stand.
 use Rattle.std.specs.Prelude.{◌≡◌, ℕ, suc, List, [], ◌∷◌, ◌++◌, Option, Some, None, option_map, bytes_eq, cond, IsTrue, codes}
 use Rattle.texts.specs.Names.{is_in, place_in}
+use Rattle.diag.specs.Refusal.{IsRefusal}
+use Rattle.diag.specs.declared.error.DeriveError.{DeriveError}
+use Rattle.diag.specs.declared.kind.Kind.TheVariants.{DuplicateName}
 use Rattle.written_types.specs.declared.written.Ident.{Ident}
 use Rattle.syntax.specs.Items.{DeclaredItem}
 
@@ -26,3 +29,7 @@ Repeats xs x = (before : List Ident) × (behind : List Ident) × (xs ≡ before 
 
 abbrev pub duplicate_message : List ℕ → List ℕ
 duplicate_message name = codes "name " ++ (name ++ codes " is given twice")
+
+-- the error refuses an identifier whose name is given before
+abbrev pub IsGivenTwice : List Ident → DeriveError → Type 0
+IsGivenTwice xs e = (x : Ident) × Repeats xs x × IsRefusal DuplicateName x.span (duplicate_message x.text) e

@@ -3,11 +3,13 @@
 
 mod container;
 mod heads;
+mod lookup;
 mod names;
 mod scope;
 mod text;
 
 pub use container::{ComponentDescription, Container};
+pub use lookup::resolve;
 pub use names::{Named, declared_places, places_of};
-pub use scope::{Scope, resolve};
+pub use scope::Scope;
 pub use text::type_text;

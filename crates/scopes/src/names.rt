@@ -1,14 +1,14 @@
 //! Names and their places.
 
-ghost use Rattle.std.specs.Prelude.{◌≡◌, ◌⊎◌, ℕ, List, map, IfOk, IfErr};
+ghost use Rattle.std.specs.Prelude.{◌≡◌, ℕ, List, map, IfOk};
 ghost use Rattle.std.specs.BTreeMap.{get_by_text};
-ghost use Rattle.diag.specs.Refusal.{IsRefusal};
+ghost use Rattle.diag.specs.Refusal.{IsErrorFor, IsRefusal, Refuses, RefusesNone};
 ghost use Rattle.texts.specs.Names.{IsDistinct, place_in};
 ghost use Rattle.written_types.specs.declared.written.Ident.{Ident as AnyIdent};
 ghost use Rattle.syntax.specs.Items.{declarations_view};
-ghost use Rattle.scopes.specs.Names.{place_among, declared_names, declared_idents, texts, Repeats, duplicate_message};
+ghost use Rattle.scopes.specs.Names.{place_among, declared_names, declared_idents, texts, duplicate_message, IsGivenTwice};
 
-use diag::{DeriveError, Diagnostics, Kind};
+use diag::{DeriveError, Kind};
 use std::alloc::{AllocError, Global};
 use std::collections::BTreeMap;
 use syntax::{Declaration, Declarations, Ident};
@@ -30,17 +30,13 @@ impl Named for Declaration {
 }
 
 /// The refusal of a name that was given before.
-fn duplicate(alloc: Global, ident: &Ident) -> Result<DeriveError, AllocError>
-    ensures { IfOk result (λ e. IsRefusal Kind.DuplicateName ident.now.span (duplicate_message ident.now.text) e) }
+fn duplicate_name(alloc: Global, ident: &Ident) -> Result<DeriveError, AllocError>
+    ensures { IfOk result (IsErrorFor (IsRefusal Kind.DuplicateName ident.now.span
+        (duplicate_message ident.now.text))) }
 {
     let message = format!(in alloc; "name {} is given twice", ident.text.as_str())?;
-    let diagnostics = Diagnostics::with_span(
-        alloc,
-        Kind::DuplicateName,
-        ident.span,
-        message.as_str(),
-    )?;
-    Ok(DeriveError::Refused(diagnostics))
+    let kind = Kind::DuplicateName;
+    Ok(DeriveError::refusal(alloc, kind, ident.span, message.as_str()))
 }
 
 /// The place of each name, where no two are equal. A name given twice is refused with the kind `DuplicateName`, at the
@@ -49,17 +45,18 @@ pub fn places_of<T: Named>(
     alloc: Global,
     items: &[T],
 ) -> Result<BTreeMap<String, usize>, DeriveError>
-    ensures places { IfOk result (λ places. (name : List ℕ) → get_by_text places name ≡ place_in name (texts (map T.ident_of items.now))) }
+    ensures places { IfOk result (λ places. (name : List ℕ)
+        → get_by_text places name ≡ place_in name (texts (map T.ident_of items.now))) }
     ensures distinct { IfOk result (λ _. IsDistinct (texts (map T.ident_of items.now))) }
-    ensures refused { IfErr result (λ e. (e ≡ DeriveError.Memory) ⊎ ((x : AnyIdent) × Repeats (map T.ident_of items.now) x
-        × IsRefusal Kind.DuplicateName x.span (duplicate_message x.text) e)) }
+    ensures once { IfOk result (λ _. RefusesNone (IsGivenTwice (map T.ident_of items.now))) }
+    ensures refused { Refuses result (IsGivenTwice (map T.ident_of items.now)) }
 {
     let mut places = BTreeMap::new(alloc);
     for at in 0..items.len() {
         let ident = items[at].ident();
         let name = String::from_str(alloc, ident.text.as_str())?;
         if let Some(_) = places.insert(name, at).map_err(AllocError::from)? {
-            return Err(duplicate(alloc, ident)?);
+            return Err(duplicate_name(alloc, ident)?);
         }
     }
     Ok(places)
@@ -70,10 +67,12 @@ pub fn declared_places(
     alloc: Global,
     declarations: &Declarations,
 ) -> Result<BTreeMap<String, usize>, DeriveError>
-    ensures places { IfOk result (λ places. (name : List ℕ) → get_by_text places name ≡ place_among (declarations_view declarations.now) name) }
+    ensures places { IfOk result (λ places. (name : List ℕ)
+        → get_by_text places name ≡ place_among (declarations_view declarations.now) name) }
     ensures distinct { IfOk result (λ _. IsDistinct (declared_names (declarations_view declarations.now))) }
-    ensures refused { IfErr result (λ e. (e ≡ DeriveError.Memory) ⊎ ((x : AnyIdent) × Repeats (declared_idents (declarations_view declarations.now)) x
-        × IsRefusal Kind.DuplicateName x.span (duplicate_message x.text) e)) }
+    ensures once { IfOk result (λ _. RefusesNone
+        (IsGivenTwice (declared_idents (declarations_view declarations.now)))) }
+    ensures refused { Refuses result (IsGivenTwice (declared_idents (declarations_view declarations.now))) }
 {
     places_of(alloc, declarations.items.as_slice())
 }

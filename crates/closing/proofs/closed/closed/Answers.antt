@@ -1,7 +1,6 @@
 use Rattle.std.proofs.Common.{◌≡◌, ◌<◌, ◌∙◌, length, map, get_or, ap, sym, subst, arith, rules}
 use Rattle.std.proofs.lemmas.List.{take_all, length-set}
 use Rattle.schema_core.specs.Schema.{schema_view}
-use Rattle.derive_decl.specs.Views.{resolved_view}
 use Rattle.inlining.specs.Inlining.{targets_of}
 use Rattle.closing.specs.Targets.{inlining_of}
 use Rattle.closing.specs.Closed.{declared_schema}
@@ -9,43 +8,47 @@ use Rattle.closing.proofs.Made.{AreMade, made_more, as_many_terms, next_schema, 
 use Rattle.closing.proofs.closed.closed.Goals as goal
 
 pub bounds-terms-place : goal.bounds-terms-place
-bounds-terms-place c =
-    let resolved = c.args.resolved.now in
+bounds-terms-place g c =
+    let view = g.D.Declared.declaration in
+    let declared = c.args.declared.now in
     let place = get_or c.args.order.now c.loop-place.place-index 0 in
     let at : c.loop-place.place-index < length c.args.order.now = omega arith in
-    let stands = c.orders_stand.ensures (inlining_of (map resolved_view resolved)) c.args.order.now c.requires.order c.loop-place.place-index at in
-    subst (λ n. place < n) (sym (as_many_terms c.args.terms.now resolved c.requires.terms)) (declaration_place resolved place stands.0)
+    let stands = c.orders_stand.ensures (inlining_of (map view declared)) c.args.order.now c.requires.order c.loop-place.place-index at in
+    subst (λ n. place < n) (sym (as_many_terms view c.args.terms.now declared c.requires.terms)) (declaration_place view declared place stands.0)
 
 pub offset_bounds-terms-place : goal.offset_bounds-terms-place
-offset_bounds-terms-place c =
-    let resolved = c.args.resolved.now in
+offset_bounds-terms-place g c =
+    let view = g.D.Declared.declaration in
+    let declared = c.args.declared.now in
     let place = get_or c.args.order.now c.loop-place.place-index 0 in
     let at : c.loop-place.place-index < length c.args.order.now = omega arith in
-    let stands = c.orders_stand.ensures (inlining_of (map resolved_view resolved)) c.args.order.now c.requires.order c.loop-place.place-index at in
-    let within : place < length c.args.terms.now = subst (λ n. place < n) (sym (as_many_terms c.args.terms.now resolved c.requires.terms)) (declaration_place resolved place stands.0) in
+    let stands = c.orders_stand.ensures (inlining_of (map view declared)) c.args.order.now c.requires.order c.loop-place.place-index at in
+    let within : place < length c.args.terms.now = subst (λ n. place < n) (sym (as_many_terms view c.args.terms.now declared c.requires.terms)) (declaration_place view declared place stands.0) in
     search rules
 
 pub index_mut-requires : goal.index_mut-requires
-index_mut-requires c =
-    let resolved = c.args.resolved.now in
+index_mut-requires g c =
+    let view = g.D.Declared.declaration in
+    let declared = c.args.declared.now in
     let place = get_or c.args.order.now c.loop-place.place-index 0 in
     let at : c.loop-place.place-index < length c.args.order.now = omega arith in
-    let stands = c.orders_stand.ensures (inlining_of (map resolved_view resolved)) c.args.order.now c.requires.order c.loop-place.place-index at in
-    subst (λ n. place < n) (sym (sym c.as_slice.ensures.len ∙ ap length c.as_slice.ensures.value ∙ c.loop-place.invariant.many)) (declaration_place resolved place stands.0)
+    let stands = c.orders_stand.ensures (inlining_of (map view declared)) c.args.order.now c.requires.order c.loop-place.place-index at in
+    subst (λ n. place < n) (sym (sym c.as_slice.ensures.len ∙ ap length c.as_slice.ensures.value ∙ c.loop-place.invariant.many)) (declaration_place view declared place stands.0)
 
 pub loop-place-preserved : goal.loop-place-preserved
-loop-place-preserved c =
-    let resolved = c.args.resolved.now in
-    let ss = map resolved_view resolved in
+loop-place-preserved g c =
+    let view = g.D.Declared.declaration in
+    let declared = c.args.declared.now in
+    let ss = map view declared in
     let order = c.args.order.now in
     let made = c.loop-place.made.items in
     let place = get_or order c.loop-place.place-index 0 in
     let at : c.loop-place.place-index < length order = omega arith in
     let stands = c.orders_stand.ensures (inlining_of ss) order c.requires.order c.loop-place.place-index at in
-    let within : place < length resolved = declaration_place resolved place stands.0 in
+    let within : place < length declared = declaration_place view declared place stands.0 in
     let targets : AreMade ss made (targets_of (inlining_of ss) place) = λ t among. c.loop-place.invariant.made t (stands.1 t among) in
     let schema : schema_view c.in_ok-schema.schema ≡ declared_schema ss place =
-    next_schema resolved c.args.terms.now made c.as_slice.result.now place c.index-terms-place.result (schema_view c.in_ok-schema.schema) c.requires.terms c.requires.within c.requires.depth within targets
+    next_schema view declared c.args.terms.now made c.as_slice.result.now place c.index-terms-place.result (schema_view c.in_ok-schema.schema) c.requires.terms c.requires.within c.requires.depth within targets
     c.as_slice.ensures.value c.index-terms-place.is c.in_ok-schema.ensures in
     record {
       many = length-set made place c.in_ok-schema.schema ∙ c.loop-place.invariant.many;
@@ -53,8 +56,9 @@ loop-place-preserved c =
     }
 
 pub returns-clause-schemas : goal.returns-clause-schemas
-returns-clause-schemas c = λ d l.
-    let resolved = c.args.resolved.now in
-    let ss = map resolved_view resolved in
+returns-clause-schemas g c = λ d l.
+    let view = g.D.Declared.declaration in
+    let declared = c.args.declared.now in
+    let ss = map view declared in
     let all : AreMade ss c.loop-place.made.items c.args.order.now = subst (AreMade ss c.loop-place.made.items) (take_all c.loop-place.place-index c.args.order.now (omega arith)) c.loop-place.invariant.made in
-    all d (c.requires.order.all d (declaration_place_back resolved d l))
+    all d (c.requires.order.all d (declaration_place_back view declared d l))

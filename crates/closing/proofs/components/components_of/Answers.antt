@@ -3,36 +3,37 @@ use Rattle.std.proofs.lemmas.List.{length-map}
 use Rattle.schema_core.specs.declared.tree.RefLeaf.{RefLeaf}
 use Rattle.schema_core.specs.declared.tree.Tree.{Tree}
 use Rattle.schema_core.specs.Schema.{schema_view}
-use Rattle.derive_decl.specs.Resolved.{DeclarationOf, declaration_at}
-use Rattle.derive_decl.specs.Views.{resolved_view}
+use Rattle.shapes.specs.Declarations.{DeclarationOf, declaration_at}
 use Rattle.closing.specs.Closed.{schema_in, declared_schema}
 use Rattle.closing.proofs.Made.{in_front, at_end}
 use Rattle.closing.proofs.Entered.{AreKnown, AreThere, known_none, known_more, there_more, all_entered, declaration_at-view}
 use Rattle.closing.proofs.components.components_of.Goals as goal
 
 pub loop-schema-init : goal.loop-schema-init
-loop-schema-init c =
-    let ss = map resolved_view c.args.resolved.now in
+loop-schema-init g c =
+    let view = g.D.Declared.declaration in
+    let ss = map view c.args.declared.now in
     record {
       few = omega (arith, c.in_ok-made.ensures.many);
       schemas = λ d l. c.in_ok-made.ensures.schemas d (subst (λ n. d < n) c.in_ok-made.ensures.many l);
       known = subst (AreKnown ss) (sym c.new-components.ensures) (known_none ss);
-      there = λ d from l. absurd (omega (arith, c.in_ok-made.ensures.many, length-map c.args.resolved.now resolved_view, from, l));
+      there = λ d from l. absurd (omega (arith, c.in_ok-made.ensures.many, length-map c.args.declared.now view, from, l));
     }
 
 pub loop-schema-preserved : goal.loop-schema-preserved
-loop-schema-preserved c =
-    let resolved = c.args.resolved.now in
-    let ss = map resolved_view resolved in
+loop-schema-preserved g c =
+    let view = g.D.Declared.declaration in
+    let declared = c.args.declared.now in
+    let ss = map view declared in
     let left = c.pop.new.self.items in
     let was = c.in-Some.ensures.items in
     let many : length left + 1 ≡ length c.loop-schema.made.items = search rules in
     let at : c.len.result ≡ length left = search rules in
-    let within : length left < length resolved = omega (arith, many, c.loop-schema.invariant.few) in
-    let here : length left < length ss = subst (λ n. length left < n) (sym (length-map resolved resolved_view)) within in
-    let found : resolved_view (get_or resolved c.len.result c.index-resolved-len.result) ≡ declaration_at ss (length left) =
-    sym (declaration_at-view resolved c.len.result c.index-resolved-len.result (subst (λ n. n < length resolved) (sym at) within)) ∙ ap (declaration_at ss) at in
-    let named : c.in_ok-name.name ≡ (declaration_at ss (length left)).name = c.in_ok-name.ensures ∙ ap (λ (s : DeclarationOf). s.name) found in
+    let within : length left < length declared = omega (arith, many, c.loop-schema.invariant.few) in
+    let here : length left < length ss = subst (λ n. length left < n) (sym (length-map declared view)) within in
+    let found : view (get_or declared c.len.result c.index-declared-len.result) ≡ declaration_at ss (length left) =
+    sym (declaration_at-view view declared c.len.result c.index-declared-len.result (subst (λ n. n < length declared) (sym at) within)) ∙ ap (declaration_at ss) at in
+    let named : c.in_ok-name.name ≡ (declaration_at ss (length left)).name = c.in_ok-name.ensures ∙ c.name.ensures ∙ ap (λ x. (view x).name) c.index-declared-len.is ∙ ap (λ (s : DeclarationOf). s.name) found in
     let schema : schema_view c.in-Some.schema ≡ declared_schema ss (length left) =
     sym (at_end left c.in-Some.schema) ∙ ap (λ (xs : List (Tree RefLeaf)). schema_in (map schema_view xs) (length left)) (sym was) ∙ c.loop-schema.invariant.schemas (length left) (omega (arith, many)) in
     record {
@@ -44,7 +45,8 @@ loop-schema-preserved c =
     }
 
 pub returns : goal.returns
-returns c =
-    let ss = map resolved_view c.args.resolved.now in
+returns g c =
+    let view = g.D.Declared.declaration in
+    let ss = map view c.args.declared.now in
     let none : length c.loop-schema.made.items ≡ 0 = search rules in
     all_entered ss c.loop-schema.components c.requires.distinct c.loop-schema.invariant.known (subst (λ n. AreThere ss n c.loop-schema.components) none c.loop-schema.invariant.there)

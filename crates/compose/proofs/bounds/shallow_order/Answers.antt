@@ -19,14 +19,14 @@ offset_bounds-declarations-path c =
     let within : get_or c.as_slice-path.result.now 0 0 < length c.args.declarations.now = (deep_path c.args.resolved.now c.args.declarations.now c.args.targets.now c.in_ok-order.field-0 c.in-Beyond.path c.as_slice-path.result.now c.requires.names c.requires.targets c.in_ok-order.ensures c.in-Beyond.is c.as_slice-path.ensures).2 in
     search rules
 
-pub returns-in_ok-deep-in-Beyond-clause-refused : goal.returns-in_ok-deep-in-Beyond-clause-refused
-returns-in_ok-deep-in-Beyond-clause-refused c =
+pub returns-in_ok-inline_depth-in-Beyond-clause-refused : goal.returns-in_ok-inline_depth-in-Beyond-clause-refused
+returns-in_ok-inline_depth-in-Beyond-clause-refused c =
     let resolved = c.args.resolved.now in
     let ds = c.args.declarations.now in
     let names = names_along (map resolved_view resolved) c.as_slice-path.result.now in
     let path = c.as_slice-path.result.now in
     let x = c.index-declarations-path.result in
     let deep = deep_path resolved ds c.args.targets.now c.in_ok-order.field-0 c.in-Beyond.path path c.requires.names c.requires.targets c.in_ok-order.ensures c.in-Beyond.is c.as_slice-path.ensures in
-    let Refused : DeclaredItem → Type 0 = λ d. IsFirst d.ident.text names × IsRefusalOf InlineDepth d.ident.span deep_message names c.in_ok-deep-in-Beyond.field-0 in
+    let Refused : DeclaredItem → Type 0 = λ d. IsFirst d.ident.text names × IsRefusalOf InlineDepth d.ident.span deep_message names c.in_ok-inline_depth-in-Beyond.field-0 in
     let first = first_along resolved ds path 0 x c.requires.names (omega (arith, deep.1)) deep.2 in
-    inr (path, deep.0, deep.1, somewhere_at Refused declaration_view ds (get_or path 0 0) x deep.2 (first, c.in_ok-deep-in-Beyond.ensures))
+    inr (path, deep.0, deep.1, somewhere_at Refused declaration_view ds (get_or path 0 0) x deep.2 (first, c.in_ok-inline_depth-in-Beyond.ensures))

@@ -12,7 +12,7 @@ use Rattle.syntax.specs.Source.{Reads, NestsTooDeep}
 use Rattle.syntax.specs.declared.item.Declaration.{Declaration}
 use Rattle.syntax.specs.Items.{DeclaredItem, declaration_view, declarations_view}
 use Rattle.derive_decl.specs.declared.resolved.Resolved.{Resolved}
-use Rattle.derive_decl.specs.Resolved.{DeclarationOf, declaration_names}
+use Rattle.shapes.specs.Declarations.{DeclarationOf, declaration_names}
 use Rattle.derive_decl.specs.Views.{resolved_view}
 use Rattle.closing.specs.Described.{AreComponents}
 use Rattle.compose.specs.Bounds.{AreBounded, IsUnbounded}

@@ -1,9 +1,7 @@
-use Rattle.std.proofs.Common.{map, inl, inr}
+use Rattle.std.proofs.Common.{◌≡◌, map, sym, subst, inl, inr}
 use Rattle.std.proofs.lemmas.Result.{err_from_is_err_and}
-use Rattle.syntax.specs.Items.{declarations_view}
+use Rattle.texts.specs.Names.{IsDistinct}
 use Rattle.derive_decl.specs.Views.{resolved_view}
-use Rattle.compose.proofs.Faulty.{faulty_all}
-use Rattle.compose.proofs.Whole.{settled}
 use Rattle.compose.proofs.derive.settle.Goals as goal
 
 pub returns-in_err-only_derivable-clause-refused : goal.returns-in_err-only_derivable-clause-refused
@@ -21,7 +19,7 @@ returns-in_err-places-clause-refused c =
     rw (p.1, p.2)
     (elim c.in_err-places.ensures.refused [
       | inl memory ↦ inl memory
-      | inr fault ↦ inr (inr (c.in_ok-only_derivable.ensures.derivable, inl (fault.0, inl fault.1, fault.2)))
+      | inr twice ↦ inr (inr (c.in_ok-only_derivable.ensures.derivable, inl twice))
     ])
 
 pub returns-in_err-resolved-clause-refused : goal.returns-in_err-resolved-clause-refused
@@ -30,11 +28,17 @@ returns-in_err-resolved-clause-refused c =
     rw (p.1, p.2)
     (elim c.in_err-resolved.ensures.refused [
       | inl memory ↦ inl memory
-      | inr fault ↦ inr (inr (c.in_ok-only_derivable.ensures.derivable, faulty_all c.args.config.now.renames (declarations_view c.args.declarations.now) c.in_err-resolved.field-0.0 c.requires fault))
+      | inr fault ↦ inr (inr (c.in_ok-only_derivable.ensures.derivable, inr fault))
     ])
 
 pub returns-clause-settled : goal.returns-clause-settled
-returns-clause-settled c =
-    let ds = declarations_view c.args.declarations.now in
-    let ss = map resolved_view c.in_ok-resolved.resolved in
-    settled c.resolved_have_no_fault.ensures c.resolved_are_within.ensures c.args.config.now.renames ds ss c.in_ok-resolved.ensures.resolved c.in_ok-resolved.ensures.small c.in_ok-resolved.ensures.allowed c.in_ok-places.ensures.distinct c.in_ok-resolved.ensures.distinct c.in_ok-only_derivable.ensures.derivable
+returns-clause-settled c = record {
+  resolves = c.in_ok-resolved.ensures.resolved;
+  clear = record {
+    derivable = c.in_ok-only_derivable.ensures.derivable;
+    faultless = λ e h. elim h [ inl twice ↦ c.in_ok-places.ensures.once e twice | inr fault ↦ c.in_ok-resolved.ensures.faultless e fault ];
+  };
+  names = c.in_ok-resolved.ensures.names;
+  apart = (subst IsDistinct (sym c.in_ok-resolved.ensures.names) c.in_ok-places.ensures.distinct, c.in_ok-resolved.ensures.distinct);
+  within = c.in_ok-resolved.ensures.within;
+}

@@ -1,13 +1,13 @@
 use Rattle.std.proofs.Common.{◌≡◌, map, ap, sym, ◌∙◌, subst, inl, inr}
 use Rattle.std.proofs.lemmas.Result.{err_from_is_err_and}
-use Rattle.diag.specs.Refusal.{IsRefusal}
-use Rattle.diag.specs.declared.kind.Kind.TheVariants.{DuplicateName}
 use Rattle.texts.specs.Names.{IsDistinct}
-use Rattle.written_types.specs.declared.written.Ident.{Ident}
 use Rattle.syntax.specs.Items.{field_view}
-use Rattle.scopes.specs.Names.{Repeats, texts, duplicate_message}
+use Rattle.scopes.specs.Names.{texts, IsGivenTwice}
 use Rattle.derive_decl.specs.declared.member.Member.{Member}
-use Rattle.derive_decl.specs.Fields.{kept, written_idents}
+use Rattle.derive_decl.specs.Fields.{kept, rules_view, written_idents}
+use Rattle.derive_decl.specs.Faults.{IsFaultyMember}
+use Rattle.derive_decl.specs.Views.{known}
+use Rattle.derive_decl.proofs.Faultless.{none_somewhere}
 use Rattle.derive_decl.proofs.Growing.{member_names-are}
 use Rattle.derive_decl.proofs.named_struct.distinct_members.Goals as goal
 
@@ -20,8 +20,15 @@ returns-in_err-places_of-clause-refused c =
     rw (p.1, p.2)
     (elim c.in_err-places_of.ensures.refused [
       | inl memory ↦ inl memory
-      | inr fault ↦ inr (inr (subst (λ xs. (x : Ident) × Repeats xs x × IsRefusal DuplicateName x.span (duplicate_message x.text) e) idents fault))
+      | inr twice ↦ inr (inr (subst (λ xs. IsGivenTwice xs e) idents twice))
     ])
+
+pub returns-clause-faultless : goal.returns-clause-faultless
+returns-clause-faultless c e (inl somewhere) = none_somewhere (IsFaultyMember (known c.args.container.now) (rules_view c.args.rules.now)) (kept (map field_view c.args.fields.now)) c.in_ok-members.ensures.faultless e somewhere
+returns-clause-faultless c e (inr twice) =
+    let idents : map (λ (m : Member). m.ident) c.as_slice.result.now ≡ written_idents c.args.container.now.config.now.renames c.args.rules.now.rename_all (kept (map field_view c.args.fields.now)) =
+    ap (map (λ (m : Member). m.ident)) c.as_slice.ensures ∙ sym c.in_ok-members.ensures.idents in
+    c.in_ok-places_of.ensures.once e (subst (λ xs. IsGivenTwice xs e) (sym idents) twice)
 
 pub returns-clause-distinct : goal.returns-clause-distinct
 returns-clause-distinct c =

@@ -1,5 +1,5 @@
 use Rattle.std.proofs.Common.{◌≡◌, map, take}
-use Rattle.derive_decl.specs.Terms.{required_names}
+use Rattle.shapes.specs.Terms.{required_names}
 use Rattle.derive_decl.specs.Views.{member_view}
 use Rattle.derive_decl.proofs.named_struct.required_of.Given as goal
 

@@ -2,13 +2,20 @@ use Rattle.std.proofs.Common.{◌≡◌, ◌<◌, length, map, take, subst, arit
 use Rattle.std.proofs.lemmas.Grind.{common_steps}
 use Rattle.std.proofs.lemmas.Result.{err_from_is_err_and}
 use Rattle.std.specs.List.{AllByRecursion}
+use Rattle.diag.specs.Refusal.{RefusesNone}
 use Rattle.syntax.specs.Items.{field_view}
+use Rattle.syntax.specs.Named.{HasName}
 use Rattle.derive_decl.specs.Fields.{kept, rules_view, written_idents}
 use Rattle.derive_decl.specs.Resolved.{all_of, member_of}
-use Rattle.derive_decl.specs.Faults.{IsFaultyMember, IsSmall}
+use Rattle.derive_decl.specs.Faults.{IsFaultyMember}
 use Rattle.derive_decl.specs.Views.{known, member_view}
-use Rattle.derive_decl.proofs.Growing.{members_more, idents_more, kept_facts_more, somewhere_kept}
+use Rattle.derive_decl.proofs.Growing.{fact_at, members_more, idents_more, kept_facts_more, somewhere_kept}
 use Rattle.derive_decl.proofs.named_struct.resolve_members.Goals as goal
+
+pub resolve_member-requires : goal.resolve_member-requires
+resolve_member-requires c =
+    let lt : c.loop-field.field-index < length c.args.fields.now = omega arith in
+    fact_at HasName field_view c.args.fields.now c.loop-field.field-index c.field-item.result lt c.field-item.is c.requires
 
 pub returns-in_err-member-clause-refused : goal.returns-in_err-member-clause-refused
 returns-in_err-member-clause-refused c =
@@ -29,7 +36,7 @@ loop-field-preserved c =
     rw c.in_ok-push_some.ensures (
       members_more (known c.args.container.now) (rules_view c.args.rules.now) fields at field c.loop-field.members _ lt c.field-item.is c.loop-field.invariant.0 c.in_ok-member.ensures.member,
       idents_more c.args.container.now.config.now.renames c.args.rules.now.rename_all fields at field c.loop-field.members _ lt c.field-item.is c.loop-field.invariant.1 c.in_ok-member.ensures.ident,
-      kept_facts_more IsSmall fields at field lt c.field-item.is c.loop-field.invariant.2 c.in_ok-member.ensures.small,
+      kept_facts_more (λ f. RefusesNone (IsFaultyMember (known c.args.container.now) (rules_view c.args.rules.now) f)) fields at field lt c.field-item.is c.loop-field.invariant.2 c.in_ok-member.ensures.faultless,
     )
 
 pub returns-clause-members : goal.returns-clause-members
@@ -42,7 +49,7 @@ returns-clause-idents c =
     let whole : take c.loop-field.field-index c.args.fields.now ≡ c.args.fields.now = grind (arith, common_steps) in
     subst (λ fs. written_idents c.args.container.now.config.now.renames c.args.rules.now.rename_all (kept (map field_view fs)) ≡ map (λ m. m.ident) c.loop-field.members) whole c.loop-field.invariant.1
 
-pub returns-clause-small : goal.returns-clause-small
-returns-clause-small c =
+pub returns-clause-faultless : goal.returns-clause-faultless
+returns-clause-faultless c =
     let whole : take c.loop-field.field-index c.args.fields.now ≡ c.args.fields.now = grind (arith, common_steps) in
-    subst (λ fs. AllByRecursion IsSmall (kept (map field_view fs))) whole c.loop-field.invariant.2
+    subst (λ fs. AllByRecursion (λ f. RefusesNone (IsFaultyMember (known c.args.container.now) (rules_view c.args.rules.now) f)) (kept (map field_view fs))) whole c.loop-field.invariant.2

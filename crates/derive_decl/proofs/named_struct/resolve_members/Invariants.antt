@@ -1,9 +1,10 @@
 use Rattle.std.proofs.Common.{◌≡◌, map, take, Some}
 use Rattle.std.specs.List.{AllByRecursion}
+use Rattle.diag.specs.Refusal.{RefusesNone}
 use Rattle.syntax.specs.Items.{field_view}
 use Rattle.derive_decl.specs.Fields.{kept, rules_view, written_idents}
 use Rattle.derive_decl.specs.Resolved.{all_of, member_of}
-use Rattle.derive_decl.specs.Faults.{IsSmall}
+use Rattle.derive_decl.specs.Faults.{IsFaultyMember}
 use Rattle.derive_decl.specs.Views.{known, member_view}
 use Rattle.derive_decl.proofs.named_struct.resolve_members.Given as goal
 
@@ -12,4 +13,4 @@ abbrev pub invariant-loop-field : goal.invariant-loop-field
 invariant-loop-field l =
     (all_of (member_of (known l.container) (rules_view l.rules)) (kept (map field_view (take l.field-index l.fields))) ≡ Some (map member_view l.members))
     × (written_idents l.container.config.now.renames l.rules.rename_all (kept (map field_view (take l.field-index l.fields))) ≡ map (λ m. m.ident) l.members)
-    × AllByRecursion IsSmall (kept (map field_view (take l.field-index l.fields)))
+    × AllByRecursion (λ f. RefusesNone (IsFaultyMember (known l.container) (rules_view l.rules) f)) (kept (map field_view (take l.field-index l.fields)))

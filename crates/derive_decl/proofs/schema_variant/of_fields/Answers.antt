@@ -6,8 +6,8 @@ use Rattle.syntax.specs.declared.item.Field.{Field}
 use Rattle.syntax.specs.Items.{field_view, fields_view, unnamed}
 use Rattle.derive_decl.specs.Fields.{field_rules}
 use Rattle.derive_decl.specs.Resolved.{form_of}
-use Rattle.derive_decl.specs.Faults.{AreFaulty, AreFaultyNamed}
-use Rattle.derive_decl.specs.Views.{known}
+use Rattle.derive_decl.specs.Faults.{AreFaulty, AreFaultyNamed, AreFaultyTypes}
+use Rattle.derive_decl.specs.Views.{known, items_of}
 use Rattle.derive_decl.proofs.schema_variant.of_fields.Goals as goal
 
 pub returns-in_err-new-in-Named-clause-refused : goal.returns-in_err-new-in-Named-clause-refused
@@ -29,3 +29,19 @@ returns-in_ok-new-in-Unnamed-clause-form c =
     ap (λ fs. form_of (known root.container.now) rules (fields_view fs)) c.in-Unnamed.is
     ∙ ap (λ (fs : List Field). form_of (known root.container.now) rules (unnamed (map field_view fs))) (sym c.as_slice-in-Unnamed.ensures)
     ∙ c.in_ok-new-in-Unnamed.ensures.form rules
+
+pub returns-in_ok-new-in-Named-clause-faultless : goal.returns-in_ok-new-in-Named-clause-faultless
+returns-in_ok-new-in-Named-clause-faultless c e fault =
+    let root = c.args.root.now in
+    let around = known root.container.now in
+    let items = items_of root in
+    c.in_ok-new-in-Named.ensures.faultless e
+    (subst (λ fs. AreFaultyNamed around items (map field_view fs) e) (sym c.as_slice.ensures) (subst (λ b. AreFaulty around items root.ident.now (fields_view b) e) c.in-Named.is fault))
+
+pub returns-in_ok-new-in-Unnamed-clause-faultless : goal.returns-in_ok-new-in-Unnamed-clause-faultless
+returns-in_ok-new-in-Unnamed-clause-faultless c e fault =
+    let root = c.args.root.now in
+    let around = known root.container.now in
+    let items = items_of root in
+    c.in_ok-new-in-Unnamed.ensures.faultless e
+    (subst (λ fs. AreFaultyTypes around root.ident.now (map field_view fs) e) (sym c.as_slice-in-Unnamed.ensures) (subst (λ b. AreFaulty around items root.ident.now (fields_view b) e) c.in-Unnamed.is fault))

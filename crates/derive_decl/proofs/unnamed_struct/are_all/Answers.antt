@@ -1,6 +1,6 @@
 use Rattle.std.proofs.Common.{◌+◌, ◌&&◌, map, drop, ap, sym, ◌∙◌}
 use Rattle.open_types.specs.Open.{open_view}
-use Rattle.derive_decl.specs.Terms.{are_all}
+use Rattle.shapes.specs.Terms.{are_all}
 use Rattle.derive_decl.proofs.Alike.{alike_at, not_same, all_same}
 use Rattle.derive_decl.proofs.unnamed_struct.are_all.Goals as goal
 

@@ -1,6 +1,6 @@
 use Rattle.std.proofs.Common.{◌≡◌, map, drop}
 use Rattle.open_types.specs.Open.{open_view}
-use Rattle.derive_decl.specs.Terms.{are_all}
+use Rattle.shapes.specs.Terms.{are_all}
 use Rattle.derive_decl.proofs.unnamed_struct.are_all.Given as goal
 
 -- the types so far are the same, so those still to come decide

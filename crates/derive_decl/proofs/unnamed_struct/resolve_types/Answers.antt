@@ -4,9 +4,10 @@ use Rattle.std.proofs.lemmas.Result.{err_from_is_err_and}
 use Rattle.std.specs.List.{AllByRecursion}
 use Rattle.open_types.specs.Open.{open_view}
 use Rattle.resolving.specs.Resolved.{type_of}
+use Rattle.diag.specs.Refusal.{RefusesNone}
 use Rattle.syntax.specs.Items.{FieldItem, field_view}
 use Rattle.derive_decl.specs.Resolved.{all_of}
-use Rattle.derive_decl.specs.Faults.{IsFaultyType, IsSmall}
+use Rattle.derive_decl.specs.Faults.{IsFaultyType}
 use Rattle.derive_decl.specs.Views.{known}
 use Rattle.derive_decl.proofs.Growing.{all_more, facts_more, somewhere}
 use Rattle.derive_decl.proofs.unnamed_struct.resolve_types.Goals as goal
@@ -29,7 +30,7 @@ loop-field-preserved c =
     let lt : at < length fields = omega arith in
     rw c.in_ok-push.ensures.ok (
       all_more (λ (f : FieldItem). type_of (known c.args.container.now).place_of f.ty) field_view open_view fields at field c.loop-field.types _ lt c.field-item.is c.loop-field.invariant.0 c.in_ok-resolve.ensures.resolved,
-      facts_more IsSmall field_view fields at field lt c.field-item.is c.loop-field.invariant.1 c.in_ok-resolve.ensures.small,
+      facts_more (λ f. RefusesNone (IsFaultyType (known c.args.container.now) f)) field_view fields at field lt c.field-item.is c.loop-field.invariant.1 (λ e h. c.in_ok-resolve.ensures.faultless h.0 h.1),
     )
 
 pub returns-clause-types : goal.returns-clause-types
@@ -37,7 +38,7 @@ returns-clause-types c =
     let whole : take c.loop-field.field-index c.args.fields.now ≡ c.args.fields.now = grind (arith, common_steps) in
     subst (λ fs. all_of (λ (f : FieldItem). type_of (known c.args.container.now).place_of f.ty) (map field_view fs) ≡ Some (map open_view c.loop-field.types)) whole c.loop-field.invariant.0
 
-pub returns-clause-small : goal.returns-clause-small
-returns-clause-small c =
+pub returns-clause-faultless : goal.returns-clause-faultless
+returns-clause-faultless c =
     let whole : take c.loop-field.field-index c.args.fields.now ≡ c.args.fields.now = grind (arith, common_steps) in
-    subst (λ fs. AllByRecursion IsSmall (map field_view fs)) whole c.loop-field.invariant.1
+    subst (λ fs. AllByRecursion (λ f. RefusesNone (IsFaultyType (known c.args.container.now) f)) (map field_view fs)) whole c.loop-field.invariant.1

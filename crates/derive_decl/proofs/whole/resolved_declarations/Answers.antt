@@ -1,13 +1,19 @@
-use Rattle.std.proofs.Common.{◌≡◌, ◌<◌, ◌∙◌, List, ap, get_or, length, map, sym, subst, arith, inl, inr}
+use Rattle.std.proofs.Common.{◌≡◌, ◌<◌, ◌∙◌, List, length, get_or, map, take, ap, sym, subst, arith, inl, inr, Some}
+use Rattle.std.proofs.lemmas.Grind.{common_steps}
 use Rattle.std.proofs.lemmas.List.{map_push}
 use Rattle.std.proofs.lemmas.Result.{err_from_is_err_and}
+use Rattle.std.specs.List.{AllByRecursion}
+use Rattle.diag.specs.Refusal.{RefusesNone}
 use Rattle.syntax.specs.declared.item.Declaration.{Declaration}
 use Rattle.syntax.specs.Items.{declaration_view, declarations_view}
-use Rattle.derive_decl.specs.Resolved.{around_of, resolved_of}
+use Rattle.syntax.specs.Named.{IsNamedBody}
+use Rattle.shapes.specs.Declarations.{MembersDiffer}
+use Rattle.derive_decl.specs.Resolved.{around_of, all_of, resolved_of}
 use Rattle.derive_decl.specs.Faults.{IsFaultyItem}
 use Rattle.derive_decl.specs.Views.{resolved_view}
-use Rattle.derive_decl.specs.Whole.{MembersDiffer, IsSmallItem, IsAllowedItem}
-use Rattle.derive_decl.proofs.Growing.{all_more, facts_more, somewhere, differ-push}
+use Rattle.derive_decl.proofs.Faultless.{none_somewhere}
+use Rattle.derive_decl.proofs.Growing.{all_more, facts_more, fact_at, somewhere, differ-push}
+use Rattle.derive_decl.proofs.Within.{names_are, all_within}
 use Rattle.derive_decl.proofs.whole.resolved_declarations.Goals as goal
 
 pub returns-in_err-resolved_of-clause-refused : goal.returns-in_err-resolved_of-clause-refused
@@ -34,6 +40,43 @@ loop-owner-preserved c =
     rw c.in_ok-push.ensures.ok (
       all_more (resolved_of (around_of c.args.config.now.renames (declarations_view c.args.declarations.now))) declaration_view resolved_view items at d c.loop-owner.resolved _ lt is c.loop-owner.invariant.0 c.in_ok-resolved_of.ensures.resolved,
       subst MembersDiffer (sym (map_push resolved_view c.loop-owner.resolved _)) (differ-push (map resolved_view c.loop-owner.resolved) _ c.loop-owner.invariant.1 c.in_ok-resolved_of.ensures.distinct),
-      facts_more IsSmallItem declaration_view items at d lt is c.loop-owner.invariant.2 c.in_ok-resolved_of.ensures.small,
-      facts_more IsAllowedItem declaration_view items at d lt is c.loop-owner.invariant.3 c.in_ok-resolved_of.ensures.allowed,
+      facts_more (λ x. RefusesNone (IsFaultyItem (around_of c.args.config.now.renames (declarations_view c.args.declarations.now)) x)) declaration_view items at d lt is c.loop-owner.invariant.2
+      c.in_ok-resolved_of.ensures.faultless,
     )
+
+pub resolved_of-requires : goal.resolved_of-requires
+resolved_of-requires c =
+    let items = c.args.declarations.now.items in
+    let at = c.loop-owner.owner in
+    let d = c.index-as_slice-owner.result in
+    let lt : at < length items = omega arith in
+    let is : d ≡ get_or items at d = c.index-as_slice-owner.is ∙ ap (λ (xs : List Declaration). get_or xs at d) c.as_slice.ensures in
+    fact_at (λ x. IsNamedBody x.body) declaration_view items at d lt is c.requires.named
+
+-- all of them, where the loop has ended
+pub returns-clause-resolved : goal.returns-clause-resolved
+returns-clause-resolved c =
+    let whole : take c.loop-owner.owner c.args.declarations.now.items ≡ c.args.declarations.now.items = grind (arith, common_steps) in
+    let rows = c.args.config.now.renames in
+    subst (λ ds. all_of (resolved_of (around_of rows (declarations_view c.args.declarations.now))) (map declaration_view ds) ≡ Some (map resolved_view c.loop-owner.resolved)) whole c.loop-owner.invariant.0
+
+pub returns-clause-names : goal.returns-clause-names
+returns-clause-names c =
+    let whole : take c.loop-owner.owner c.args.declarations.now.items ≡ c.args.declarations.now.items = grind (arith, common_steps) in
+    let rows = c.args.config.now.renames in
+    let ds = declarations_view c.args.declarations.now in
+    names_are rows ds (map resolved_view c.loop-owner.resolved) (subst (λ xs. all_of (resolved_of (around_of rows ds)) (map declaration_view xs) ≡ Some (map resolved_view c.loop-owner.resolved)) whole c.loop-owner.invariant.0)
+
+pub returns-clause-within : goal.returns-clause-within
+returns-clause-within c =
+    let whole : take c.loop-owner.owner c.args.declarations.now.items ≡ c.args.declarations.now.items = grind (arith, common_steps) in
+    let rows = c.args.config.now.renames in
+    let ds = declarations_view c.args.declarations.now in
+    all_within c.resolved_are_within.ensures rows ds (map resolved_view c.loop-owner.resolved) (subst (λ xs. all_of (resolved_of (around_of rows ds)) (map declaration_view xs) ≡ Some (map resolved_view c.loop-owner.resolved)) whole c.loop-owner.invariant.0)
+
+pub returns-clause-faultless : goal.returns-clause-faultless
+returns-clause-faultless c =
+    let whole : take c.loop-owner.owner c.args.declarations.now.items ≡ c.args.declarations.now.items = grind (arith, common_steps) in
+    let around = around_of c.args.config.now.renames (declarations_view c.args.declarations.now) in
+    none_somewhere (IsFaultyItem around) (declarations_view c.args.declarations.now)
+    (subst (λ xs. AllByRecursion (λ x. RefusesNone (IsFaultyItem around x)) (map declaration_view xs)) whole c.loop-owner.invariant.2)

@@ -7,7 +7,7 @@ use Rattle.filling.proofs.fill.+filled.Goals as goal
 pub filled_object-returns : goal.filled_object-returns
 filled_object-returns g t c =
     object_view-is g.F.Fill.meaning _
-    ∙ rw (c.in_ok-plain.ensures.format, c.in_ok-plain.ensures.enum_values, c.in_ok-plain.ensures.required, c.in_ok-plain.ensures.notes, c.in_ok-properties.ensures, c.as_slice.ensures, c.in_ok-additional.ensures, c.in_ok-property_names.ensures)
+    ∙ rw (c.in_ok-facts.ensures.facts, c.in_ok-properties.ensures, c.as_slice.ensures, c.in_ok-additional.ensures, c.in_ok-property_names.ensures)
     (sym (ap (bind (g.F.Fill.put c.args.fill.now)) (object_view-is g.F.Fill.origin c.args.object.now)))
 
 pub filled_properties-loop-property-preserved : goal.filled_properties-loop-property-preserved

@@ -25,7 +25,7 @@ object_value-returns t c =
     let e6 = c.in_ok-put_given-5.ensures (part_form (optional_view (λ l. l) o.property_names)) c.in_ok-names.ensures _ e5 in
     let needed : option_map view c.in_ok-required.required ≡ option_map data_of (required_form o.required) = rw c.as_slice-2.ensures at c.in_ok-required.ensures in
     let e7 = c.in_ok-put_given-6.ensures (required_form o.required) needed _ e6 in
-    let e8 = c.in_ok-put_bound.ensures _ e7 in
+    let e8 = c.in_ok-put_bounds.ensures _ e7 in
     let e9 = c.in_ok-put_notes.ensures _ e8 in
     object_is c.put_notes.new.members ∙ ap data_object e9 ∙ ap (λ s. data_of (form s)) (sym (object_view-is o))
 

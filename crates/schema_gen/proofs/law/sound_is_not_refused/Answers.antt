@@ -3,7 +3,7 @@ use Rattle.diag.specs.declared.error.DeriveError.{DeriveError}
 use Rattle.syntax.specs.Items.{DeclaredItem}
 use Rattle.syntax.specs.Source.{Reads}
 use Rattle.configuration.specs.Configuration.{Configuration}
-use Rattle.derive_decl.specs.Resolved.{DeclarationOf}
+use Rattle.shapes.specs.Declarations.{DeclarationOf}
 use Rattle.derive_decl.specs.Whole.{resolved_declarations}
 use Rattle.compose.specs.Bounds.{AreBounded, BoundedAreNotRefused}
 use Rattle.compose.specs.Faults.{AreAtFault, IsBeyond, IsRefused, AreClear}
@@ -25,11 +25,7 @@ clear_text one bounded c source e sound (inr (inr (ds, read, shallow, fault))) =
 
     by : IsFine ds → AreAtFault c.renames ds e ⊎ IsBeyond c ds e → ⊥
     by fine (inl (inl (span, attributed, is))) = fine.0.derivable span attributed
-    by fine (inl (inr (derivable, inl (x, duplicate, is)))) = fine.0.distinct x duplicate
-    by fine (inl (inr (derivable, inr (inl (fault, found, is))))) = fine.0.resolves fault found
-    by fine (inl (inr (derivable, inr (inr (inl (x, fieldless, is)))))) = fine.0.fielded x fieldless
-    by fine (inl (inr (derivable, inr (inr (inr (inl rowless)))))) = fine.0.written e rowless
-    by fine (inl (inr (derivable, inr (inr (inr (inr disallowed)))))) = fine.0.allowed e disallowed
+    by fine (inl (inr (derivable, fault))) = fine.0.faultless e fault
     by fine (inr (clear, (resolved, resolves, unbounded))) = bounded c ds resolved e (fine.1 resolved resolves) unbounded
 
 long_and_short : (n : ℕ) → most_bytes < n → n ≤ most_bytes → ⊥

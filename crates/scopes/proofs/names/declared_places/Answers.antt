@@ -1,12 +1,9 @@
-use Rattle.std.proofs.Common.{◌≡◌, ◌⊎◌, ℕ, List, map, ap, ◌∙◌, subst, IfOk, IfErr}
+use Rattle.std.proofs.Common.{◌≡◌, ℕ, List, map, ap, ◌∙◌, subst, IfOk}
 use Rattle.std.specs.BTreeMap.{get_by_text}
-use Rattle.diag.specs.Refusal.{IsRefusal}
-use Rattle.diag.specs.declared.error.DeriveError.TheVariants.{Memory}
-use Rattle.diag.specs.declared.kind.Kind.TheVariants.{DuplicateName}
+use Rattle.diag.specs.Refusal.{Refuses, RefusesNone}
 use Rattle.texts.specs.Names.{IsDistinct, place_in}
-use Rattle.written_types.specs.declared.written.Ident.{Ident}
 use Rattle.syntax.specs.declared.item.Declaration.{Declaration}
-use Rattle.scopes.specs.Names.{texts, Repeats, duplicate_message}
+use Rattle.scopes.specs.Names.{texts, IsGivenTwice}
 use Rattle.scopes.proofs.Declared.{declared_names-are, declared_idents-are}
 use Rattle.scopes.proofs.names.declared_places.Goals as goal
 
@@ -20,7 +17,12 @@ returns-clause-distinct c =
     let names = ap (λ (ds : List Declaration). texts (map (λ d. d.ident) ds)) c.as_slice.ensures ∙ declared_names-are c.args.declarations.now.items in
     subst (λ ns. IfOk c.places_of.result (λ _. IsDistinct ns)) names c.places_of.ensures.distinct
 
+pub returns-clause-once : goal.returns-clause-once
+returns-clause-once c =
+    let idents = ap (λ (ds : List Declaration). map (λ d. d.ident) ds) c.as_slice.ensures ∙ declared_idents-are c.args.declarations.now.items in
+    subst (λ xs. IfOk c.places_of.result (λ _. RefusesNone (IsGivenTwice xs))) idents c.places_of.ensures.once
+
 pub returns-clause-refused : goal.returns-clause-refused
 returns-clause-refused c =
     let idents = ap (λ (ds : List Declaration). map (λ d. d.ident) ds) c.as_slice.ensures ∙ declared_idents-are c.args.declarations.now.items in
-    subst (λ xs. IfErr c.places_of.result (λ e. (e ≡ Memory) ⊎ ((x : Ident) × Repeats xs x × IsRefusal DuplicateName x.span (duplicate_message x.text) e))) idents c.places_of.ensures.refused
+    subst (λ xs. Refuses c.places_of.result (IsGivenTwice xs)) idents c.places_of.ensures.refused

@@ -1,15 +1,16 @@
-use Rattle.std.proofs.Common.{◌≡◌, ◌++◌, ℕ, List, map, IfOk, OnOk, string_bytes, ◌+◌, ◌<◌, length, [], ◌∷◌, Ok, Some, None, take, drop, get_or, ap, sym, ◌∙◌, arith, subst, inr, suc, nat_cmp, bytes_eq}
+use Rattle.std.proofs.Common.{◌≡◌, ◌++◌, ℕ, List, map, IfOk, OnOk, string_bytes, ◌+◌, ◌<◌, length, [], ◌∷◌, Ok, Some, None, take, drop, get_or, ap, sym, ◌∙◌, arith, subst, inl, inr, suc, nat_cmp, bytes_eq}
 use Rattle.std.specs.BTreeMap.{get_by_text, UpdatesBy}
 use Rattle.std.specs.String.{string_cmp}
 use Rattle.std.specs.Map.{update}
 use Rattle.std.specs.Cmp.Lexicographic.{slice_cmp}
 use Rattle.std.proofs.lemmas.List.{take_more, map_push, length-map, length-take-le}
+use Rattle.std.proofs.lemmas.Grind.{common_steps}
 use Rattle.std.proofs.lemmas.Map.Text.{btree_map_updates_text}
 use Rattle.diag.specs.Refusal.{IsRefusal}
 use Rattle.diag.specs.declared.kind.Kind.TheVariants.{DuplicateName}
 use Rattle.texts.specs.Names.{IsDistinct, place_in}
 use Rattle.scopes.specs.Names.{texts, duplicate_message}
-use Rattle.scopes.proofs.PlaceLaws.{places_more, distinct-push, is_in-from_place, texts-push, length-texts, map-split, none_from, ok_before}
+use Rattle.scopes.proofs.PlaceLaws.{places_more, distinct-push, is_in-from_place, texts-push, length-texts, map-split, none_from, ok_before, distinct_once}
 use Rattle.scopes.proofs.names.places_of.Goals as goal
 
 pub returns-in-Some-clause-refused : goal.returns-in-Some-clause-refused
@@ -26,11 +27,21 @@ returns-in-Some-clause-refused g c =
     let name : string_bytes c.in_ok-name.name ≡ x.text = c.in_ok-name.ensures.ok ∙ c.as_str.ensures ∙ ap (λ i. i.text) c.ident-ident.ensures in
     let old : get_by_text c.loop-at.places (string_bytes c.in_ok-name.name) ≡ Some c.in-Some.field-0 = sym (subst (λ r. IfOk r (λ o. o ≡ get_by_text c.loop-at.places (string_bytes c.in_ok-name.name))) ok c.insert.ensures.old) ∙ c.in-Some.is in
     let placed : place_in x.text (texts (map f (take at items))) ≡ Some c.in-Some.field-0 = sym (c.loop-at.invariant.0 x.text) ∙ ap (get_by_text c.loop-at.places) (sym name) ∙ old in
-    inr (
-      x,
-      (map f (take at items), map f (drop (suc at) items), split, is_in-from_place x.text _ _ placed),
-      subst (λ i. IsRefusal DuplicateName i.span (duplicate_message i.text) c.in_ok-duplicate.field-0) c.ident-ident.ensures c.in_ok-duplicate.ensures,
-    )
+    elim c.in_ok-duplicate_name.ensures [
+      | inl memory ↦ inl memory
+      | inr refusal ↦ inr (
+        x,
+        (map f (take at items), map f (drop (suc at) items), split, is_in-from_place x.text _ _ placed),
+        subst (λ i. IsRefusal DuplicateName i.span (duplicate_message i.text) c.in_ok-duplicate_name.field-0) c.ident-ident.ensures refusal,
+      )
+    ]
+
+pub returns-clause-once : goal.returns-clause-once
+returns-clause-once g c =
+    let items = c.args.items.now in
+    let f = g.T.Named.ident_of in
+    let whole : take c.loop-at.at items ≡ items = grind (arith, common_steps) in
+    distinct_once (map f items) (subst (λ is. IsDistinct (texts (map f is))) whole c.loop-at.invariant.1)
 
 pub loop-at-preserved : goal.loop-at-preserved
 loop-at-preserved g c =

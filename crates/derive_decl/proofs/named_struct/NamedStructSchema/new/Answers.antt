@@ -1,4 +1,4 @@
-use Rattle.std.proofs.Common.{map, subst, inl, inr}
+use Rattle.std.proofs.Common.{map, sym, subst, inl, inr}
 use Rattle.std.proofs.lemmas.Result.{err_from_is_err_and}
 use Rattle.attributes.specs.Attributes.{attribute_view}
 use Rattle.attributes.specs.AttributeReading.{serde_items}
@@ -27,3 +27,10 @@ returns-in_err-distinct_members-clause-refused c =
       | inl memory ↦ inl memory
       | inr fault ↦ inr (inr (subst (λ rules. AreFaultyMembers (known root.container.now) rules (map field_view c.args.fields.now) c.in_err-distinct_members.field-0.0) same fault))
     ])
+
+pub returns-clause-faultless : goal.returns-clause-faultless
+returns-clause-faultless c e (inl fault) = c.in_ok-rules.ensures.allowed e fault
+returns-clause-faultless c e (inr fault) =
+    let root = c.args.root.now in
+    let same = rules_are (serde_items (map attribute_view root.attributes.now)) c.in_ok-rules.rules c.in_ok-rules.ensures.read in
+    c.in_ok-distinct_members.ensures.faultless e (subst (λ rules. AreFaultyMembers (known root.container.now) rules (map field_view c.args.fields.now) e) (sym same) fault)

@@ -3,10 +3,10 @@ use Rattle.std.specs.Prelude.{◌≡◌, ℕ, Bool}
 use Rattle.acceptance.specs.Json.{Json}
 use Rattle.schema_core.specs.Meaning.{tree_accepts}
 use Rattle.component.specs.Leaves.{LeafOf, param, named}
-use Rattle.derive_decl.specs.Resolved.{DeclarationOf}
-use Rattle.derive_decl.specs.Terms.{term}
-use Rattle.derive_decl.specs.Shape.{type_shape, form_shape}
-use Rattle.derive_decl.specs.Plain.{IsPlainForm}
+use Rattle.shapes.specs.Declarations.{DeclarationOf}
+use Rattle.shapes.specs.Terms.{term}
+use Rattle.shapes.specs.Shape.{type_shape, form_shape}
+use Rattle.shapes.specs.Plain.{IsPlainForm}
 use Rattle.open_types.specs.Open as types
 
 -- what has the shape of a declaration at its leaf, whether it is inline or not

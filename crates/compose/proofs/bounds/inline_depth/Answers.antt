@@ -3,7 +3,7 @@ use Rattle.diag.specs.Diagnostics.{with_instance}
 use Rattle.derive_decl.specs.Views.{resolved_view}
 use Rattle.compose.specs.Bounds.{names_along}
 use Rattle.compose.proofs.Along.{declaration_along, deep_with, names_more}
-use Rattle.compose.proofs.bounds.deep.Goals as goal
+use Rattle.compose.proofs.bounds.inline_depth.Goals as goal
 
 pub bounds-resolved-place : goal.bounds-resolved-place
 bounds-resolved-place c = declaration_along c.args.resolved.now c.args.path.now c.loop-place.place-index 0 c.requires (omega arith)

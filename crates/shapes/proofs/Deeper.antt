@@ -4,8 +4,8 @@ use Rattle.std.specs.List.{list_all}
 use Rattle.acceptance.specs.Json.{Json, null, boolean, number, text, list, map, entries, elements, names, look, distinct, if_there}
 use Rattle.texts.specs.Names.{is_in}
 use Rattle.open_types.specs.Open.{Open, Opens, leaf, any_value, free_object, unit, tuple, items, set, map_of, option, through, param, named, no_types, more_types}
-use Rattle.derive_decl.specs.Resolved.{MemberOf, FormOf, named_fields, unnamed_fields, no_fields, DeclarationOf, declaration_at}
-use Rattle.derive_decl.specs.Shape.{is_null, is_list, is_map, type_shape, items_fit, member_fits, no_others, elements_fit, unnamed_shape, form_shape, shape}
+use Rattle.shapes.specs.Declarations.{MemberOf, FormOf, named_fields, unnamed_fields, no_fields, DeclarationOf, declaration_at}
+use Rattle.shapes.specs.Shape.{is_null, is_list, is_map, type_shape, items_fit, member_fits, no_others, elements_fit, unnamed_shape, form_shape, shape}
 
 both-more : (a b c d : Bool) → (IsTrue a → IsTrue c) → (IsTrue b → IsTrue d) → IsTrue (a && b) → IsTrue (c && d)
 both-more true true c d f g h = subst (λ x. IsTrue (x && d)) (sym (f refl)) (g refl)

@@ -3,8 +3,8 @@ use Rattle.std.specs.Prelude.{◌≡◌, ◌≢◌, ◌⊎◌, ℕ, List, [], �
 use Rattle.leaves.specs.Leaves.{kind_of}
 use Rattle.leaves.specs.declared.leaf.LeafKind.TheVariants as kinds
 use Rattle.open_types.specs.Open.{Open, Opens, leaf, any_value, free_object, unit, tuple, items, set, map_of, option, through, param, named, no_types, more_types}
-use Rattle.derive_decl.specs.Resolved.{FormOf, named_fields, unnamed_fields, no_fields, DeclarationOf, declaration_at, types_of}
-use Rattle.derive_decl.specs.Terms.{are_all}
+use Rattle.shapes.specs.Declarations.{FormOf, named_fields, unnamed_fields, no_fields, DeclarationOf, declaration_at, types_of}
+use Rattle.shapes.specs.Terms.{are_all}
 
 -- the declaration stands in the type
 abbrev mutual

@@ -7,7 +7,7 @@ use Rattle.leaves.specs.Leaves.{kind_of}
 use Rattle.leaves.specs.declared.leaf.LeafKind.{LeafKind}
 use Rattle.leaves.specs.declared.leaf.LeafKind.TheVariants as kinds
 use Rattle.open_types.specs.Open.{Open, Opens, leaf, any_value, free_object, unit, tuple, items, set, map_of, option, through, param, named, no_types, more_types}
-use Rattle.derive_decl.specs.Resolved.{MemberOf, FormOf, named_fields, unnamed_fields, no_fields, DeclarationOf, member_names, declaration_at}
+use Rattle.shapes.specs.Declarations.{MemberOf, FormOf, named_fields, unnamed_fields, no_fields, DeclarationOf, member_names, declaration_at}
 
 abbrev pub is_null : Json → Bool
 is_null null = true

@@ -1,7 +1,7 @@
 //! What rests on the definitions alone: laws that callers rely on, as contracts of functions that do nothing.
 
-ghost use Rattle.derive_decl.specs.Meaning.{TermsAccept};
-ghost use Rattle.derive_decl.specs.Shape.{ShapesDeepen};
+ghost use Rattle.shapes.specs.Meaning.{TermsAccept};
+ghost use Rattle.shapes.specs.Shape.{ShapesDeepen};
 
 /// The term of a plain declaration accepts a value exactly if the value has the shape of the declaration, where each
 /// leaf accepts what has the shape of its own.

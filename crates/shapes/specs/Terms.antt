@@ -7,12 +7,19 @@ use Rattle.schema_core.specs.Schema.{SchemaOf, object, array, no_schemas, Proper
 use Rattle.open_types.specs.Open.{Open}
 use Rattle.open_types.specs.Same.{same_type}
 use Rattle.component.specs.Leaves.{LeafOf}
-use Rattle.component.specs.Places.{place, noted, described, null_default, only_word}
-use Rattle.derive_decl.specs.Resolved.{MemberOf, FormOf, named_fields, unnamed_fields, no_fields, DeclarationOf}
+use Rattle.schema_core.specs.Notes.{noted, described, null_default}
+use Rattle.schema_core.specs.Objects.{word_facts, with_required, only_word}
+use Rattle.component.specs.Places.{place}
+use Rattle.shapes.specs.declared.remarks.Remarks.{Remarks}
+use Rattle.shapes.specs.Declarations.{MemberOf, FormOf, named_fields, unnamed_fields, no_fields, DeclarationOf}
+
+-- the schema of a field
+abbrev pub field_term : Remarks → Open → SchemaOf LeafOf
+field_term remarks t = place false false remarks.deprecated remarks.description t
 
 abbrev pub properties_of : List MemberOf → PropertiesOf LeafOf
 properties_of [] = no_properties
-properties_of (m ∷ ms) = property m.name (place false false m.deprecated m.description m.of) (properties_of ms)
+properties_of (m ∷ ms) = property m.name (field_term m.remarks m.of) (properties_of ms)
 
 abbrev pub required_names : List MemberOf → List (List ℕ)
 required_names [] = []
@@ -26,7 +33,7 @@ others_of true = truth false
 -- an object with these properties, which denies others or does not
 abbrev pub object_of : {X : Type 0} → Notes → Bool → List (List ℕ) → PropertiesOf X → SchemaOf X
 object_of notes denies required ps =
-    object (record { type_word = One word.Object; format = None; enum_values = None; required = required; minimum = None; notes = notes }) ps (others_of denies) no_part
+    object (with_required required (word_facts (One word.Object) notes)) ps (others_of denies) no_part
 
 -- a list of so many elements that the schema accepts
 abbrev pub list_of_length : {X : Type 0} → ℕ → Notes → SchemaOf X → SchemaOf X
@@ -41,18 +48,20 @@ abbrev pub any_object : {X : Type 0} → Bool → SchemaOf X
 any_object deprecated = only_word (One word.Object) (noted deprecated None)
 
 -- One field is read as its content; several of one type as so many of that type, and several others as so many objects. What stands in the list is deprecated, not the list.
-abbrev pub unnamed_term : Bool → Option (List ℕ) → List Open → SchemaOf LeafOf
-unnamed_term deprecated description [] = list_of_length 0 (described description) (any_object deprecated)
-unnamed_term deprecated description (t ∷ []) = place false false deprecated description t
-unnamed_term deprecated description (t ∷ u ∷ us) =
-    list_of_length (length (t ∷ u ∷ us)) (described description) (cond (are_all t (u ∷ us)) (place false false deprecated description t) (any_object deprecated))
+abbrev pub unnamed_term : Remarks → List Open → SchemaOf LeafOf
+unnamed_term remarks [] = list_of_length 0 (described remarks.description) (any_object remarks.deprecated)
+unnamed_term remarks (t ∷ []) = field_term remarks t
+unnamed_term remarks (t ∷ u ∷ us) =
+    list_of_length (length (t ∷ u ∷ us)) (described remarks.description)
+    (cond (are_all t (u ∷ us)) (field_term remarks t) (any_object remarks.deprecated))
 
 -- null as the default is not deprecated
-abbrev pub form_term : Bool → Option (List ℕ) → FormOf → SchemaOf LeafOf
-form_term deprecated description (named_fields denies ms) = object_of (noted deprecated description) denies (required_names ms) (properties_of ms)
-form_term deprecated description (unnamed_fields ts) = unnamed_term deprecated description ts
-form_term deprecated description no_fields = only_word Any (null_default description)
+abbrev pub form_term : Remarks → FormOf → SchemaOf LeafOf
+form_term remarks (named_fields denies ms) =
+    object_of (noted remarks.deprecated remarks.description) denies (required_names ms) (properties_of ms)
+form_term remarks (unnamed_fields ts) = unnamed_term remarks ts
+form_term remarks no_fields = only_word Any (null_default remarks.description)
 
 -- The schema of a declaration: an object with a property for each member, a list or its content, or null as the default.
 abbrev pub term : DeclarationOf → SchemaOf LeafOf
-term s = form_term s.deprecated s.description s.form
+term s = form_term s.remarks s.form

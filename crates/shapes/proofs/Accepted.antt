@@ -8,7 +8,7 @@ use Rattle.texts.specs.Names.{is_in}
 use Rattle.schema_core.specs.declared.tree.SchemaTypeInner.TheVariants as word
 use Rattle.schema_core.specs.declared.tree.TypeWord.TheVariants.{Any}
 use Rattle.schema_core.specs.declared.notes.Notes.{Notes}
-use Rattle.schema_core.specs.Notes.{no_notes}
+use Rattle.schema_core.specs.Notes.{no_notes, noted, described}
 use Rattle.schema_core.specs.Schema.{SchemaOf, schema_count, property_names}
 use Rattle.schema_core.specs.Schema as tree
 use Rattle.schema_core.specs.Form.{array_word}
@@ -20,12 +20,14 @@ use Rattle.open_types.specs.Open.{Open, Opens, leaf, any_value, free_object, uni
 use Rattle.open_types.specs.Same.{same_type}
 use Rattle.open_types.specs.Laws.{SameIsEqual}
 use Rattle.component.specs.Leaves as named_leaf
-use Rattle.component.specs.Places.{word_of, minimum_of, type_word, noted, described, only_word, null_alone, one_of_null, or_null, beside, in_place, declared, place, inline_places}
-use Rattle.derive_decl.specs.Resolved.{MemberOf, FormOf, named_fields, unnamed_fields, no_fields, member_types, member_names}
-use Rattle.derive_decl.specs.Shape.{is_null, is_text, is_boolean, is_number, is_list, is_map, reads, type_shape, items_fit, member_fits, no_others, elements_fit, unnamed_shape, form_shape}
-use Rattle.derive_decl.specs.Plain.{IsTextKey, IsPlainType, ArePlainTypes, AreAllPlain, AreAlike, IsPlainForm}
-use Rattle.derive_decl.specs.Terms.{properties_of, required_names, object_of, list_of_length, are_all, any_object, unnamed_term, form_term}
-use Rattle.derive_decl.specs.Meaning.{leaf_shape, TermsAccept}
+use Rattle.schema_core.specs.Objects.{only_word}
+use Rattle.component.specs.Places.{word_of, minimum_of, type_word, null_alone, one_of_null, or_null, beside, in_place, declared, place, inline_places}
+use Rattle.shapes.specs.declared.remarks.Remarks.{Remarks}
+use Rattle.shapes.specs.Declarations.{MemberOf, FormOf, named_fields, unnamed_fields, no_fields, member_types, member_names}
+use Rattle.shapes.specs.Shape.{is_null, is_text, is_boolean, is_number, is_list, is_map, reads, type_shape, items_fit, member_fits, no_others, elements_fit, unnamed_shape, form_shape}
+use Rattle.shapes.specs.Plain.{IsTextKey, IsPlainType, ArePlainTypes, AreAllPlain, AreAlike, IsPlainForm}
+use Rattle.shapes.specs.Terms.{field_term, properties_of, required_names, object_of, list_of_length, are_all, any_object, unnamed_term, form_term}
+use Rattle.shapes.specs.Meaning.{leaf_shape, TermsAccept}
 
 -- ---- conditions
 
@@ -302,7 +304,7 @@ module _ (instance : ℕ → Json → Bool) where
       (properties_accept (leaf_shape instance) (properties_of ms) es && (list_all (λ k. is_in k (names es)) (required_names ms) && true)) ≡ list_all (member_fits instance es) ms
   members-accept [] h es = refl
   members-accept (m ∷ ms) h es =
-      (λ i. (if_there (look m.name es) (λ v. place-accepts false false m.deprecated m.description m.of h.0 v i) && properties_accept (leaf_shape instance) (properties_of ms) es)
+      (λ i. (if_there (look m.name es) (λ v. place-accepts false false m.remarks.deprecated m.remarks.description m.of h.0 v i) && properties_accept (leaf_shape instance) (properties_of ms) es)
       && (list_all (λ k. is_in k (names es)) (required_names (m ∷ ms)) && true))
       ∙ member-accepts m.required (if_there (look m.name es) (type_shape instance m.of)) (properties_accept (leaf_shape instance) (properties_of ms) es) (λ k. is_in k (names es)) m.name (required_names ms)
       ∙ ap (λ b. member_fits instance es m && b) (members-accept ms h.1 es)
@@ -331,32 +333,32 @@ module _ (instance : ℕ → Json → Bool) where
       ∙ (λ i. type_shape instance (equal i) v && elements-accept same t us (and-right (same_type t u) (are_all t us) h) vs i)
 
   -- one place is the schema itself; of several alike, a list of so many
-  unnamed-accepts : SameIsEqual → (deprecated : Bool) (description : Option (List ℕ)) (ts : List Open) → AreAllPlain ts → AreAlike ts → (v : Json) →
-      tree_accepts (leaf_shape instance) (unnamed_term deprecated description ts) v ≡ unnamed_shape instance ts v
-  unnamed-accepts same deprecated description [] h alike v = absurd alike
-  unnamed-accepts same deprecated description (t ∷ []) h alike v = place-accepts false false deprecated description t h.0 v
-  unnamed-accepts same deprecated description (t ∷ u ∷ us) h alike v =
+  unnamed-accepts : SameIsEqual → (r : Remarks) (ts : List Open) → AreAllPlain ts → AreAlike ts → (v : Json) →
+      tree_accepts (leaf_shape instance) (unnamed_term r ts) v ≡ unnamed_shape instance ts v
+  unnamed-accepts same r [] h alike v = absurd alike
+  unnamed-accepts same r (t ∷ []) h alike v = place-accepts false false r.deprecated r.description t h.0 v
+  unnamed-accepts same r (t ∷ u ∷ us) h alike v =
       let all_t : IsTrue (are_all t (t ∷ u ∷ us)) = and-both (same_type t t) (are_all t (u ∷ us)) ((same t t).1 refl) alike in
       let n : ℕ = length (t ∷ u ∷ us) in
-      (λ i. tree_accepts (leaf_shape instance) (list_of_length n (described description) (cond (alike i) (place false false deprecated description t) (any_object deprecated))) v)
+      (λ i. tree_accepts (leaf_shape instance) (list_of_length n (described r.description) (cond (alike i) (field_term r t) (any_object r.deprecated))) v)
       ∙ (λ i. word_accepts (array_word false) v && (on_list v (λ vs. int_le (pos (length vs)) (pos n)) && (on_list v (λ vs. int_le (pos n) (pos (length vs)))
-      && (on_list v (λ vs. true) && on_list v (list_all (λ w. place-accepts false false deprecated description t h.0 w i))))))
+      && (on_list v (λ vs. true) && on_list v (list_all (λ w. place-accepts false false r.deprecated r.description t h.0 w i))))))
       ∙ exactly-accept v (λ vs. int_le (pos (length vs)) (pos n)) (λ vs. int_le (pos n) (pos (length vs))) (list_all (type_shape instance t))
       ∙ (λ i. is_list v (λ vs. elements-accept same t (t ∷ u ∷ us) all_t vs i))
 
   -- ---- declarations
 
-  form-accepts : SameIsEqual → (deprecated : Bool) (description : Option (List ℕ)) (form : FormOf) → IsPlainForm form → (v : Json) →
-      tree_accepts (leaf_shape instance) (form_term deprecated description form) v ≡ form_shape instance form v
-  form-accepts same deprecated description (named_fields denies ms) h (map es) = fields-accept denies (noted deprecated description) ms h es
-  form-accepts same deprecated description (named_fields denies ms) h null = refl
-  form-accepts same deprecated description (named_fields denies ms) h (boolean b) = refl
-  form-accepts same deprecated description (named_fields denies ms) h (number m) = refl
-  form-accepts same deprecated description (named_fields denies ms) h (text t) = refl
-  form-accepts same deprecated description (named_fields denies ms) h (list xs) = refl
-  form-accepts same deprecated description (unnamed_fields ts) h v = unnamed-accepts same deprecated description ts h.0 h.1 v
-  form-accepts same deprecated description no_fields h v = absurd h
+  form-accepts : SameIsEqual → (r : Remarks) (form : FormOf) → IsPlainForm form → (v : Json) →
+      tree_accepts (leaf_shape instance) (form_term r form) v ≡ form_shape instance form v
+  form-accepts same r (named_fields denies ms) h (map es) = fields-accept denies (noted r.deprecated r.description) ms h es
+  form-accepts same r (named_fields denies ms) h null = refl
+  form-accepts same r (named_fields denies ms) h (boolean b) = refl
+  form-accepts same r (named_fields denies ms) h (number m) = refl
+  form-accepts same r (named_fields denies ms) h (text t) = refl
+  form-accepts same r (named_fields denies ms) h (list xs) = refl
+  form-accepts same r (unnamed_fields ts) h v = unnamed-accepts same r ts h.0 h.1 v
+  form-accepts same r no_fields h v = absurd h
 
 -- The term of a plain declaration accepts what has its shape.
 pub terms-accept : SameIsEqual → TermsAccept
-terms-accept same instance s h v = form-accepts instance same s.deprecated s.description s.form h v
+terms-accept same instance s h v = form-accepts instance same s.remarks s.form h v

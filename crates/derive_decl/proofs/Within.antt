@@ -1,0 +1,124 @@
+-- What the resolved declarations of all declarations say: their names, and that each place is within them.
+use Rattle.std.proofs.Common.{ℕ, suc, ◌<◌, List, [], ◌∷◌, Option, Some, None, option_map, option_and_then, Bool, true, false, cond, bytes_eq, length, ◌≡◌, refl, ap, sym, subst, ◌∙◌, arith}
+use Rattle.std.proofs.lemmas.Option.{none-some, same_Some}
+use Rattle.texts.specs.Names.{place_in}
+use Rattle.diag.specs.declared.rename_row.RenameRow.{RenameRow}
+use Rattle.attributes.specs.AttributeReading.{serde_items}
+use Rattle.written_types.specs.declared.written.Ident.{Ident}
+use Rattle.syntax.specs.Items.{FieldItem, FieldItems, named, unnamed, unit, BodyItem, struct_body, DeclaredItem}
+use Rattle.open_types.specs.Open.{Open}
+use Rattle.resolving.specs.Resolved.{type_of, ResolvedAreWithin}
+use Rattle.scopes.specs.Names.{declared_names}
+use Rattle.shapes.specs.Declarations.{MemberOf, FormOf, named_fields, unnamed_fields, no_fields, DeclarationOf, member_types, types_of, declaration_names, TypesWithin, AreWithin}
+use Rattle.derive_decl.specs.Fields.{FieldRules, field_rules, kept, written_name}
+use Rattle.derive_decl.specs.Resolved.{Around, around_of, all_of, member_from, member_as, member_of, form_of, body_form, declaration_from, resolved_of}
+use Rattle.derive_decl.specs.Whole.{resolved_declarations}
+
+-- ---- results that may be missing
+
+-- what stands behind a `Some`
+mapped : {A B : Type 0} (f : A → B) (o : Option A) (y : B) → option_map f o ≡ Some y → (x : A) × (o ≡ Some x) × (f x ≡ y)
+mapped f None y e = absurd (none-some y e)
+mapped f (Some x) y e = (x, refl, same_Some (f x) y e)
+
+joined : {B : Type 0} (o : Option B) (p : Option (List B)) (ys : List B) → option_and_then (λ w. option_map (λ ws. w ∷ ws) p) o ≡ Some ys → (w : B) × (ws : List B) × (o ≡ Some w) × (p ≡ Some ws) × (w ∷ ws ≡ ys)
+joined None p ys e = absurd (none-some ys e)
+joined (Some w) None ys e = absurd (none-some ys e)
+joined (Some w) (Some ws) ys e = (w, ws, refl, refl, same_Some (w ∷ ws) ys e)
+
+-- ---- names
+
+-- a place lies within the names
+below_names : (k : List ℕ) (ns : List (List ℕ)) (p : ℕ) → place_in k ns ≡ Some p → p < length ns
+below_names k [] p e = absurd (none-some p e)
+below_names k (n ∷ ns) p e = by (bytes_eq k n) (place_in k ns) e (below_names k ns)
+  where
+    by : (b : Bool) (o : Option ℕ) → cond b (Some 0) (option_map suc o) ≡ Some p → ((r : ℕ) → o ≡ Some r → r < length ns) → p < suc (length ns)
+    by true o h later = subst (λ q. q < suc (length ns)) (same_Some 0 p h) (omega arith)
+    by false None h later = absurd (none-some p h)
+    by false (Some r) h later = let l = later r refl in subst (λ q. q < suc (length ns)) (same_Some (suc r) p h) (omega (arith, l))
+
+many_names : (ss : List DeclarationOf) → length (declaration_names ss) ≡ length ss
+many_names [] = refl
+many_names (s ∷ ss) = ap suc (many_names ss)
+
+-- ---- members
+
+-- the name and the type of a member
+record IsMember (around : Around) (rules : FieldRules) (f : FieldItem) (m : MemberOf) : Type 0 where
+  ident : Ident
+  is : f.ident ≡ Some ident
+  named : written_name around.rows rules.rule f ident ≡ Some m.name
+  typed : type_of around.place_of f.ty ≡ Some m.of
+
+member_parts : (around : Around) (rules : FieldRules) (f : FieldItem) (m : MemberOf) → member_of around rules f ≡ Some m → IsMember around rules f m
+member_parts around rules f m e = by f.ident refl e
+  where
+    from : (x : Ident) (n : Option (List ℕ)) (t : Option Open) → f.ident ≡ Some x → written_name around.rows rules.rule f x ≡ n → type_of around.place_of f.ty ≡ t →
+        option_and_then (λ name. option_map (member_from rules f name) t) n ≡ Some m → IsMember around rules f m
+    from x None t i p q h = absurd (none-some m h)
+    from x (Some n) None i p q h = absurd (none-some m h)
+    from x (Some n) (Some t) i p q h =
+        let same = same_Some (member_from rules f n t) m h in
+        record { ident = x; is = i; named = p ∙ ap (λ (o : MemberOf). Some o.name) same; typed = q ∙ ap (λ (o : MemberOf). Some o.of) same }
+
+    by : (o : Option Ident) → f.ident ≡ o → member_as around rules f o ≡ Some m → IsMember around rules f m
+    by None i h = absurd (none-some m h)
+    by (Some x) i h = from x (written_name around.rows rules.rule f x) (type_of around.place_of f.ty) i refl refl h
+
+-- ---- declarations
+
+-- the declaration of a declaration
+declaration_parts : (around : Around) (d : DeclaredItem) (s : DeclarationOf) → resolved_of around d ≡ Some s → (s.name ≡ d.ident.text) × (body_form around (field_rules (serde_items d.attrs)) d.body ≡ Some s.form)
+declaration_parts around d s e =
+    let m = mapped (declaration_from d.attrs d.ident) (body_form around (field_rules (serde_items d.attrs)) d.body) s e in
+    (sym (ap (λ (r : DeclarationOf). r.name) m.2), m.1 ∙ ap (λ (r : DeclarationOf). Some r.form) m.2)
+
+module _ (around : Around) where
+  -- the declarations have the names of the declarations
+  declaration_names-are : (ds : List DeclaredItem) (ss : List DeclarationOf) → all_of (resolved_of around) ds ≡ Some ss → declaration_names ss ≡ declared_names ds
+  declaration_names-are [] ss e = ap declaration_names (sym (same_Some [] ss e))
+  declaration_names-are (d ∷ ds) ss e =
+      let j = joined (resolved_of around d) (all_of (resolved_of around) ds) ss e in
+      sym (ap declaration_names j.4) ∙ ap (λ n. n ∷ declaration_names j.1) (declaration_parts around d j.0 j.2).0 ∙ ap (λ ns. d.ident.text ∷ ns) (declaration_names-are ds j.1 j.3)
+
+  -- ---- places are within
+
+  module _ (within : ResolvedAreWithin) (n : ℕ) (below : (k : List ℕ) (d : ℕ) → around.place_of k ≡ Some d → d < n) where
+    members_within : (rules : FieldRules) (fs : List FieldItem) (ms : List MemberOf) → all_of (member_of around rules) fs ≡ Some ms → TypesWithin n (member_types ms)
+    members_within rules [] ms e = subst (λ xs. TypesWithin n (member_types xs)) (same_Some [] ms e) tt
+    members_within rules (f ∷ fs) ms e =
+        let j = joined (member_of around rules f) (all_of (member_of around rules) fs) ms e in
+        let m = member_parts around rules f j.0 j.2 in
+        subst (λ xs. TypesWithin n (member_types xs)) j.4 (within around.place_of n below f.ty j.0.of m.typed, members_within rules fs j.1 j.3)
+
+    types_within : (fs : List FieldItem) (ts : List Open) → all_of (λ (f : FieldItem). type_of around.place_of f.ty) fs ≡ Some ts → TypesWithin n ts
+    types_within [] ts e = subst (TypesWithin n) (same_Some [] ts e) tt
+    types_within (f ∷ fs) ts e =
+        let j = joined (type_of around.place_of f.ty) (all_of (λ (g : FieldItem). type_of around.place_of g.ty) fs) ts e in
+        subst (TypesWithin n) j.4 (within around.place_of n below f.ty j.0 j.2, types_within fs j.1 j.3)
+
+    form_within : (rules : FieldRules) (fs : FieldItems) (form : FormOf) → form_of around rules fs ≡ Some form → TypesWithin n (types_of form)
+    form_within rules (named fs) form e =
+        let m = mapped (named_fields rules.denies) (all_of (member_of around rules) (kept fs)) form e in subst (λ f. TypesWithin n (types_of f)) m.2 (members_within rules (kept fs) m.0 m.1)
+    form_within rules (unnamed []) form e = absurd (none-some form e)
+    form_within rules (unnamed (f ∷ fs)) form e =
+        let m = mapped unnamed_fields (all_of (λ (g : FieldItem). type_of around.place_of g.ty) (f ∷ fs)) form e in subst (λ x. TypesWithin n (types_of x)) m.2 (types_within (f ∷ fs) m.0 m.1)
+    form_within rules unit form e = subst (λ f. TypesWithin n (types_of f)) (same_Some no_fields form e) tt
+
+    body_within : (rules : FieldRules) (b : BodyItem) (form : FormOf) → body_form around rules b ≡ Some form → TypesWithin n (types_of form)
+    body_within rules (struct_body fs) form e = form_within rules fs form e
+
+    are_within : (ds : List DeclaredItem) (ss : List DeclarationOf) → all_of (resolved_of around) ds ≡ Some ss → AreWithin n ss
+    are_within [] ss e = subst (AreWithin n) (same_Some [] ss e) tt
+    are_within (d ∷ ds) ss e =
+        let j = joined (resolved_of around d) (all_of (resolved_of around) ds) ss e in
+        subst (AreWithin n) j.4 (body_within (field_rules (serde_items d.attrs)) d.body j.0.form (declaration_parts around d j.0 j.2).1, are_within ds j.1 j.3)
+
+pub names_are : (rows : List RenameRow) (ds : List DeclaredItem) (ss : List DeclarationOf) → resolved_declarations rows ds ≡ Some ss → declaration_names ss ≡ declared_names ds
+names_are rows ds ss e = declaration_names-are (around_of rows ds) ds ss e
+
+pub all_within : ResolvedAreWithin → (rows : List RenameRow) (ds : List DeclaredItem) (ss : List DeclarationOf) → resolved_declarations rows ds ≡ Some ss → AreWithin (length ss) ss
+all_within within rows ds ss e =
+    are_within (around_of rows ds) within (length ss)
+    (λ k d h. subst (λ m. d < m) (ap length (sym (names_are rows ds ss e)) ∙ many_names ss) (below_names k (declared_names ds) d h)) ds ss e

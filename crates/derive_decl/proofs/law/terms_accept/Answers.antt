@@ -1,5 +1,0 @@
-use Rattle.derive_decl.proofs.Accepted.{terms-accept}
-use Rattle.derive_decl.proofs.law.terms_accept.Goals as goal
-
-pub returns : goal.returns
-returns c = terms-accept c.same_types_are_equal.ensures

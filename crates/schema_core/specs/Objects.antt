@@ -1,0 +1,53 @@
+-- What objects say without a schema, and objects that say nothing else.
+use Rattle.std.specs.Prelude.{ℕ, List, [], Option, None}
+use Rattle.schema_core.specs.declared.bounds.Bounds.{Bounds}
+use Rattle.schema_core.specs.declared.notes.Notes.{Notes}
+use Rattle.schema_core.specs.declared.tree.TypeWord.{TypeWord}
+use Rattle.schema_core.specs.Bounds.{no_bounds}
+use Rattle.schema_core.specs.Schema.{Facts, SchemaOf, object, no_properties, no_part}
+
+-- a word of `type`, and notes
+abbrev pub word_facts : TypeWord → Notes → Facts
+word_facts w notes = record {
+  type_word = w;
+  format = None;
+  enum_values = None;
+  required = [];
+  bounds = no_bounds;
+  notes = notes;
+}
+
+-- the same with another format, other names that must be there, and other bounds
+abbrev pub with_format : Option (List ℕ) → Facts → Facts
+with_format format f = record {
+  type_word = f.type_word;
+  format = format;
+  enum_values = f.enum_values;
+  required = f.required;
+  bounds = f.bounds;
+  notes = f.notes;
+}
+
+abbrev pub with_required : List (List ℕ) → Facts → Facts
+with_required required f = record {
+  type_word = f.type_word;
+  format = f.format;
+  enum_values = f.enum_values;
+  required = required;
+  bounds = f.bounds;
+  notes = f.notes;
+}
+
+abbrev pub with_bounds : Bounds → Facts → Facts
+with_bounds bounds f = record {
+  type_word = f.type_word;
+  format = f.format;
+  enum_values = f.enum_values;
+  required = f.required;
+  bounds = bounds;
+  notes = f.notes;
+}
+
+-- a word and notes alone
+abbrev pub only_word : {X : Type 0} → TypeWord → Notes → SchemaOf X
+only_word w notes = object (word_facts w notes) no_properties no_part no_part

@@ -1,0 +1,5 @@
+pub mod Declarations
+pub mod Meaning
+pub mod Plain
+pub mod Shape
+pub mod Terms
