@@ -2,7 +2,8 @@
 
 use crate::refusals::refused;
 use crate::texts::source_of;
-use acceptance::component_accepts;
+use crate::whole::json_of;
+use acceptance_checker::component_accepts;
 use anyhow::bail;
 use compose::{Derived, derive_components};
 use configuration::Config;
@@ -43,10 +44,10 @@ fn refusal(alloc: Global, given: &Value) -> anyhow::Result<String> {
 fn accepted(alloc: Global, given: &Value) -> anyhow::Result<String> {
     let (source, name) = (text_at(given, "source")?, text_at(given, "name")?);
     let derived = derive(alloc, source, &Config::new(alloc))?;
-    let document = derived.components.to_value(alloc)?;
+    let document = json_of(&derived.components.to_value(alloc)?)?;
     let mut accepted = Vec::new(alloc);
     for value in items_at(given, "values")? {
-        if component_accepts(&document, name, value, DEPTH) {
+        if component_accepts(&document, name, &json_of(value)?, DEPTH) {
             accepted.push(value.clone()?)?;
         }
     }

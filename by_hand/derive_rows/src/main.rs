@@ -14,6 +14,7 @@ mod renamed;
 mod reported;
 mod ruled;
 mod texts;
+mod whole;
 
 use anyhow::{Context, bail};
 use rows::{Row, run};

@@ -1,6 +1,9 @@
 //! Which values a schema accepts.
 
+use crate::whole::json_of;
+use acceptance_checker::accepts;
 use rows::given::{count_at, list_at, member, text_at};
+use schema_core::Json;
 use serde_json::Value;
 use std::alloc::Global;
 
@@ -8,19 +11,17 @@ use std::alloc::Global;
 #[derive(Drop)]
 enum Judge<'a> {
     /// A schema of the document.
-    Schema(&'a Value, &'a Value),
+    Schema(&'a Json, &'a Json),
     /// The document's component of the name.
-    Component(&'a Value, &'a str),
+    Component(&'a Json, &'a str),
 }
 
 impl Judge<'_> {
-    fn accepts(&self, value: &Value, depth: usize) -> bool {
+    fn accepts(&self, value: &Json, depth: usize) -> bool {
         match self {
-            Judge::Schema(document, schema) => {
-                acceptance::accepts(document, schema, value, depth)
-            },
+            Judge::Schema(document, schema) => accepts(document, schema, value, depth),
             Judge::Component(document, name) => {
-                acceptance::component_accepts(document, name, value, depth)
+                acceptance_checker::component_accepts(document, name, value, depth)
             },
         }
     }
@@ -31,7 +32,7 @@ fn accepted(alloc: Global, judge: &Judge<'_>, given: &Value) -> anyhow::Result<S
     let depth = count_at(given, "depth").unwrap_or(0);
     let mut accepted = Vec::new(alloc);
     for value in list_at(given, "values")? {
-        if judge.accepts(value, depth) {
+        if judge.accepts(&json_of(value)?, depth) {
             accepted.push(value.clone()?)?;
         }
     }
@@ -40,9 +41,9 @@ fn accepted(alloc: Global, judge: &Judge<'_>, given: &Value) -> anyhow::Result<S
 
 /// Those of the values that the schema accepts, in the document or in none.
 pub(crate) fn schema_accepts(alloc: Global, given: &Value) -> anyhow::Result<String> {
-    let document = given.get("document").unwrap_or(&Value::Null);
-    let schema = member(given, "schema")?;
-    accepted(alloc, &Judge::Schema(document, schema), given)
+    let document = json_of(given.get("document").unwrap_or(&Value::Null))?;
+    let schema = json_of(member(given, "schema")?)?;
+    accepted(alloc, &Judge::Schema(&document, &schema), given)
 }
 
 /// Those of the values that the component of the row's name accepts in its document.
@@ -57,5 +58,5 @@ pub(crate) fn named_accepts(
     given: &Value,
 ) -> anyhow::Result<String> {
     let name = text_at(given, "name")?;
-    accepted(alloc, &Judge::Component(document, name), given)
+    accepted(alloc, &Judge::Component(&json_of(document)?, name), given)
 }

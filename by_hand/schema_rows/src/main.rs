@@ -14,6 +14,7 @@ mod structs;
 mod targets;
 mod terms;
 mod values;
+mod whole;
 mod written;
 
 use crate::components::{OfComponents, of_components};

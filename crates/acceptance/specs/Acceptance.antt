@@ -225,6 +225,17 @@ abbrev mutual
   some_accepts component no_items v = false
   some_accepts component (item x ss) v = accepts_with component x v || some_accepts component ss v
 
+-- what a member's value says, where `component` says what the component of a name accepts
+abbrev pub readings_of : (List ℕ → Json → Bool) → Json → Readings
+readings_of component x = record {
+  as_schema = accepts_with component x;
+  as_properties = properties_accept component x;
+  as_prefix = prefix_accepts component x;
+  as_all = all_accept component x;
+  as_one = one_accepts component x;
+  as_reference = reference_holds component x;
+}
+
 -- ---- a document
 
 -- the schema of the component of the name

@@ -1,6 +1,6 @@
 -- JSON values (RFC 8259, 3 to 7), with whole numbers of any size, and what they are equal by (JSON Schema 2020-12, Core, 4.2).
 -- A map is the list of its members; their names are distinct, and of equal names the first would count.
-use Rattle.std.specs.Prelude.{ℕ, suc, max, ℤ, List, [], ◌∷◌, Bool, true, false, not, ◌&&◌, Option, Some, None, bytes_eq, cond}
+use Rattle.std.specs.Prelude.{ℕ, ℤ, List, [], ◌∷◌, Bool, true, false, not, ◌&&◌, Option, Some, None, bytes_eq, cond}
 use Rattle.std.specs.List.{list_all, list_any}
 use Rattle.std.specs.Ordering.{int_eq, nat_cmp, match_ordering}
 use Rattle.std.specs.Cmp.Lexicographic.{slice_cmp}
@@ -137,21 +137,3 @@ member_of k (boolean b) = None
 member_of k (number n) = None
 member_of k (text s) = None
 member_of k (list xs) = None
-
--- how many levels lists and maps nest
-abbrev mutual
-  pub levels : Json → ℕ
-  levels null = 0
-  levels (boolean b) = 0
-  levels (number n) = 0
-  levels (text s) = 0
-  levels (list xs) = suc (items_levels xs)
-  levels (map ms) = suc (members_levels ms)
-
-  pub items_levels : Items → ℕ
-  items_levels no_items = 0
-  items_levels (item x xs) = max (levels x) (items_levels xs)
-
-  pub members_levels : Members → ℕ
-  members_levels no_members = 0
-  members_levels (member k x ms) = max (levels x) (members_levels ms)

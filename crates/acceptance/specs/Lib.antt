@@ -1,9 +1,6 @@
 pub mod Acceptance
 pub mod Data
 pub mod Json
-pub mod Judge
 pub mod Keyword
-pub mod Kinds
 pub mod Law
-pub mod Layer
 pub mod References

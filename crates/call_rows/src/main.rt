@@ -7,6 +7,7 @@ mod reported;
 mod single_words;
 mod terms;
 mod trees;
+mod whole;
 mod written;
 
 use anyhow::bail;

@@ -1,6 +1,6 @@
 -- What a character may begin, by its tests: no two of them hold of one character.
 use Rattle.std.proofs.Common.{◌≡◌, ℕ, ◌<◌, ◌⊎◌, inl, inr, List, [], ◌∷◌, refl, ap, ◌∙◌, arith, cond, Bool, true, false, not, ◌||◌, ◌==◌}
-use Rattle.std.proofs.lemmas.Bool.{eqb-true}
+use Rattle.std.proofs.lemmas.Bool.{eqb-true, and_parts, or_cases, not-true}
 use Rattle.std.proofs.lemmas.Bool.Decides.{nat_tests}
 use Rattle.std.specs.Char.{is_ascii_alphabetic}
 use Rattle.std.specs.Int.{is_in_range}
@@ -8,14 +8,13 @@ use Rattle.std.specs.List.{list_all, list_any}
 use Rattle.unicode_ident.specs.Ident.{is_xid_continue}
 use Rattle.unicode_ident.proofs.IdentLemmas.{is_xid_start-ascii}
 use Rattle.unicode_ident.proofs.Computing.{unicode_ident}
-use Rattle.literals.specs.Literals.{is_digit, is_quote, begins_literal}
+use Rattle.literals.specs.Literals.{is_quote, begins_literal, starts_name}
 use Rattle.tokens.specs.declared.token.Bracket.{Bracket}
 use Rattle.tokens.specs.declared.token.Bracket.TheVariants.{Round, Square, Curly}
 use Rattle.lexing.specs.declared.scan.Class.{Class}
 use Rattle.lexing.specs.declared.scan.Class.TheVariants.{White, Slash, Colon, Sign, Quote, NameStart, Opens, Closes, Other}
-use Rattle.lexing.specs.Pieces.{quote, slash, is_white, starts_name, signs, is_sign, opening, closing}
+use Rattle.lexing.specs.Pieces.{quote, slash, is_white, signs, is_sign, opening, closing}
 use Rattle.lexing.specs.Scanning.{bracket_class, class_of}
-use Rattle.lexing.proofs.TextLaws.{and_true}
 
 -- ---- a character of the class passes its test
 abbrev pub Begins : Class → ℕ → Type 0
@@ -55,10 +54,6 @@ class_begins c =
     choose P (is_sign c) _ _ (λ h. h) (λ _. bracket_begins c))))))
 
 -- ---- and the other way round
-pub either_true : (a b : Bool) → (a || b) ≡ true → (a ≡ true) ⊎ (b ≡ true)
-either_true true b e = inl refl
-either_true false b e = inr e
-
 at_number : (q : ℕ → Bool) (c d : ℕ) → (c == d) ≡ true → q d ≡ false → q c ≡ false
 at_number q c d e h = ap q (eqb-true c d e) ∙ h
 
@@ -66,22 +61,22 @@ at_number q c d e h = ap q (eqb-true c d e) ∙ h
 white_fails : (q : ℕ → Bool) (c : ℕ) → (is_in_range 9 13 c ≡ true → q c ≡ false) → q 0x20 ≡ false → q 0x85 ≡ false → q 0x200E ≡ false → q 0x200F ≡ false → q 0x2028 ≡ false → q 0x2029 ≡ false
     → is_white c ≡ true → q c ≡ false
 white_fails q c h0 h1 h2 h3 h4 h5 h6 h =
-    elim (either_true (is_in_range 9 13 c || (c == 0x20) || (c == 0x85) || (c == 0x200E) || (c == 0x200F) || (c == 0x2028)) (c == 0x2029) h) [
+    elim (or_cases (is_in_range 9 13 c || (c == 0x20) || (c == 0x85) || (c == 0x200E) || (c == 0x200F) || (c == 0x2028)) (c == 0x2029) h) [
       | inr e ↦ at_number q c 0x2029 e h6
       | inl k5 ↦
-          elim (either_true (is_in_range 9 13 c || (c == 0x20) || (c == 0x85) || (c == 0x200E) || (c == 0x200F)) (c == 0x2028) k5) [
+          elim (or_cases (is_in_range 9 13 c || (c == 0x20) || (c == 0x85) || (c == 0x200E) || (c == 0x200F)) (c == 0x2028) k5) [
             | inr e ↦ at_number q c 0x2028 e h5
             | inl k4 ↦
-                elim (either_true (is_in_range 9 13 c || (c == 0x20) || (c == 0x85) || (c == 0x200E)) (c == 0x200F) k4) [
+                elim (or_cases (is_in_range 9 13 c || (c == 0x20) || (c == 0x85) || (c == 0x200E)) (c == 0x200F) k4) [
                   | inr e ↦ at_number q c 0x200F e h4
                   | inl k3 ↦
-                      elim (either_true (is_in_range 9 13 c || (c == 0x20) || (c == 0x85)) (c == 0x200E) k3) [
+                      elim (or_cases (is_in_range 9 13 c || (c == 0x20) || (c == 0x85)) (c == 0x200E) k3) [
                         | inr e ↦ at_number q c 0x200E e h3
                         | inl k2 ↦
-                            elim (either_true (is_in_range 9 13 c || (c == 0x20)) (c == 0x85) k2) [
+                            elim (or_cases (is_in_range 9 13 c || (c == 0x20)) (c == 0x85) k2) [
                               | inr e ↦ at_number q c 0x85 e h2
                               | inl k1 ↦
-                                  elim (either_true (is_in_range 9 13 c) (c == 0x20) k1) [
+                                  elim (or_cases (is_in_range 9 13 c) (c == 0x20) k1) [
                                     | inr e ↦ at_number q c 0x20 e h1
                                     | inl k0 ↦ h0 k0
                                   ]
@@ -163,8 +158,8 @@ closing_no_literal Curly = refl
 any_of : (q : ℕ → Bool) (c : ℕ) (ds : List ℕ) → list_all q ds ≡ true → list_any (λ d. c == d) ds ≡ true → q c ≡ true
 any_of q c [] h e = cc
 any_of q c (d ∷ ds) h e =
-    let both = and_true (q d) (list_all q ds) h in
-    elim (either_true (c == d) (list_any (λ d. c == d) ds) e) [
+    let both = and_parts (q d) (list_all q ds) h in
+    elim (or_cases (c == d) (list_any (λ d. c == d) ds) e) [
       | inl k ↦ ap q (eqb-true c d k) ∙ both.0
       | inr k ↦ any_of q c ds both.1 k
     ]
@@ -195,10 +190,10 @@ each_begins_sign = refl
 pub sign_class : (c : ℕ) → is_sign c ≡ true → (c ≡ slash) ⊎ (c ≡ 58) ⊎ (class_of c ≡ Sign)
 unfolding begins_sign
 sign_class c h =
-    elim (either_true ((c == slash) || (c == 58)) (is_sign_class (class_of c)) (any_of begins_sign c signs each_begins_sign h)) [
+    elim (or_cases ((c == slash) || (c == 58)) (is_sign_class (class_of c)) (any_of begins_sign c signs each_begins_sign h)) [
       | inr e ↦ inr (inr (sign_class_is (class_of c) e))
       | inl e ↦
-          elim (either_true (c == slash) (c == 58) e) [
+          elim (or_cases (c == slash) (c == 58) e) [
             | inl k ↦ inl (eqb-true c slash k)
             | inr k ↦ inr (inl (eqb-true c 58 k))
           ]
@@ -211,19 +206,15 @@ each_no_literal : list_all no_literal signs ≡ true
 unfolding no_literal
 each_no_literal = refl
 
-negated : (b : Bool) → not b ≡ true → b ≡ false
-negated true h = cc
-negated false h = refl
-
 pub sign_no_literal : (c : ℕ) → is_sign c ≡ true → begins_literal c ≡ false
 unfolding no_literal
-sign_no_literal c h = negated (begins_literal c) (any_of no_literal c signs each_no_literal h)
+sign_no_literal c h = not-true (begins_literal c) (any_of no_literal c signs each_no_literal h)
 
 -- ---- words hold neither quotes nor digits at their front
 quote_fails : (q : ℕ → Bool) (c : ℕ) → q 34 ≡ false → q 39 ≡ false → q c ≡ true → (b : Bool) → is_quote c ≡ b → b ≡ false
 quote_fails q c f g h false e = refl
 quote_fails q c f g h true e =
-    elim (either_true (c == 34) (c == 39) e) [
+    elim (or_cases (c == 34) (c == 39) e) [
       | inl k ↦ let no = at_number q c 34 k f in cc
       | inr k ↦ let no = at_number q c 39 k g in cc
     ]
@@ -243,18 +234,3 @@ hash_no_word = refl
 pub r_starts_name : starts_name 114 ≡ true
 unfolding unicode_ident
 r_starts_name = refl
-
-digit_free : (c : ℕ) → is_digit c ≡ true → ((c == 95) || is_ascii_alphabetic c) ≡ false
-digit_free c h = grind (arith, nat_tests)
-
-digit_no_name : (c : ℕ) → is_digit c ≡ true → starts_name c ≡ false
-digit_no_name c h =
-    let small : c < 128 = grind (arith, nat_tests) in
-    ap (λ v. (c == 95) || v) (is_xid_start-ascii c small) ∙ digit_free c h
-
-not_digit : (c : ℕ) (b : Bool) → is_digit c ≡ b → starts_name c ≡ true → b ≡ false
-not_digit c true e h = let none = digit_no_name c e in cc
-not_digit c false e h = refl
-
-pub name_no_digit : (c : ℕ) → starts_name c ≡ true → is_digit c ≡ false
-name_no_digit c h = not_digit c (is_digit c) refl h

@@ -1,12 +1,14 @@
 -- Comments, as a scanner counts them and as they nest.
 use Rattle.std.proofs.Common.{◌≡◌, ℕ, zero, suc, ◌<◌, ◌≤◌, ◌+◌, ◌-◌, ◌⊎◌, inl, inr, List, [], ◌∷◌, ◌++◌, length, refl, ap, sym, subst, ◌∙◌, arith, cond, Bool, true, false, not, ◌||◌, ◌&&◌, ◌==◌, Some, None, length-append}
-use Rattle.std.proofs.lemmas.Bool.{eqb-true}
+use Rattle.std.proofs.lemmas.Bool.{eqb-true, and_parts}
 use Rattle.std.specs.List.{list_all}
+use Rattle.literals.specs.Scanning.{skip}
 use Rattle.lexing.specs.declared.comment.Mark.{Mark}
 use Rattle.lexing.specs.declared.comment.Mark.TheVariants.{Opens, Closes, Plain}
 use Rattle.lexing.specs.Pieces.{star, slash, is_in_line, is_plain, begins_with, is_doc, IsInside, nothing, nested, plain, IsComment, IsPiece}
-use Rattle.lexing.specs.Scanning.{IsMark, open_after, skip, closing_at, comment_kind}
-use Rattle.lexing.proofs.TextLaws.{either, and_true, skip_split, skip_past, skip_more}
+use Rattle.lexing.specs.Scanning.{IsMark, open_after, closing_at, comment_kind}
+use Rattle.literals.proofs.RunLaws.{either, skip_split, skip_past, neither}
+use Rattle.lexing.proofs.TextLaws.{run_shorter}
 
 -- ---- one mark
 past_both : {A : Type 0} (x y z : A) (a b : Bool) → not (a || b) ≡ true → cond a x (cond b y z) ≡ z
@@ -84,7 +86,7 @@ Closed n cs rest = (front : List ℕ) × (cs ≡ front ++ rest) × Ends n front
 
 found_opens : (n c d : ℕ) (ds rest : List ℕ) → ((c == slash) && (d == star)) ≡ true → Closed (suc (suc n)) ds rest → Closed (suc n) (c ∷ d ∷ ds) rest
 found_opens n c d ds rest h r =
-    let both = and_true (c == slash) (d == star) h in
+    let both = and_parts (c == slash) (d == star) h in
     let first : c ≡ slash = eqb-true c slash both.0 in
     let second : d ≡ star = eqb-true d star both.1 in
     let parts : ds ≡ r.0 ++ rest = r.1 in
@@ -92,14 +94,11 @@ found_opens n c d ds rest h r =
 
 found_closes : (n c d : ℕ) (ds rest : List ℕ) → ((c == star) && (d == slash)) ≡ true → Closed n ds rest → Closed (suc n) (c ∷ d ∷ ds) rest
 found_closes n c d ds rest h r =
-    let both = and_true (c == star) (d == slash) h in
+    let both = and_parts (c == star) (d == slash) h in
     let first : c ≡ star = eqb-true c star both.0 in
     let second : d ≡ slash = eqb-true d slash both.1 in
     let parts : ds ≡ r.0 ++ rest = r.1 in
     (star ∷ slash ∷ r.0, cc, (r.0, nothing, r.2))
-
-neither : (a b : Bool) → a ≡ false → b ≡ false → not (a || b) ≡ true
-neither a b e f = ap (λ v. not (v || b)) e ∙ ap not f
 
 found_plain : (n c d : ℕ) (ds rest : List ℕ) → ((c == slash) && (d == star)) ≡ false → ((c == star) && (d == slash)) ≡ false → Closed (suc n) (d ∷ ds) rest → Closed (suc n) (c ∷ d ∷ ds) rest
 found_plain n c d ds rest h k r =
@@ -182,7 +181,7 @@ next_line : (doc : Bool) (body : List ℕ) (d : ℕ) (ds : List ℕ) (b : Bool) 
 next_line doc body d ds true e h k = inr (doc_in_line body (d ∷ ds) (eqb-true d 10 e) ∙ k)
 next_line doc body d ds false e h k =
     let past = ap length (skip_past is_in_line body (d ∷ ds) h) in
-    let more = skip_more is_in_line d ds (ap not e) in
+    let more = run_shorter is_in_line d ds (ap not e) in
     inl (omega (arith, past, more))
 
 pub line_reads : (doc : Bool) (body less : List ℕ) → list_all is_in_line body ≡ true → is_doc slash body ≡ doc → (length (skip is_in_line (body ++ less)) < length less) ⊎ (is_doc slash (body ++ less) ≡ doc)

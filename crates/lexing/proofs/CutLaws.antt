@@ -1,5 +1,6 @@
 -- A text cut piece by piece.
 use Rattle.std.proofs.Common.{◌≡◌, ℕ, ◌+◌, ◌<◌, ◌≤◌, List, [], ◌∷◌, ◌++◌, length, refl, ap, sym, subst, ◌∙◌, arith, Option, Some, None, true, length-append, append_assoc}
+use Rattle.std.proofs.lemmas.Bool.{and_parts}
 use Rattle.std.proofs.lemmas.Str.{encodes-chars, encodes-append, scalars-chars, IsCharBoundary-at_seam}
 use Rattle.std.specs.Str.{chars, IsUtf8, IsCharBoundary, encode_utf8_all, all_scalars}
 use Rattle.std.specs.Coded.{le_prop}
@@ -10,7 +11,7 @@ use Rattle.lexing.specs.Pieces.{Cuts}
 use Rattle.lexing.specs.Scanning.{piece_at}
 use Rattle.lexing.specs.Reading.{EndFrom, LieIn}
 use Rattle.lexing.proofs.PieceLaws.{finds_longest, longest_found, none_begins}
-use Rattle.lexing.proofs.TextLaws.{same_parts, and_true}
+use Rattle.lexing.proofs.TextLaws.{same_parts}
 
 -- spans with the same ends are the same
 span_from : (t : Span) (a b : ℕ) (h : a ≤ b) → a ≡ t.start → b ≡ t.end → (let s : Span = record { start = a; end = b; ordered = h } in s) ≡ t
@@ -93,7 +94,7 @@ ends_later (p ∷ ps) n at text l c = let here : n ≤ p.span.end = omega (arith
 
 scalars_rest : (front rest : List ℕ) → all_scalars (front ++ rest) ≡ true → all_scalars rest ≡ true
 scalars_rest [] rest e = e
-scalars_rest (c ∷ cs) rest e = scalars_rest cs rest (and_true _ (all_scalars (cs ++ rest)) e).1
+scalars_rest (c ∷ cs) rest e = scalars_rest cs rest (and_parts _ (all_scalars (cs ++ rest)) e).1
 
 lie_after : (source : List ℕ) (ps : List Piece) (at : ℕ) (before text : List ℕ) → all_scalars text ≡ true → source ≡ before ++ encode_utf8_all text → at ≡ length before → Cuts ps at text → LieIn source ps
 lie_after source [] at before text u e l c = tt

@@ -1,9 +1,9 @@
 -- The scanner finds the longest piece.
-use Rattle.std.proofs.Common.{◌≡◌, ℕ, ◌<◌, ◌≤◌, ◌⊎◌, inl, inr, List, [], ◌∷◌, ◌++◌, length, refl, ap, sym, subst, ◌∙◌, arith, cond, Bool, true, false, ◌||◌, ◌&&◌, ◌+◌, ◌==◌, Option, Some, None, length-append, codes}
-use Rattle.std.proofs.lemmas.Bool.{eqb-true}
+use Rattle.std.proofs.Common.{◌≡◌, ℕ, ◌<◌, ◌≤◌, ◌⊎◌, inl, inr, List, [], ◌∷◌, ◌++◌, length, refl, ap, sym, subst, ◌∙◌, arith, cond, Bool, true, false, ◌&&◌, ◌+◌, ◌==◌, Option, Some, None, length-append, codes}
+use Rattle.std.proofs.lemmas.Bool.{eqb-true, and_parts, or_parts}
 use Rattle.std.specs.List.{list_all, list_any}
 use Rattle.literals.specs.Literals.{IsLiteral, is_digit, is_quote, begins_literal}
-use Rattle.literals.specs.Scanning.{literal_at}
+use Rattle.literals.specs.Scanning.{literal_at, skip}
 use Rattle.literals.proofs.LiteralLaws.{literal_sound, literal_reads, literal_begins}
 use Rattle.tokens.specs.declared.token.TokenKind.TheVariants.{Ident, Lifetime, Literal, Punct, Doc}
 use Rattle.lexing.specs.declared.piece.PieceKind.{PieceKind}
@@ -11,8 +11,9 @@ use Rattle.lexing.specs.declared.piece.PieceKind.TheVariants.{Space, Comment, To
 use Rattle.lexing.specs.declared.scan.Class.{Class}
 use Rattle.lexing.specs.declared.scan.Class.TheVariants.{White, Slash, Colon, Sign, Quote, NameStart, Opens, Closes, Other}
 use Rattle.lexing.specs.Pieces.{quote, star, slash, is_white, is_in_line, is_sign, is_doc, IsIdentifier, IsComment, IsPiece, may_end, IsLongest}
-use Rattle.lexing.specs.Scanning.{class_of, skip, identifier_at, closing_at, comment_kind, of_kind, comment_at, or_sign, after_colon, class_at, literal_or, plain_piece_at, longest_at, if_ended, piece_at}
-use Rattle.lexing.proofs.TextLaws.{either, and_true, same_parts, skip_split, skip_short, skip_least}
+use Rattle.lexing.specs.Scanning.{class_of, identifier_at, closing_at, comment_kind, of_kind, comment_at, or_sign, after_colon, class_at, literal_or, plain_piece_at, longest_at, if_ended, piece_at}
+use Rattle.literals.proofs.RunLaws.{either, skip_split, skip_short, skip_least}
+use Rattle.lexing.proofs.TextLaws.{same_parts}
 use Rattle.lexing.proofs.CommentLaws.{line_front, block_front, block_short, block_long, block_reads, line_reads, doc_in_block}
 use Rattle.lexing.proofs.Classes.{Begins, class_begins, white_class, name_class, slash_class, colon_class, quote_class, sign_class, opening_class, closing_class, white_no_literal, sign_no_literal, opening_no_literal, closing_no_literal}
 use Rattle.lexing.proofs.WordLaws.{identifier_sound, identifier_reads, identifier_quoteless, identifier_starts, identifier_digitless, no_identifier}
@@ -117,7 +118,7 @@ one_reads c cs less x k l f g e = subst (λ v. Reads ((c ∷ v) ++ less) less k)
 
 white_reads : (c : ℕ) (cs less : List ℕ) → list_all is_white (c ∷ cs) ≡ true → Reads ((c ∷ cs) ++ less) less Space
 white_reads c cs less h =
-    let both = and_true (is_white c) (list_all is_white cs) h in
+    let both = and_parts (is_white c) (list_all is_white cs) h in
     (Space, skip is_white (cs ++ less), by_class c (cs ++ less) (skip is_white (cs ++ less)) White Space (no_literal_at c (cs ++ less) (white_no_literal c both.0)) (white_class c both.0) refl, skip_least is_white cs less both.1, inr refl)
 
 same_or_longer : (P : Type 0) (a b : Bool) → P ⊎ (a ≡ b) → P ⊎ (comment_kind a ≡ comment_kind b)
@@ -154,14 +155,10 @@ word_case c cs less x k d q f rest e l (Some r) n =
     let shorter = literal_longer c cs less r d q n in
     (Token Literal, r, ap (λ v. literal_or v (plain_piece_at ((c ∷ cs) ++ less))) n, omega arith, inl shorter)
 
-or_false_right : (a b : Bool) → (a || b) ≡ false → b ≡ false
-or_false_right true b h = cc
-or_false_right false b h = h
-
 ident_reads : (c : ℕ) (cs less : List ℕ) → IsIdentifier (c ∷ cs) → Reads ((c ∷ cs) ++ less) less (Token Ident)
 ident_reads c cs less h =
     let word = identifier_reads (c ∷ cs) less h in
-    let quoteless = or_false_right (is_quote c) (list_any is_quote cs) (identifier_quoteless (c ∷ cs) h) in
+    let quoteless = (or_parts (is_quote c) (list_any is_quote cs) (identifier_quoteless (c ∷ cs) h)).1 in
     word_case c cs less NameStart (Token Ident) (identifier_digitless c cs h) quoteless (name_class c (identifier_starts c cs h)) word.0 (ap (of_kind (Token Ident)) word.1) word.2 (literal_at ((c ∷ cs) ++ less)) refl
 
 lifetime_reads : (c : ℕ) (cs less : List ℕ) → c ≡ quote → IsIdentifier cs → Reads ((c ∷ cs) ++ less) less (Token Lifetime)

@@ -1,11 +1,10 @@
 -- Raw strings that are never closed.
 use Rattle.std.proofs.Common.{◌≡◌, ℕ, zero, suc, ◌+◌, ◌-◌, ◌≤◌, ◌⊎◌, inl, inr, List, [], ◌∷◌, ◌++◌, refl, ap, sym, subst, ◌∙◌, arith, cond, Bool, true, false, ◌||◌, ◌&&◌, ◌==◌, nat_lt, Option, Some, None}
-use Rattle.std.proofs.lemmas.Bool.{eqb-true}
+use Rattle.std.proofs.lemmas.Bool.{eqb-true, and_parts, or_cases}
 use Rattle.std.proofs.lemmas.Bool.Decides.{nat_tests}
 use Rattle.literals.specs.Scanning.{after_hashes, first_of, after_raw_text, after_raw_string, form_at, past_suffix, literal_at}
 use Rattle.lexing.specs.RawStrings.{hashes_at, after_letter, opening_at, NoneCloses}
-use Rattle.lexing.proofs.TextLaws.{either, and_true}
-use Rattle.lexing.proofs.Classes.{either_true}
+use Rattle.literals.proofs.RunLaws.{either}
 
 -- ---- what no quote closes, none further on closes, nor one with more signs #
 both_none : (a b : Option (List ℕ)) → first_of a b ≡ None → (a ≡ None) × (b ≡ None)
@@ -109,7 +108,7 @@ opens (c ∷ cs) h body e =
           elim (either ((c == 98) || (c == 99)) f.1) [
             | inr g ↦ cc
             | inl g ↦
-                elim (either_true (c == 98) (c == 99) g.0) [
+                elim (or_cases (c == 98) (c == 99) g.0) [
                   | inl k ↦ letter c h cs body (inl (eqb-true c 98 k)) g.1
                   | inr k ↦ letter c h cs body (inr (eqb-true c 99 k)) g.1
                 ]
@@ -155,7 +154,7 @@ none_in_hashes n (c ∷ cs) h body e f =
           elim (either ((c == 35) && nat_lt n 255) k.1) [
             | inr g ↦ cc
             | inl g ↦
-                let first : c ≡ 35 = eqb-true c 35 (and_true (c == 35) (nat_lt n 255) g.0).0 in
+                let first : c ≡ 35 = eqb-true c 35 (and_parts (c == 35) (nat_lt n 255) g.0).0 in
                 (λ more text m l. let no : opening_at (35 ∷ cs) ≡ Opened more text = subst (λ v. opening_at (v ∷ cs) ≡ Opened more text) first m in cc, none_in_hashes (n + 1) cs h body g.1 f)
           ]
     ]
@@ -188,7 +187,7 @@ hashes_few n (c ∷ cs) h body l e =
       | inr k ↦
           elim (either ((c == 35) && nat_lt n 255) k.1) [
             | inr g ↦ cc
-            | inl g ↦ hashes_few (n + 1) cs h body (below n (and_true (c == 35) (nat_lt n 255) g.0).1) g.1
+            | inl g ↦ hashes_few (n + 1) cs h body (below n (and_parts (c == 35) (nat_lt n 255) g.0).1) g.1
           ]
     ]
 

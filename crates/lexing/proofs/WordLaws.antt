@@ -1,13 +1,15 @@
 -- Identifiers, as a scanner finds them.
-use Rattle.std.proofs.Common.{◌≡◌, ℕ, ◌≤◌, inl, inr, List, [], ◌∷◌, ◌++◌, length, refl, ap, sym, subst, ◌∙◌, arith, cond, Bool, true, false, ◌||◌, ◌==◌, Option, Some, None, length-append, drop}
-use Rattle.std.proofs.lemmas.Bool.{eqb-true}
+use Rattle.std.proofs.Common.{◌≡◌, ℕ, ◌≤◌, inl, inr, List, [], ◌∷◌, ◌++◌, length, refl, ap, sym, subst, ◌∙◌, arith, cond, true, false, ◌==◌, Option, Some, None, length-append, drop}
+use Rattle.std.proofs.lemmas.Bool.{eqb-true, and_parts, or_from}
 use Rattle.std.specs.List.{list_all, list_any}
 use Rattle.unicode_ident.specs.Ident.{is_xid_continue}
-use Rattle.literals.specs.Literals.{is_digit, is_quote}
-use Rattle.lexing.specs.Pieces.{starts_name, begins_with, begins_with_two, IsName, IsIdentifier}
-use Rattle.lexing.specs.Scanning.{skip, name_at, first_of_both, raw_name_at, identifier_at}
-use Rattle.lexing.proofs.TextLaws.{either, and_true, skip_split, skip_least}
-use Rattle.lexing.proofs.Classes.{name_no_quote, word_no_quote, hash_no_word, r_starts_name, name_no_digit}
+use Rattle.literals.specs.Literals.{is_digit, is_quote, starts_name}
+use Rattle.literals.specs.Scanning.{skip}
+use Rattle.lexing.specs.Pieces.{begins_with, begins_with_two, IsName, IsIdentifier}
+use Rattle.lexing.specs.Scanning.{name_at, first_of_both, raw_name_at, identifier_at}
+use Rattle.literals.proofs.RunLaws.{either, skip_split, skip_least}
+use Rattle.literals.proofs.NumberLaws.{name_no_digit}
+use Rattle.lexing.proofs.Classes.{name_no_quote, word_no_quote, hash_no_word, r_starts_name}
 
 -- ---- two characters at the front
 begins_is : (c : ℕ) (cs : List ℕ) → begins_with c cs ≡ true → (rest : List ℕ) × (cs ≡ c ∷ rest)
@@ -17,7 +19,7 @@ begins_is c (d ∷ ds) h = (ds, ap (λ v. v ∷ ds) (eqb-true d c h))
 two_are : (a b : ℕ) (text : List ℕ) → begins_with_two a b text ≡ true → (rest : List ℕ) × (text ≡ a ∷ b ∷ rest)
 two_are a b [] h = cc
 two_are a b (c ∷ cs) h =
-    let both = and_true (c == a) (begins_with b cs) h in
+    let both = and_parts (c == a) (begins_with b cs) h in
     let second = begins_is b cs both.1 in
     (second.0, ap (λ v. v ∷ cs) (eqb-true c a both.0) ∙ ap (λ v. a ∷ v) second.1)
 
@@ -63,7 +65,7 @@ name_short : (text rest : List ℕ) → name_at text ≡ Some rest → length re
 name_short text rest e = let found = name_sound text rest e in omega (arith, ap length found.1, length-append found.0 rest)
 
 no_hash : (cs : List ℕ) → list_all is_xid_continue (35 ∷ cs) ≡ true → ⊥
-no_hash cs h = let first = (and_true (is_xid_continue 35) (list_all is_xid_continue cs) h).0 in let no = hash_no_word in cc
+no_hash cs h = let first = (and_parts (is_xid_continue 35) (list_all is_xid_continue cs) h).0 in let no = hash_no_word in cc
 
 -- a raw name that begins with a name is longer than it
 raw_longer : (long less rest : List ℕ) → IsName long → (text : List ℕ) → long ++ less ≡ 114 ∷ 35 ∷ text → name_at text ≡ Some rest → length rest ≤ length less
@@ -95,18 +97,15 @@ identifier_reads long less (inl h) = raw_case long less h (raw_name_at (long ++ 
 identifier_reads long less (inr h) = raw_reads long less h.0 h.1 h.2
 
 -- ---- what an identifier holds
-or_false : (a b : Bool) → a ≡ false → b ≡ false → (a || b) ≡ false
-or_false a b e f = ap (λ v. v || b) e ∙ f
-
 words_no_quote : (cs : List ℕ) → list_all is_xid_continue cs ≡ true → list_any is_quote cs ≡ false
 words_no_quote [] h = refl
 words_no_quote (c ∷ cs) h =
-    let both = and_true (is_xid_continue c) (list_all is_xid_continue cs) h in
-    or_false (is_quote c) (list_any is_quote cs) (word_no_quote c both.0) (words_no_quote cs both.1)
+    let both = and_parts (is_xid_continue c) (list_all is_xid_continue cs) h in
+    or_from (is_quote c) (list_any is_quote cs) (word_no_quote c both.0) (words_no_quote cs both.1)
 
 name_quoteless : (cs : List ℕ) → IsName cs → list_any is_quote cs ≡ false
 name_quoteless [] h = absurd h
-name_quoteless (c ∷ cs) h = or_false (is_quote c) (list_any is_quote cs) (name_no_quote c h.0) (words_no_quote cs h.1)
+name_quoteless (c ∷ cs) h = or_from (is_quote c) (list_any is_quote cs) (name_no_quote c h.0) (words_no_quote cs h.1)
 
 pub identifier_quoteless : (cs : List ℕ) → IsIdentifier cs → list_any is_quote cs ≡ false
 identifier_quoteless cs (inl h) = name_quoteless cs h

@@ -3,8 +3,8 @@ use Rattle.std.specs.Prelude.{◌≡◌, ℕ, ◌+◌, ◌≤◌, ◌⊎◌, Lis
 use Rattle.std.specs.Str.{encode_utf8_all}
 use Rattle.std.specs.Int.{is_in_range}
 use Rattle.std.specs.List.{list_all, list_any}
-use Rattle.unicode_ident.specs.Ident.{is_xid_start, is_xid_continue}
-use Rattle.literals.specs.Literals.{IsLiteral}
+use Rattle.unicode_ident.specs.Ident.{is_xid_continue}
+use Rattle.literals.specs.Literals.{starts_name, IsLiteral}
 use Rattle.tokens.specs.declared.token.Bracket.{Bracket}
 use Rattle.tokens.specs.declared.token.Bracket.TheVariants.{Round, Square, Curly}
 use Rattle.tokens.specs.declared.token.TokenKind.TheVariants.{Ident, Lifetime, Literal, Punct, Doc}
@@ -30,10 +30,6 @@ is_white c = is_in_range 9 13 c || (c == 0x20) || (c == 0x85) || (c == 0x200E) |
 -- a character of a line: any but U+000A
 abbrev pub is_in_line : ℕ → Bool
 is_in_line c = not (c == 10)
-
--- an underscore, or a character of XID_Start
-abbrev pub starts_name : ℕ → Bool
-starts_name c = (c == 95) || is_xid_start c
 
 -- the signs of one character
 abbrev pub signs : List ℕ

@@ -3,7 +3,8 @@ use Rattle.std.specs.Prelude.{◌≡◌, ℕ, zero, suc, ◌+◌, ◌-◌, ◌�
 use Rattle.std.specs.Borrow.{Bor}
 use Rattle.std.specs.Str.{IsUtf8}
 use Rattle.unicode_ident.specs.Ident.{is_xid_continue}
-use Rattle.literals.specs.Scanning.{literal_at}
+use Rattle.literals.specs.Literals.{starts_name}
+use Rattle.literals.specs.Scanning.{skip, literal_at}
 use Rattle.tokens.specs.declared.token.Bracket.TheVariants.{Round, Square, Curly}
 use Rattle.tokens.specs.declared.token.TokenKind.TheVariants.{Ident, Lifetime, Literal, Punct, Doc}
 use Rattle.lexing.specs.declared.comment.Mark.{Mark}
@@ -15,9 +16,9 @@ use Rattle.lexing.specs.declared.piece.PieceKind.{PieceKind}
 use Rattle.lexing.specs.declared.piece.PieceKind.TheVariants.{Space, Comment, Token, Open, Close}
 use Rattle.lexing.specs.declared.scan.Class.{Class}
 use Rattle.lexing.specs.declared.scan.Class.TheVariants as classes
-use Rattle.lexing.specs.declared.text.Run.{Run}
-use Rattle.lexing.specs.declared.text.Run.TheVariants as runs
-use Rattle.lexing.specs.Pieces.{quote, star, slash, is_white, is_in_line, starts_name, is_sign, begins_with_two, is_plain, is_doc, may_end, Cuts}
+use Rattle.lexing.specs.declared.text.PieceRun.{PieceRun}
+use Rattle.lexing.specs.declared.text.PieceRun.TheVariants as runs
+use Rattle.lexing.specs.Pieces.{quote, star, slash, is_white, is_in_line, is_sign, begins_with_two, is_plain, is_doc, may_end, Cuts}
 
 -- ---- what readers of a text answer
 
@@ -47,15 +48,10 @@ class_of c =
 -- ---- runs of characters
 
 -- whether a character goes on with a run
-abbrev pub continues : Run → ℕ → Bool
+abbrev pub continues : PieceRun → ℕ → Bool
 continues runs.White c = is_white c
 continues runs.Name c = is_xid_continue c
 continues runs.Line c = is_in_line c
-
--- what follows the characters at the front that pass the test
-abbrev pub skip : (ℕ → Bool) → List ℕ → List ℕ
-skip p [] = []
-skip p (c ∷ cs) = cond (p c) (skip p cs) (c ∷ cs)
 
 -- ---- identifiers
 

@@ -7,8 +7,8 @@ ghost use Rattle.lexing.specs.declared.comment.Mark.TheVariants.{Opens, Closes};
 ghost use Rattle.lexing.specs.Scanning.{IsMark, open_after, closing_at, comment_kind, comment_at, Finds, FindsPiece};
 
 use crate::piece::PieceKind;
-use crate::text::{Run, after_run, after_two, begins_with};
-use literals::split_first_char;
+use crate::text::{PieceRun, after_two, begins_with};
+use literals::{after_run, split_first_char};
 use tokens::TokenKind;
 
 /// What stands at the front of a text in a block comment.
@@ -98,7 +98,7 @@ pub fn comment(text: &str) -> Option<(PieceKind, &str)>
     match split_first_char(text) {
         Some((c, body)) if c == '/' => {
             let kind = comment_kind(is_doc('/', body));
-            Some((kind, after_run(Run::Line, body)))
+            Some((kind, after_run(&PieceRun::Line, body)))
         }
         Some((c, body)) if c == '*' => match after_block(body) {
             Some(rest) => Some((comment_kind(is_doc('*', body)), rest)),

@@ -9,9 +9,9 @@ ghost use Rattle.lexing.specs.Scanning.{bracket_class, class_of, after_colon, or
 use crate::comment::comment;
 use crate::piece::{LexError, Piece, PieceKind};
 use crate::raw::{MORE_HASHES, is_never_closed, unclosed_after};
-use crate::text::{Run, after_run, begins_with, is_white};
-use crate::word::{after_identifier, starts_name};
-use literals::{after_literal, split_first_char};
+use crate::text::{PieceRun, begins_with, is_white};
+use crate::word::after_identifier;
+use literals::{after_literal, after_run, split_first_char, starts_name};
 use std::alloc::Global;
 use texts::{List, Span};
 use tokens::{Bracket, TokenKind};
@@ -124,7 +124,7 @@ fn plain_piece(text: &str) -> Option<(PieceKind, &str)>
     match split_first_char(text) {
         None => None,
         Some((c, rest)) => match class_of(c) {
-            Class::White => Some((PieceKind::Space, after_run(Run::White, rest))),
+            Class::White => Some((PieceKind::Space, after_run(&PieceRun::White, rest))),
             Class::Slash => Some(after_slash(rest)),
             Class::Colon => Some((PieceKind::Token(TokenKind::Punct), after_colon(rest))),
             Class::Sign => Some((PieceKind::Token(TokenKind::Punct), rest)),

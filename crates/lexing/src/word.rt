@@ -1,24 +1,17 @@
 //! Identifiers at the front of a text.
 
-ghost use Rattle.std.specs.Prelude.{◌≡◌, chars};
-ghost use Rattle.lexing.specs.Pieces.{starts_name};
+ghost use Rattle.std.specs.Prelude.{chars};
 ghost use Rattle.lexing.specs.Scanning.{name_at, raw_name_at, identifier_at, Finds};
 
-use crate::text::{Run, after_run, after_two};
-use literals::split_first_char;
-
-pub fn starts_name(c: char) -> bool
-    ensures { result ≡ starts_name c }
-{
-    (c == '_') | unicode_ident::is_xid_start(c)
-}
+use crate::text::{PieceRun, after_two};
+use literals::{after_run, split_first_char, starts_name};
 
 /// What follows the name at the front.
 fn after_name(text: &str) -> Option<&str>
     ensures { Finds (name_at (chars text.now)) text.now result }
 {
     match split_first_char(text) {
-        Some((c, rest)) if starts_name(c) => Some(after_run(Run::Name, rest)),
+        Some((c, rest)) if starts_name(c) => Some(after_run(&PieceRun::Name, rest)),
         _ => None,
     }
 }

@@ -1,9 +1,6 @@
 -- The number that hexadecimal digits write.
-use Rattle.std.proofs.Common.{ℕ, ◌+◌, ◌*◌, ◌^◌, ◌<◌, ◌≤◌, arith, pow-add}
+use Rattle.std.proofs.Common.{ℕ, ◌^◌, ◌<◌, ◌≤◌, arith}
 use Rattle.std.proofs.Math.Nat.{pow-le-pow_right}
-
-pub code_more : (value digit digits : ℕ) → value < 16 ^ digits → digit < 16 → value * 16 + digit < 16 ^ (digits + 1)
-code_more value digit digits v d = omega (arith, pow-add 16 digits 1)
 
 pub code_fits : (value digits : ℕ) → value < 16 ^ digits → digits < 6 → value < 16 ^ 5
 code_fits value digits v n =

@@ -1,13 +1,13 @@
 -- Literals: the scanner and the definition.
 use Rattle.std.proofs.Common.{◌≡◌, ℕ, ◌≤◌, ◌⊎◌, inl, inr, List, [], ◌∷◌, ◌++◌, length, replicate, refl, ap, sym, subst, ◌∙◌, Bool, true, false, ◌||◌, ◌==◌, Option, Some, None, append_assoc}
-use Rattle.std.proofs.lemmas.Bool.{eqb-true}
+use Rattle.std.proofs.lemmas.Bool.{eqb-true, cases_Bool}
 use Rattle.std.proofs.lemmas.List.Folds.{list_any-append}
 use Rattle.std.specs.List.{list_any}
 use Rattle.unicode_ident.specs.Ident.{is_xid_continue}
 use Rattle.literals.specs.Literals.{is_digit, is_quote, starts_name, begins_literal, IsCharacter, plain, escaped, IsString, IsRawString, IsForm, number, character, byte, string, byte_string, c_string, raw_string, raw_byte_string, raw_c_string, IsSuffix, IsLiteral}
 use Rattle.literals.specs.Scanning.{skip, after_string, after_raw_string, after_character, after_number, after_b, after_c, after_first, form_at, after_suffix, past_suffix, literal_at}
 use Rattle.literals.specs.declared.strings.Escapes.TheVariants.{Listed, Any}
-use Rattle.literals.proofs.RunLaws.{decide, either, cond_true, cond_false, some_same, skip_split}
+use Rattle.literals.proofs.RunLaws.{either, cond_true, cond_false, some_same, skip_split}
 use Rattle.literals.proofs.StringLaws.{string_sound, AfterQuotes, string_reads}
 use Rattle.literals.proofs.RawLaws.{raw_string_sound, raw_string_reads}
 use Rattle.literals.proofs.QuotedLaws.{character_sound, AfterQuote, character_reads}
@@ -97,7 +97,7 @@ suffix_split [] = ([], refl, tt)
 suffix_split (c ∷ cs) =
     let run = skip_split is_xid_continue cs in
     let word = skip is_xid_continue cs in
-    elim (decide (starts_name c)) [
+    elim (cases_Bool (starts_name c)) [
       | inl h ↦ (c ∷ run.0, ap (λ v. c ∷ v) run.1 ∙ ap (λ v. (c ∷ run.0) ++ v) (sym (cond_true word (c ∷ cs) (starts_name c) h)), (h, run.2))
       | inr h ↦ ([], sym (cond_false word (c ∷ cs) (starts_name c) h), tt)
     ]

@@ -1,6 +1,6 @@
 -- Numbers: the scanner and the definition.
 use Rattle.std.proofs.Common.{◌≡◌, ℕ, ◌≤◌, ◌<◌, inl, inr, List, [], ◌∷◌, ◌++◌, length, refl, ap, sym, subst, ◌∙◌, arith, Bool, true, false, not, ◌||◌, ◌&&◌, ◌==◌, append_assoc}
-use Rattle.std.proofs.lemmas.Bool.{eqb-true}
+use Rattle.std.proofs.lemmas.Bool.{eqb-true, cases_Bool, and_parts, and_from, or_cases}
 use Rattle.std.proofs.lemmas.Bool.Decides.{nat_tests}
 use Rattle.std.specs.Char.{is_ascii_alphabetic, is_ascii_alphanumeric}
 use Rattle.std.specs.Int.{is_in_range}
@@ -10,7 +10,7 @@ use Rattle.unicode_ident.proofs.IdentLemmas.{is_xid_start-ascii, is_xid_continue
 use Rattle.unicode_ident.proofs.Computing.{unicode_ident}
 use Rattle.literals.specs.Literals.{is_digit, starts_name, IsDigits, IsPlainNumber, whole, pointed, is_base, is_decimal, last, is_e, ends_in_e, is_sign, IsNumber, plain, signed, IsSuffix}
 use Rattle.literals.specs.Scanning.{skip, last_of_word, begins_with, after_exponent, after_fraction, after_number, after_suffix}
-use Rattle.literals.proofs.RunLaws.{decide, and_true, both_true, either_true, cond_true, cond_false, skip_more, skip_split, skip_short, skip_least, skip_exact, word_split, word_more, word_exact}
+use Rattle.literals.proofs.RunLaws.{cond_true, cond_false, skip_more, skip_split, skip_short, skip_least, skip_exact, word_split, word_more, word_exact}
 
 -- ---- characters
 digit_small : (c : ℕ) → is_digit c ≡ true → c < 128
@@ -28,8 +28,8 @@ no_letter c h = grind (arith, nat_tests)
 digit_no_name : (c : ℕ) → is_digit c ≡ true → starts_name c ≡ false
 digit_no_name c h = ap (λ v. (c == 95) || v) (is_xid_start-ascii c (digit_small c h)) ∙ no_letter c h
 
-name_no_digit : (c : ℕ) → starts_name c ≡ true → is_digit c ≡ false
-name_no_digit c h = elim (decide (is_digit c)) [
+pub name_no_digit : (c : ℕ) → starts_name c ≡ true → is_digit c ≡ false
+name_no_digit c h = elim (cases_Bool (is_digit c)) [
   | inl d ↦ let both : true ≡ false = sym h ∙ digit_no_name c d in cc
   | inr d ↦ d
 ]
@@ -37,7 +37,7 @@ name_no_digit c h = elim (decide (is_digit c)) [
 name_continues : (c : ℕ) → starts_name c ≡ true → is_xid_continue c ≡ true
 unfolding unicode_ident
 name_continues c h =
-    elim (either_true (c == 95) (is_xid_start c) h) [
+    elim (or_cases (c == 95) (is_xid_start c) h) [
       | inl line ↦ ap is_xid_continue (eqb-true c 95 line)
       | inr start ↦ is_xid_start-is_xid_continue c start
     ]
@@ -49,21 +49,21 @@ point_ends = refl
 sign_ends : (c : ℕ) → is_sign c ≡ true → is_xid_continue c ≡ false
 unfolding unicode_ident
 sign_ends c h =
-    elim (either_true (c == 43) (c == 45) h) [
+    elim (or_cases (c == 43) (c == 45) h) [
       | inl e ↦ ap is_xid_continue (eqb-true c 43 e)
       | inr e ↦ ap is_xid_continue (eqb-true c 45 e)
     ]
 
 sign_no_base : (c : ℕ) → is_sign c ≡ true → is_base c ≡ false
 sign_no_base c h =
-    elim (either_true (c == 43) (c == 45) h) [
+    elim (or_cases (c == 43) (c == 45) h) [
       | inl e ↦ ap is_base (eqb-true c 43 e)
       | inr e ↦ ap is_base (eqb-true c 45 e)
     ]
 
 sign_no_point : (c : ℕ) → is_sign c ≡ true → (c == 46) ≡ false
 sign_no_point c h =
-    elim (either_true (c == 43) (c == 45) h) [
+    elim (or_cases (c == 43) (c == 45) h) [
       | inl e ↦ ap (λ v. v == 46) (eqb-true c 43 e)
       | inr e ↦ ap (λ v. v == 46) (eqb-true c 45 e)
     ]
@@ -102,7 +102,7 @@ exponent_digits number s [] n d e h b = let none : false ≡ true = b in cc
 exponent_digits number s (c ∷ cs) n d e h b =
     let run = skip_split is_digit cs in
     let here : cs ≡ run.0 ++ skip is_digit (c ∷ cs) = run.1 ∙ ap (λ v. run.0 ++ v) (sym (skip_more is_digit c cs b)) in
-    let digits : list_all is_digit (c ∷ run.0) ≡ true = both_true (is_digit c) (list_all is_digit run.0) b run.2 in (
+    let digits : list_all is_digit (c ∷ run.0) ≡ true = and_from (is_digit c) (list_all is_digit run.0) b run.2 in (
       number ++ s ∷ c ∷ run.0,
       ap (λ v. number ++ s ∷ c ∷ v) here ∙ sym (append_assoc number (s ∷ c ∷ run.0) (skip is_digit (c ∷ cs))),
       signed s c run.0 n d e h digits,
@@ -112,11 +112,11 @@ exponent_sound : (number : List ℕ) (decimal : Bool) (before : ℕ) (cs : List 
 exponent_sound number decimal before [] n t = (number, refl, plain n)
 exponent_sound number decimal before (s ∷ cs) n t =
     let test = decimal && is_e before && is_sign s && begins_with is_digit cs in
-    elim (decide test) [
+    elim (cases_Bool test) [
       | inl h ↦
-          let digits = and_true (decimal && is_e before && is_sign s) (begins_with is_digit cs) h in
-          let sign = and_true (decimal && is_e before) (is_sign s) digits.0 in
-          let ends = and_true decimal (is_e before) sign.0 in
+          let digits = and_parts (decimal && is_e before && is_sign s) (begins_with is_digit cs) h in
+          let sign = and_parts (decimal && is_e before) (is_sign s) digits.0 in
+          let ends = and_parts decimal (is_e before) sign.0 in
           let takes = t ends.0 ends.1 in
           subst (Front IsNumber (number ++ s ∷ cs)) (sym (cond_true (skip is_digit cs) (s ∷ cs) test h)) (exponent_digits number s cs n takes.0 takes.1 sign.1 digits.1)
       | inr h ↦ subst (Front IsNumber (number ++ s ∷ cs)) (sym (cond_false (skip is_digit cs) (s ∷ cs) test h)) (number, refl, plain n)
@@ -146,9 +146,9 @@ fraction_sound c xs (p ∷ ps) w =
     let test = (p == 46) && begins_with is_digit ps in
     let more = after_exponent decimal (last_of_word p ps) (skip is_xid_continue ps) in
     let less = after_exponent decimal (last c xs) (p ∷ ps) in
-    elim (decide test) [
+    elim (cases_Bool test) [
       | inl h ↦
-          let both = and_true (p == 46) (begins_with is_digit ps) h in
+          let both = and_parts (p == 46) (begins_with is_digit ps) h in
           let point : 46 ≡ p = sym (eqb-true p 46 both.0) in
           subst (Front IsNumber ((c ∷ xs) ++ p ∷ ps)) (sym (cond_true more less test h))
           (subst (λ v. Front IsNumber ((c ∷ xs) ++ v ∷ ps) (after_exponent (is_decimal (c ∷ (xs ++ v ∷ ps))) (last_of_word v ps) (skip is_xid_continue ps))) point (fraction_digits c xs ps w both.1))
@@ -171,7 +171,7 @@ exponent_short : (decimal : Bool) (before : ℕ) (cs : List ℕ) → length (aft
 exponent_short decimal before [] = omega arith
 exponent_short decimal before (s ∷ cs) =
     let test = decimal && is_e before && is_sign s && begins_with is_digit cs in
-    elim (decide test) [
+    elim (cases_Bool test) [
       | inl h ↦ let less = skip_short is_digit cs in omega (arith, less, ap length (cond_true (skip is_digit cs) (s ∷ cs) test h))
       | inr h ↦ omega (arith, ap length (cond_false (skip is_digit cs) (s ∷ cs) test h))
     ]
@@ -182,7 +182,7 @@ fraction_short decimal before (p ∷ ps) =
     let test = (p == 46) && begins_with is_digit ps in
     let more = after_exponent decimal (last_of_word p ps) (skip is_xid_continue ps) in
     let less = after_exponent decimal before (p ∷ ps) in
-    elim (decide test) [
+    elim (cases_Bool test) [
       | inl h ↦ omega (arith, skip_short is_xid_continue ps, exponent_short decimal (last_of_word p ps) (skip is_xid_continue ps), ap length (cond_true more less test h))
       | inr h ↦ omega (arith, exponent_short decimal before (p ∷ ps), ap length (cond_false more less test h))
     ]
@@ -191,7 +191,7 @@ pub suffix_short : (cs : List ℕ) → length (after_suffix cs) ≤ length cs
 suffix_short [] = omega arith
 suffix_short (c ∷ cs) =
     let word = skip is_xid_continue cs in
-    elim (decide (starts_name c)) [
+    elim (cases_Bool (starts_name c)) [
       | inl h ↦ omega (arith, skip_short is_xid_continue cs, ap length (cond_true word (c ∷ cs) (starts_name c) h))
       | inr h ↦ omega (arith, ap length (cond_false word (c ∷ cs) (starts_name c) h))
     ]
@@ -204,12 +204,12 @@ suffix_reads (c ∷ cs) rest s =
 all_append : (p : ℕ → Bool) (xs ys : List ℕ) → list_all p xs ≡ true → list_all p ys ≡ true → list_all p (xs ++ ys) ≡ true
 all_append p [] ys h g = g
 all_append p (x ∷ xs) ys h g =
-    let both = and_true (p x) (list_all p xs) h in
-    both_true (p x) (list_all p (xs ++ ys)) both.0 (all_append p xs ys both.1 g)
+    let both = and_parts (p x) (list_all p xs) h in
+    and_from (p x) (list_all p (xs ++ ys)) both.0 (all_append p xs ys both.1 g)
 
 suffix_continues : (suffix : List ℕ) → IsSuffix suffix → list_all is_xid_continue suffix ≡ true
 suffix_continues [] s = refl
-suffix_continues (c ∷ cs) s = both_true (is_xid_continue c) (list_all is_xid_continue cs) (name_continues c s.0) s.1
+suffix_continues (c ∷ cs) s = and_from (is_xid_continue c) (list_all is_xid_continue cs) (name_continues c s.0) s.1
 
 word_reads : (cs suffix rest : List ℕ) → list_all is_xid_continue cs ≡ true → IsSuffix suffix → length (skip is_xid_continue (cs ++ (suffix ++ rest))) ≤ length rest
 word_reads cs suffix rest h s =
@@ -254,7 +254,7 @@ plain_short number suffix rest (pointed (c ∷ cs) (d ∷ ds) w v) s =
     let ys = suffix ++ rest in
     let digits = (d ∷ ds) ++ ys in
     let decimal = is_decimal (c ∷ (cs ++ 46 ∷ digits)) in
-    let on : list_all is_xid_continue (d ∷ ds) ≡ true = both_true (is_xid_continue d) (list_all is_xid_continue ds) (digit_continues d v.0) v.1 in
+    let on : list_all is_xid_continue (d ∷ ds) ≡ true = and_from (is_xid_continue d) (list_all is_xid_continue ds) (digit_continues d v.0) v.1 in
     let read = ap (after_number c) (append_assoc cs (46 ∷ d ∷ ds) ys) ∙ point_read c cs digits w.1 v.0 in
     (w.0, omega (arith, word_reads (d ∷ ds) suffix rest on s, exponent_short decimal (last_of_word 46 digits) (skip is_xid_continue digits), ap length read))
 
@@ -268,7 +268,7 @@ plain_signed number s ts (pointed (c ∷ cs) (d ∷ ds) w v) g =
     let digits = (d ∷ ds) ++ s ∷ ts in
     let same = append_assoc cs (46 ∷ d ∷ ds) (s ∷ ts) in
     let decimal = is_decimal (c ∷ (cs ++ 46 ∷ digits)) in
-    let on : list_all is_xid_continue (d ∷ ds) ≡ true = both_true (is_xid_continue d) (list_all is_xid_continue ds) (digit_continues d v.0) v.1 in (
+    let on : list_all is_xid_continue (d ∷ ds) ≡ true = and_from (is_xid_continue d) (list_all is_xid_continue ds) (digit_continues d v.0) v.1 in (
       w.0,
       ap (after_number c) same
           ∙ point_read c cs digits w.1 v.0
@@ -286,9 +286,9 @@ signed_short (c ∷ cs) s d ds suffix rest dec ends g digits f read =
     let number = (d ∷ ds) ++ ys in
     let decimal = is_decimal (c ∷ (cs ++ s ∷ number)) in
     let takes : (decimal && is_e (last c cs) && is_sign s && is_digit d) ≡ true =
-    both_true (decimal && is_e (last c cs) && is_sign s) (is_digit d)
-    (both_true (decimal && is_e (last c cs)) (is_sign s) (both_true decimal (is_e (last c cs)) (decimal_signed c s cs number g dec) ends) g)
-    (and_true (is_digit d) (list_all is_digit ds) digits).0 in
+    and_from (decimal && is_e (last c cs) && is_sign s) (is_digit d)
+    (and_from (decimal && is_e (last c cs)) (is_sign s) (and_from decimal (is_e (last c cs)) (decimal_signed c s cs number g dec) ends) g)
+    (and_parts (is_digit d) (list_all is_digit ds) digits).0 in
     let found : after_number c ((cs ++ s ∷ d ∷ ds) ++ ys) ≡ skip is_digit number =
     ap (after_number c) (append_assoc cs (s ∷ d ∷ ds) ys) ∙ read.1 ∙ cond_true (skip is_digit number) (s ∷ number) (decimal && is_e (last c cs) && is_sign s && is_digit d) takes in
     (read.0, omega (arith, digits_read (d ∷ ds) suffix rest digits f, ap (λ v. length (after_suffix v)) found))

@@ -1,10 +1,10 @@
 -- Characters in single quotes: the scanner and the definition.
-use Rattle.std.proofs.Common.{◌≡◌, ℕ, inl, inr, List, [], ◌∷◌, ◌++◌, refl, ap, sym, subst, ◌∙◌, Bool, true, false, not, ◌||◌, ◌&&◌, ◌==◌, Some, None, append_assoc}
-use Rattle.std.proofs.lemmas.Bool.{eqb-true}
+use Rattle.std.proofs.Common.{◌≡◌, ℕ, inl, inr, List, [], ◌∷◌, ◌++◌, refl, ap, sym, subst, ◌∙◌, true, not, ◌||◌, ◌&&◌, ◌==◌, Some, None, append_assoc}
+use Rattle.std.proofs.lemmas.Bool.{not-true, eqb-true, and_parts, or_parts}
 use Rattle.std.specs.List.{list_all}
 use Rattle.literals.specs.Literals.{IsCharacter, plain, escaped, is_not_apostrophe}
 use Rattle.literals.specs.Scanning.{after_apostrophe, after_escaped, closed, after_character}
-use Rattle.literals.proofs.RunLaws.{either, and_true, none_true, cond_false, some_same}
+use Rattle.literals.proofs.RunLaws.{neither, either, cond_false, some_same}
 
 -- what stands before the next '
 abbrev UpTo : List ℕ → List ℕ → Type 0
@@ -18,15 +18,11 @@ apostrophe_sound (c ∷ cs) rest e =
       | inr h ↦ let r = apostrophe_sound cs rest h.1 in (c ∷ r.0, ap (λ v. c ∷ v) r.1, ap (λ v. not v && list_all is_not_apostrophe r.0) h.0 ∙ r.2)
     ]
 
-not_true : (b : Bool) → not b ≡ true → b ≡ false
-not_true true e = cc
-not_true false e = refl
-
 apostrophe_reads : (cs rest : List ℕ) → list_all is_not_apostrophe cs ≡ true → after_apostrophe (cs ++ 39 ∷ rest) ≡ Some rest
 apostrophe_reads [] rest h = refl
 apostrophe_reads (c ∷ cs) rest h =
-    let both = and_true (is_not_apostrophe c) (list_all is_not_apostrophe cs) h in
-    cond_false (Some (cs ++ 39 ∷ rest)) (after_apostrophe (cs ++ 39 ∷ rest)) (c == 39) (not_true (c == 39) both.0) ∙ apostrophe_reads cs rest both.1
+    let both = and_parts (is_not_apostrophe c) (list_all is_not_apostrophe cs) h in
+    cond_false (Some (cs ++ 39 ∷ rest)) (after_apostrophe (cs ++ 39 ∷ rest)) (c == 39) (not-true (c == 39) both.0) ∙ apostrophe_reads cs rest both.1
 
 -- the character whose first ' stands before the text
 abbrev Quoted : List ℕ → List ℕ → Type 0
@@ -46,9 +42,6 @@ escaped_sound (c ∷ cs) rest e =
     let r = apostrophe_sound cs rest e in
     (39 ∷ 92 ∷ c ∷ (r.0 ++ 39 ∷ []), ap (λ v. 39 ∷ 92 ∷ c ∷ v) (r.1 ∙ sym (append_assoc r.0 (39 ∷ []) rest)), escaped r.0 r.2)
 
-both_false : (a b : Bool) → a ≡ false → b ≡ false → not (a || b) ≡ true
-both_false a b e f = ap (λ v. not (v || b)) e ∙ ap not f
-
 pub character_sound : (cs rest : List ℕ) → after_character cs ≡ Some rest → Quoted cs rest
 character_sound [] rest e = cc
 character_sound (c ∷ cs) rest e =
@@ -57,7 +50,7 @@ character_sound (c ∷ cs) rest e =
       | inr h ↦
           elim (either (c == 92) h.1) [
             | inl g ↦ subst (λ v. Quoted (v ∷ cs) rest) (sym (eqb-true c 92 g.0)) (escaped_sound cs rest g.1)
-            | inr g ↦ (39 ∷ c ∷ 39 ∷ [], ap (λ v. 39 ∷ c ∷ v) (closed_sound cs rest g.1), plain (both_false (c == 39) (c == 92) h.0 g.0))
+            | inr g ↦ (39 ∷ c ∷ 39 ∷ [], ap (λ v. 39 ∷ c ∷ v) (closed_sound cs rest g.1), plain (neither (c == 39) (c == 92) h.0 g.0))
           ]
     ]
 
@@ -68,6 +61,6 @@ AfterQuote P (c ∷ cs) = (c ≡ 39) × P cs
 
 pub character_reads : (front rest : List ℕ) → IsCharacter front → AfterQuote (λ cs. after_character (cs ++ rest) ≡ Some rest) front
 character_reads front rest (plain {c = c} h) =
-    let both = none_true (c == 39) (c == 92) (not_true ((c == 39) || (c == 92)) h) in
+    let both = or_parts (c == 39) (c == 92) (not-true ((c == 39) || (c == 92)) h) in
     (refl, cond_false None _ (c == 39) both.0 ∙ cond_false (after_escaped (39 ∷ rest)) (closed (39 ∷ rest)) (c == 92) both.1)
 character_reads front rest (escaped {c = c} cs h) = (refl, ap (λ v. after_escaped (c ∷ v)) (append_assoc cs (39 ∷ []) rest) ∙ apostrophe_reads cs rest h)

@@ -1,10 +1,10 @@
 -- Raw strings: the scanner and the definition.
 use Rattle.std.proofs.Common.{◌≡◌, ℕ, zero, suc, ◌+◌, ◌≤◌, inl, inr, List, [], ◌∷◌, ◌++◌, replicate, refl, ap, sym, ◌∙◌, arith, true, false, ◌&&◌, ◌==◌, nat_lt, Option, Some, None, append_assoc}
-use Rattle.std.proofs.lemmas.Bool.{eqb-true}
+use Rattle.std.proofs.lemmas.Bool.{eqb-true, cases_Bool, and_parts}
 use Rattle.std.proofs.lemmas.Bool.Decides.{nat_tests}
 use Rattle.literals.specs.Literals.{IsRawText, IsRawString}
 use Rattle.literals.specs.Scanning.{after_hashes, first_of, after_raw_text, after_raw_string}
-use Rattle.literals.proofs.RunLaws.{decide, either, and_true, cond_true, cond_false, some_same}
+use Rattle.literals.proofs.RunLaws.{either, cond_true, cond_false, some_same}
 
 -- ---- signs #
 pub hashes_read : (n : ℕ) (ys : List ℕ) → after_hashes n (replicate n 35 ++ ys) ≡ Some ys
@@ -84,7 +84,7 @@ raw_text_reads n (c ∷ cs) rest raw =
     let ys = replicate n 35 ++ rest in
     let later : after_raw_text n (cs ++ 34 ∷ ys) ≡ Some rest = raw_text_reads n cs rest (raw_text_inside n c cs raw) in
     let quoted = first_of (after_hashes n (cs ++ 34 ∷ ys)) (after_raw_text n (cs ++ 34 ∷ ys)) in
-    elim (decide (c == 34)) [
+    elim (cases_Bool (c == 34)) [
       | inl q ↦ cond_true quoted _ (c == 34) q ∙ ap (λ v. first_of v (after_raw_text n (cs ++ 34 ∷ ys))) (no_hashes n c cs ys raw (eqb-true c 34 q) (after_hashes n (cs ++ 34 ∷ ys)) refl) ∙ later
       | inr q ↦ cond_false quoted _ (c == 34) q ∙ later
     ]
@@ -101,7 +101,7 @@ raw_sound k (c ∷ cs) rest l e =
       | inr h ↦
           elim (either ((c == 35) && nat_lt k 255) h.1) [
             | inl g ↦
-                let both = and_true (c == 35) (nat_lt k 255) g.0 in
+                let both = and_parts (c == 35) (nat_lt k 255) g.0 in
                 let less : k + 1 ≤ 255 = grind (arith, nat_tests, both.1) in
                 let r = raw_sound (k + 1) cs rest less g.1 in (suc r.0, r.1, r.2, omega (arith, r.3), r.4, ap (λ v. v ∷ cs) (eqb-true c 35 both.0) ∙ ap (λ v. 35 ∷ v) r.5, r.6)
             | inr g ↦ cc

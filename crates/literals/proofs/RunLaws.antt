@@ -1,33 +1,18 @@
 -- Runs of characters at the front of a text.
-use Rattle.std.proofs.Common.{◌≡◌, ℕ, ◌≤◌, ◌⊎◌, inl, inr, List, [], ◌∷◌, ◌++◌, length, refl, ap, sym, ◌∙◌, arith, cond, Bool, true, false, ◌||◌, ◌&&◌, Option, Some, length-append}
+use Rattle.std.proofs.Common.{◌≡◌, ℕ, ◌≤◌, ◌⊎◌, inl, inr, List, [], ◌∷◌, ◌++◌, length, refl, ap, sym, ◌∙◌, arith, cond, Bool, true, false, not, ◌||◌, ◌&&◌, Option, Some, length-append}
+use Rattle.std.proofs.lemmas.Bool.{and_parts}
 use Rattle.std.specs.List.{list_all}
 use Rattle.unicode_ident.specs.Ident.{is_xid_continue}
 use Rattle.literals.specs.Literals.{last}
 use Rattle.literals.specs.Scanning.{skip, last_of_word}
 
 -- ---- tests
-pub decide : (b : Bool) → (b ≡ true) ⊎ (b ≡ false)
-decide true = inl refl
-decide false = inr refl
-
 pub either : {A : Type 0} {x y z : A} → (b : Bool) → cond b x y ≡ z → ((b ≡ true) × (x ≡ z)) ⊎ ((b ≡ false) × (y ≡ z))
 either true e = inl (refl, e)
 either false e = inr (refl, e)
 
-pub and_true : (a b : Bool) → (a && b) ≡ true → (a ≡ true) × (b ≡ true)
-and_true true b e = (refl, e)
-and_true false b e = cc
-
-pub both_true : (a b : Bool) → a ≡ true → b ≡ true → (a && b) ≡ true
-both_true a b e f = ap (λ v. v && b) e ∙ f
-
-pub either_true : (a b : Bool) → (a || b) ≡ true → (a ≡ true) ⊎ (b ≡ true)
-either_true true b e = inl refl
-either_true false b e = inr e
-
-pub none_true : (a b : Bool) → (a || b) ≡ false → (a ≡ false) × (b ≡ false)
-none_true true b e = cc
-none_true false b e = (refl, e)
+pub neither : (a b : Bool) → a ≡ false → b ≡ false → not (a || b) ≡ true
+neither a b e f = ap (λ v. not (v || b)) e ∙ ap not f
 
 pub cond_true : {A : Type 0} (x y : A) (b : Bool) → b ≡ true → cond b x y ≡ x
 cond_true x y b e = ap (λ v. cond v x y) e
@@ -60,17 +45,16 @@ skip_split p (c ∷ cs) = takes_one p c cs (p c) refl (skip_split p cs)
 pub skip_short : (p : ℕ → Bool) (us : List ℕ) → length (skip p us) ≤ length us
 skip_short p us = let r = skip_split p us in omega (arith, ap length r.1, length-append r.0 (skip p us))
 
+pub skip_past : (p : ℕ → Bool) (xs ys : List ℕ) → list_all p xs ≡ true → skip p (xs ++ ys) ≡ skip p ys
+skip_past p [] ys h = refl
+skip_past p (x ∷ xs) ys h = let both = and_parts (p x) (list_all p xs) h in skip_more p x (xs ++ ys) both.0 ∙ skip_past p xs ys both.1
+
 pub skip_least : (p : ℕ → Bool) (xs ys : List ℕ) → list_all p xs ≡ true → length (skip p (xs ++ ys)) ≤ length ys
-skip_least p [] ys h = skip_short p ys
-skip_least p (x ∷ xs) ys h =
-    let both = and_true (p x) (list_all p xs) h in
-    let rest : length (skip p (xs ++ ys)) ≤ length ys = skip_least p xs ys both.1 in
-    rw (skip_one p x (xs ++ ys) true both.0) rest
+skip_least p xs ys h = let same = ap length (skip_past p xs ys h) in omega (arith, skip_short p ys)
 
 -- a run ends before the first character that does not pass
 pub skip_exact : (p : ℕ → Bool) (xs : List ℕ) (d : ℕ) (ys : List ℕ) → list_all p xs ≡ true → p d ≡ false → skip p (xs ++ d ∷ ys) ≡ d ∷ ys
-skip_exact p [] d ys h f = skip_one p d ys false f
-skip_exact p (x ∷ xs) d ys h f = let both = and_true (p x) (list_all p xs) h in skip_one p x (xs ++ d ∷ ys) true both.0 ∙ skip_exact p xs d ys both.1 f
+skip_exact p xs d ys h f = skip_past p xs (d ∷ ys) h ∙ skip_one p d ys false f
 
 -- ---- words, with their last character
 abbrev pub Word : ℕ → List ℕ → Type 0
@@ -94,4 +78,4 @@ word_more c d ds e = ap (λ v. cond v (last_of_word d ds) c) e
 
 pub word_exact : (c : ℕ) (xs : List ℕ) (d : ℕ) (ys : List ℕ) → list_all is_xid_continue xs ≡ true → is_xid_continue d ≡ false → last_of_word c (xs ++ d ∷ ys) ≡ last c xs
 word_exact c [] d ys h f = ap (λ v. cond v (last_of_word d ys) c) f
-word_exact c (x ∷ xs) d ys h f = let both = and_true (is_xid_continue x) (list_all is_xid_continue xs) h in word_more c x (xs ++ d ∷ ys) both.0 ∙ word_exact x xs d ys both.1 f
+word_exact c (x ∷ xs) d ys h f = let both = and_parts (is_xid_continue x) (list_all is_xid_continue xs) h in word_more c x (xs ++ d ∷ ys) both.0 ∙ word_exact x xs d ys both.1 f

@@ -1,11 +1,11 @@
 -- Strings: the scanner and the definition.
-use Rattle.std.proofs.Common.{◌≡◌, ℕ, zero, suc, ◌≤◌, inl, inr, List, [], ◌∷◌, ◌++◌, length, refl, ap, sym, subst, ◌∙◌, arith, Bool, true, false, not, ◌||◌, ◌==◌, Some, None, append_assoc, length-append}
-use Rattle.std.proofs.lemmas.Bool.{eqb-true}
+use Rattle.std.proofs.Common.{◌≡◌, ℕ, zero, suc, ◌≤◌, inl, inr, List, [], ◌∷◌, ◌++◌, length, refl, ap, sym, subst, ◌∙◌, arith, true, false, ◌||◌, ◌==◌, Some, None, append_assoc, length-append}
+use Rattle.std.proofs.lemmas.Bool.{not-true, eqb-true, cases_Bool, and_parts, or_parts}
 use Rattle.std.specs.List.{list_all}
 use Rattle.literals.specs.Literals.{is_plain, IsText, empty, plain, escaped, IsString}
 use Rattle.literals.specs.Scanning.{allows, after_string}
 use Rattle.literals.specs.declared.strings.Escapes.{Escapes}
-use Rattle.literals.proofs.RunLaws.{decide, either, and_true, none_true, cond_true, cond_false, some_same}
+use Rattle.literals.proofs.RunLaws.{neither, either, cond_true, cond_false, some_same}
 use Rattle.literals.proofs.EscapeLaws.{EscapeFront, escape_of, allowed_sound, Allowed, allowed_reads}
 
 -- what stands before the string's end is its text
@@ -13,11 +13,7 @@ abbrev TextFront : Escapes → List ℕ → List ℕ → Type 0
 TextFront escapes cs rest = (text : List ℕ) × (cs ≡ text ++ 34 ∷ rest) × IsText (escape_of escapes) text
 
 plain_signs : (c : ℕ) → is_plain c ≡ true → ((c == 34) ≡ false) × ((c == 92) ≡ false)
-plain_signs c h = none_true (c == 34) (c == 92) (off ((c == 34) || (c == 92)) h)
-  where
-    off : (b : Bool) → not b ≡ true → b ≡ false
-    off true e = cc
-    off false e = refl
+plain_signs c h = or_parts (c == 34) (c == 92) (not-true ((c == 34) || (c == 92)) h)
 
 plain_passed : (escapes : Escapes) (c : ℕ) (cs : List ℕ) → is_plain c ≡ true → after_string escapes false (c ∷ cs) ≡ after_string escapes false cs
 plain_passed escapes c cs h =
@@ -27,11 +23,8 @@ plain_passed escapes c cs h =
 plains_passed : (escapes : Escapes) (front more : List ℕ) → list_all is_plain front ≡ true → after_string escapes false (front ++ more) ≡ after_string escapes false more
 plains_passed escapes [] more h = refl
 plains_passed escapes (c ∷ cs) more h =
-    let both = and_true (is_plain c) (list_all is_plain cs) h in
+    let both = and_parts (is_plain c) (list_all is_plain cs) h in
     plain_passed escapes c (cs ++ more) both.0 ∙ plains_passed escapes cs more both.1
-
-neither : (a b : Bool) → a ≡ false → b ≡ false → not (a || b) ≡ true
-neither a b e f = ap (λ v. not (v || b)) e ∙ ap not f
 
 past_escape : (escapes : Escapes) (c d : ℕ) (ds rest : List ℕ) (f : EscapeFront (escape_of escapes) d ds) → c ≡ 92 → TextFront escapes f.1 rest → TextFront escapes (c ∷ d ∷ ds) rest
 past_escape escapes c d ds rest f e r = (
@@ -61,7 +54,7 @@ text_sound escapes (suc n) (c ∷ cs) rest l e =
     elim (either (c == 34) e) [
       | inl h ↦ let same : cs ≡ rest = some_same h.1 in ([], ap (λ v. v ∷ cs) (eqb-true c 34 h.0) ∙ ap (λ v. 34 ∷ v) same, empty)
       | inr h ↦
-          elim (decide (c == 92)) [
+          elim (cases_Bool (c == 92)) [
             | inl g ↦ after_backslash escapes n c cs rest (λ more few f. text_sound escapes n more rest few f) less (eqb-true c 92 g) (sym (ap (λ v. after_string escapes v cs) g) ∙ h.1)
             | inr g ↦
                 let r = text_sound escapes n cs rest less (sym (ap (λ v. after_string escapes v cs) g) ∙ h.1) in

@@ -6,8 +6,8 @@ use Rattle.std.specs.Int.{is_in_range}
 use Rattle.std.specs.Str.{IsUtf8}
 use lib.Utf8.{scalar}
 use Rattle.unicode_ident.specs.Ident.{is_xid_continue}
-use Rattle.literals.specs.declared.scan.Run.{Run}
-use Rattle.literals.specs.declared.scan.Run.TheVariants.{Word, Digits}
+use Rattle.literals.specs.declared.scan.LiteralRun.{LiteralRun}
+use Rattle.literals.specs.declared.scan.LiteralRun.TheVariants.{Word, Digits}
 use Rattle.literals.specs.declared.strings.Escapes.{Escapes}
 use Rattle.literals.specs.declared.strings.Escapes.TheVariants.{Listed, Any}
 use Rattle.literals.specs.Literals.{is_digit, is_hex_digit, starts_name, is_short_escape, is_decimal, is_e, is_sign}
@@ -17,7 +17,7 @@ abbrev pub Leaves : Option (Bor (List ℕ)) → List ℕ → Option (List ℕ) �
 Leaves result text found = MatchOption result (found ≡ None) (λ rest. (found ≡ Some (chars rest.now)) × (length rest.now ≤ length text) × IsUtf8 rest.now)
 
 -- whether a character goes on with a run
-abbrev pub continues : Run → ℕ → Bool
+abbrev pub continues : LiteralRun → ℕ → Bool
 continues Word c = is_xid_continue c
 continues Digits c = is_digit c
 

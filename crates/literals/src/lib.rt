@@ -12,4 +12,4 @@ mod strings;
 pub use laws::{literals_are_longest, literals_have_quotes};
 pub use literal::after_literal;
 pub use raw_strings::after_hashes;
-pub use scan::split_first_char;
+pub use scan::{Run, after_run, split_first_char, starts_name};

@@ -7,7 +7,7 @@ ghost use Rattle.literals.specs.Scanning.{Leaves, after_b, after_c, after_first,
 use crate::characters::after_character;
 use crate::numbers::after_number;
 use crate::raw_strings::after_raw_string;
-use crate::scan::{Run, after_run, is_digit, split_first_char, starts_name};
+use crate::scan::{LiteralRun, after_run, is_digit, split_first_char, starts_name};
 use crate::strings::{Escapes, after_string};
 
 /// What follows the byte, byte string or raw byte string whose `b` stands before the text.
@@ -66,7 +66,7 @@ fn after_suffix(text: &str) -> &str
     ensures utf8 { IsUtf8 result.now }
 {
     match split_first_char(text) {
-        Some((c, rest)) if starts_name(c) => after_run(Run::Word, rest),
+        Some((c, rest)) if starts_name(c) => after_run(&LiteralRun::Word, rest),
         _ => text,
     }
 }

@@ -6,7 +6,7 @@ ghost use Rattle.unicode_ident.specs.Ident.{is_xid_continue};
 ghost use Rattle.literals.specs.Literals.{is_decimal, is_e, is_sign};
 ghost use Rattle.literals.specs.Scanning.{skip, last_of_word, after_exponent, after_fraction, after_number};
 
-use crate::scan::{Run, after_run, begins_with_digit, split_first_char};
+use crate::scan::{LiteralRun, after_run, begins_with_digit, split_first_char};
 
 fn is_e(c: char) -> bool
     ensures { result ≡ is_e c }
@@ -58,7 +58,7 @@ fn after_exponent(decimal: bool, before: char, text: &str) -> &str
 {
     match split_first_char(text) {
         Some((c, rest)) if decimal && is_e(before) && is_sign(c) && begins_with_digit(rest) => {
-            after_run(Run::Digits, rest)
+            after_run(&LiteralRun::Digits, rest)
         }
         _ => text,
     }

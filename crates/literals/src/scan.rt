@@ -1,15 +1,36 @@
 //! Characters and runs of them at the front of a text.
 
-ghost use Rattle.std.specs.Prelude.{◌≡◌, ◌<◌, ◌≤◌, ◌∷◌, [], length, chars, MatchOption};
+ghost use Rattle.std.specs.Prelude.{◌≡◌, ◌<◌, ◌≤◌, ◌∷◌, [], ℕ, Bool, length, chars, MatchOption};
 ghost use Rattle.std.specs.Str.{IsUtf8};
 ghost use Rattle.literals.specs.Literals.{is_digit, is_hex_digit, starts_name};
-ghost use Rattle.literals.specs.Scanning.{begins_with, continues, skip};
+ghost use Rattle.literals.specs.Scanning.{begins_with, skip};
 
-/// What a run of characters is part of.
+/// What goes on with a run of characters.
+pub trait Run {
+    ghost passes: { Self → ℕ → Bool };
+
+    fn continues(&self, c: char) -> bool
+        ensures { result ≡ passes self.now c };
+}
+
+/// What a run of characters in a literal is part of.
 #[derive(Clone, Copy)]
-pub enum Run {
+pub enum LiteralRun {
     Word,
     Digits,
+}
+
+impl Run for LiteralRun {
+    ghost use Rattle.literals.specs.Scanning.{continues as continues_run};
+
+    ghost passes = { continues_run };
+
+    fn continues(&self, c: char) -> bool {
+        match self {
+            LiteralRun::Word => unicode_ident::is_xid_continue(c),
+            LiteralRun::Digits => is_digit(c),
+        }
+    }
 }
 
 /// The first character, and what follows it; `None` where the text is empty.
@@ -59,25 +80,16 @@ pub fn begins_with_hex_digit(text: &str) -> bool
     }
 }
 
-fn continues(run: Run, c: char) -> bool
-    ensures { result ≡ continues run c }
-{
-    match run {
-        Run::Word => unicode_ident::is_xid_continue(c),
-        Run::Digits => is_digit(c),
-    }
-}
-
 /// What follows the characters at the front that continue the run.
-pub fn after_run(run: Run, text: &str) -> &str
-    ensures value { chars result.now ≡ skip (continues run) (chars text.now) }
+pub fn after_run<'t, R: Run>(run: &R, text: &'t str) -> &'t str
+    ensures value { chars result.now ≡ skip (R.passes run.now) (chars text.now) }
     ensures shorter { length result.now ≤ length text.now }
     ensures utf8 { IsUtf8 result.now }
 {
     let mut rest = text;
     'run: loop {
         match split_first_char(rest) {
-            Some((c, after)) if continues(run, c) => rest = after,
+            Some((c, after)) if run.continues(c) => rest = after,
             _ => return rest,
         }
     }

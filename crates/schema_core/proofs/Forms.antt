@@ -4,9 +4,8 @@ use Rattle.std.specs.List.{list_all, list_any}
 use Rattle.std.proofs.Math.Bool.{or-false, and-true}
 use Rattle.acceptance.specs.Json.{Json, null, number, text, list, map, Members, no_members, elements, names, look, same, on_map, on_list, if_there}
 use Rattle.texts.specs.Names.{is_in, IsDistinct}
-use Rattle.acceptance.specs.Acceptance.{kinds_of, texts_of, if_texts, keyword_holds, names_of, named, count_of, prefix_count, others_pass, names_pass, in_order, each_accepts, accepts_with}
+use Rattle.acceptance.specs.Acceptance.{kinds_of, texts_of, if_texts, keyword_holds, names_of, named, count_of, prefix_count, others_pass, names_pass, in_order, each_accepts, accepts_with, readings_of}
 use Rattle.acceptance.specs.Keyword.{keyword_of, other}
-use Rattle.acceptance.specs.Judge.{readings_of}
 use Rattle.acceptance.specs.Acceptance.{some_accepts as some_json_accepts}
 use Rattle.schema_core.specs.declared.notes.Notes.{Notes}
 use Rattle.schema_core.specs.declared.tree.TypeWord.{TypeWord}

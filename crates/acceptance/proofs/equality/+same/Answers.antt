@@ -1,5 +1,0 @@
-use Rattle.acceptance.proofs.Views.{same_items-lengths}
-use Rattle.acceptance.proofs.equality.+same.Goals as goal
-
-pub same_items-returns-then-xs-ys : goal.same_items-returns-then-xs-ys
-same_items-returns-then-xs-ys t c = same_items-lengths c.args.xs.now c.args.ys.now c.if-xs-ys.true

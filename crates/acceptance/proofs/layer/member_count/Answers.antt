@@ -1,6 +1,0 @@
-use Rattle.std.proofs.Common.{◌∙◌}
-use Rattle.acceptance.proofs.Views.{length-pairs}
-use Rattle.acceptance.proofs.layer.member_count.Goals as goal
-
-pub returns : goal.returns
-returns c = c.len.ensures.len ∙ length-pairs c.args.members.now.entries

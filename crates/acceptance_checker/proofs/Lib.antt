@@ -1,0 +1,5 @@
+pub mod Levels
+mod Prefixes
+mod ReadBack
+mod Schemas
+pub mod Views

@@ -1,0 +1,3 @@
+pub mod Judge
+pub mod Kinds
+pub mod Layer
