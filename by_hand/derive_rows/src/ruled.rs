@@ -11,7 +11,7 @@ use serde_json::Value;
 use serde_rules::names::rename;
 use serde_rules::{
     FieldRename, NoRow, Rename, SerdeContainer, SerdeEnumRepr, SerdeValue, VariantRename,
-    has_serde_item, is_required, parse_container, parse_value,
+    has_item, is_required, parse_container, parse_value,
 };
 use std::alloc::{AllocError, Global};
 use std::str::FromStr;
@@ -145,7 +145,11 @@ fn values(alloc: Global, given: &Value) -> anyhow::Result<String> {
 fn item(alloc: Global, given: &Value) -> anyhow::Result<String> {
     let (attributes, name) = pair_of(given)?;
     let attributes = attributes_of(alloc, text_of(attributes)?)?;
-    let has = has_serde_item(alloc, attributes.as_slice(), text_of(name)?)?;
+    let name = text_of(name)?;
+    let has = attributes
+        .as_slice()
+        .iter()
+        .any(|attribute| has_item(attribute.items.as_slice(), name));
     Ok(format!(in alloc; "{has}")?)
 }
 

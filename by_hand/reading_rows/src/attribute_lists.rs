@@ -3,9 +3,7 @@
 use crate::answers::{stopped, yes_or_no};
 use crate::inputs::source_trees;
 use anyhow::bail;
-use attributes::{
-    Attribute, CommentAttributes, Meta, SerdeItem, attributes_at, is_inner_doc, serde_items,
-};
+use attributes::{Attribute, CommentAttributes, Meta, SerdeItem, attributes_at, is_inner_doc};
 use rows::given::{pair_of, text_of};
 use serde_json::Value;
 use std::alloc::{AllocError, Global};
@@ -97,12 +95,12 @@ fn item_text(alloc: Global, item: &SerdeItem) -> Result<String, AllocError> {
 /// The items of all serde lists of the source.
 pub(crate) fn items(alloc: Global, given: &Value) -> anyhow::Result<String> {
     let attributes = given_attributes(alloc, given)?;
-    let items = serde_items(alloc, attributes.as_slice())?;
-    let texts: Vec<String> = items
-        .as_slice()
-        .iter()
-        .map(|item| item_text(alloc, item))
-        .try_collect(alloc)?;
+    let mut texts: Vec<String> = Vec::new(alloc);
+    for attribute in attributes.as_slice() {
+        for item in attribute.items.as_slice() {
+            texts.push(item_text(alloc, item)?)?;
+        }
+    }
     Ok(texts.join(alloc, ", ")?)
 }
 

@@ -4,3 +4,4 @@ pub mod Words
 pub mod Idents
 pub mod Serde
 pub mod Whole
+pub mod Listed

@@ -15,8 +15,8 @@ use Rattle.attributes.specs.declared.serde_item.SerdeItem.{SerdeItem}
 use Rattle.attributes.specs.Attributes.{MetaItem, value, items, AttributeItem, is_word}
 use Rattle.attributes.specs.Attributes as item
 use Rattle.attributes.specs.AttributeWords.{as_outer_doc, path_item, attribute_item, kept}
-use Rattle.attributes.specs.AttributeGrammar.{IsMeta, no_meta, valued, listed, IsFormed, of_serde, of_another, IsAttribute, outer_doc, in_brackets, IsAttributes, no_attributes, more_attributes}
-use Rattle.attributes.specs.AttributeReading.{with_before, more_idents_at, path_at, group_meta, value_meta, meta_of, serde_list, formed, attribute_in, begins_attribute, begin_attributes, attribute_behind, attribute_at, attributes_within, attributes_at}
+use Rattle.attributes.specs.AttributeGrammar.{IsMeta, no_meta, valued, listed, IsSerdeList, HasItems, of_serde, of_another, IsAttribute, outer_doc, in_brackets, IsAttributes, no_attributes, more_attributes}
+use Rattle.attributes.specs.AttributeReading.{with_before, more_idents_at, path_at, group_meta, value_meta, meta_of, serde_list, items_of, attribute_in, begins_attribute, begin_attributes, attribute_behind, attribute_at, attributes_within, attributes_at}
 use Rattle.attributes.proofs.Idents.{before_nothing, before_before, before_fails, first_fails, like_fails, before_deep, idents_complete, path_given, path_sound, path_shallow}
 use Rattle.attributes.proofs.Serde.{items_sound, items_complete, items_shallow, Shallow, then_shallow, ok_shallow, wrong_shallow, cond_shallow, word_shallow}
 
@@ -83,29 +83,18 @@ meta_shallow (lifetime x ∷ ws) = other_meta_shallow (lifetime x ∷ ws)
 meta_shallow (literal t ∷ ws) = other_meta_shallow (literal t ∷ ws)
 meta_shallow (doc t ∷ ws) = other_meta_shallow (doc t ∷ ws)
 
--- ---- the form of serde's lists
-list_formed : (path : WrittenPath) (m : MetaItem) (xs : List SerdeItem) → serde_list m ≡ Ok xs → IsFormed path m
-list_formed path item.word xs e = cc
-list_formed path (value ws) xs e = cc
-list_formed path (items b inside s) xs e = of_serde (items_sound (words_of inside) xs e)
-list_formed path (item.doc text) xs e = cc
+-- ---- the items of serde's lists
+list_sound : (m : MetaItem) (xs : List SerdeItem) → serde_list m ≡ Ok xs → IsSerdeList m xs
+list_sound item.word xs e = cc
+list_sound (value ws) xs e = cc
+list_sound (items b inside s) xs e = items_sound (words_of inside) xs e
+list_sound (item.doc text) xs e = cc
 
-formed_from : (path : WrittenPath) (m n : MetaItem) (b : Bool) → is_word (codes "serde") path ≡ b → cond b (serde_list m >>= λ _. Ok m) (Ok m) ≡ Ok n → (m ≡ n) × IsFormed path m
-formed_from path m n false is e = (ok_is e, of_another is)
-formed_from path m n true is e = let xs = bind_ok (serde_list m) e in (ok_is xs.2, list_formed path m xs.0 xs.1)
-
-formed_sound : (path : WrittenPath) (m n : MetaItem) → formed path m ≡ Ok n → (m ≡ n) × IsFormed path m
-unfolding formed
-formed_sound path m n e = formed_from path m n (is_word (codes "serde") path) refl e
-
-serde_formed : (b : Bool) (m : MetaItem) (xs : List SerdeItem) → serde_list m ≡ Ok xs → cond b (serde_list m >>= λ _. Ok m) (Ok m) ≡ Ok m
-serde_formed false m xs e = refl
-serde_formed true m xs e = ap (λ (r : Result (List SerdeItem) Fault). r >>= λ _. Ok m) e
-
-formed_complete : {path : WrittenPath} {m : MetaItem} → IsFormed path m → formed path m ≡ Ok m
-unfolding formed
-formed_complete {path = path} (of_serde {b = b} {inside = inside} {s = s} {xs = xs} r) = serde_formed (is_word (codes "serde") path) (items b inside s) xs (items_complete r)
-formed_complete (of_another {meta = m} e) = ap (λ b. cond b (serde_list m >>= λ _. Ok m) (Ok m)) e
+pub list_complete : (m : MetaItem) (xs : List SerdeItem) → IsSerdeList m xs → serde_list m ≡ Ok xs
+list_complete item.word xs r = absurd r
+list_complete (value ws) xs r = absurd r
+list_complete (items b inside s) xs r = items_complete r
+list_complete (item.doc text) xs r = absurd r
 
 list_shallow : (m : MetaItem) → Shallow (serde_list m)
 list_shallow item.word = wrong_shallow
@@ -113,36 +102,48 @@ list_shallow (value ws) = wrong_shallow
 list_shallow (items b inside s) = items_shallow (words_of inside)
 list_shallow (item.doc text) = wrong_shallow
 
-formed_shallow : (path : WrittenPath) (m : MetaItem) → Shallow (formed path m)
-unfolding formed
-formed_shallow path m = cond_shallow (is_word (codes "serde") path) (serde_list m >>= λ _. Ok m) (Ok m) (then_shallow (serde_list m) (λ _. Ok m) (list_shallow m) (λ _. ok_shallow m)) (ok_shallow m)
+behind_from : (path : WrittenPath) (m : MetaItem) (xs : List SerdeItem) (b : Bool) → is_word (codes "serde") path ≡ b → cond b (serde_list m) (Ok []) ≡ Ok xs → HasItems path m xs
+behind_from path m xs false is e = subst (λ v. HasItems path m v) (ok_is e) (of_another is)
+behind_from path m xs true is e = of_serde is (list_sound m xs e)
+
+behind_sound : (path : WrittenPath) (m : MetaItem) (xs : List SerdeItem) → items_of path m ≡ Ok xs → HasItems path m xs
+unfolding items_of
+behind_sound path m xs e = behind_from path m xs (is_word (codes "serde") path) refl e
+
+behind_complete : {path : WrittenPath} {m : MetaItem} {xs : List SerdeItem} → HasItems path m xs → items_of path m ≡ Ok xs
+unfolding items_of
+behind_complete {m = m} (of_serde {xs = xs} is r) = ap (λ b. cond b (serde_list m) (Ok [])) is ∙ list_complete m xs r
+behind_complete {m = m} (of_another is) = ap (λ b. cond b (serde_list m) (Ok [])) is
+
+behind_shallow : (path : WrittenPath) (m : MetaItem) → Shallow (items_of path m)
+unfolding items_of
+behind_shallow path m = cond_shallow (is_word (codes "serde") path) (serde_list m) (Ok []) (list_shallow m) (ok_shallow [])
 
 -- ---- one attribute
-abbrev keeps : WrittenPath → Span → MetaItem → Result (List AttributeItem) Fault
-keeps path span m = Ok (kept (attribute_item path m span))
+abbrev keeps : WrittenPath → Span → MetaItem → List SerdeItem → Result (List AttributeItem) Fault
+keeps path span m xs = Ok (kept (attribute_item path m xs span))
 
-abbrev forms : WrittenPath → Span → MetaItem → Result (List AttributeItem) Fault
-forms path span m = formed path m >>= keeps path span
+abbrev with_items : WrittenPath → Span → MetaItem → Result (List AttributeItem) Fault
+with_items path span m = items_of path m >>= keeps path span m
 
 abbrev behind_path : Span → WrittenPath × List Word → Result (List AttributeItem) Fault
-behind_path span p = meta_of p.1 >>= forms p.0 span
+behind_path span p = meta_of p.1 >>= with_items p.0 span
 
 in_sound : (h s : Span) (inside : Trees) (rest : List Word) (xs : List AttributeItem) → attribute_in (cover h s) (words_of inside) ≡ Ok xs → IsAttribute (sign Hash h ∷ group Square inside s ∷ rest) xs rest
 unfolding attribute_in
 in_sound h s inside rest xs e =
     let p = bind_ok (path_at (words_of inside)) e in
     let m = bind_ok (meta_of p.0.1) p.2 in
-    let f = bind_ok (formed p.0.0 m.0) m.2 in
+    let ys = bind_ok (items_of p.0.0 m.0) m.2 in
     let path = path_sound (words_of inside) p.0.0 p.0.1 p.1 in
-    let form = formed_sound p.0.0 m.0 f.0 f.1 in
-    let same : kept (attribute_item p.0.0 f.0 (cover h s)) ≡ xs = ok_is f.2 in
-    let is : kept (attribute_item (path_item path.0) m.0 (cover h s)) ≡ xs = ap (λ v. kept (attribute_item v m.0 (cover h s))) (sym path.1) ∙ ap (λ v. kept (attribute_item p.0.0 v (cover h s))) form.0 ∙ same in
-    subst (λ v. IsAttribute (sign Hash h ∷ group Square inside s ∷ rest) v rest) is (in_brackets path.2 (meta_sound p.0.1 m.0 m.1) (subst (λ v. IsFormed v m.0) path.1 form.1))
+    let has = behind_sound p.0.0 m.0 ys.0 ys.1 in
+    let is : kept (attribute_item (path_item path.0) m.0 ys.0 (cover h s)) ≡ xs = ap (λ v. kept (attribute_item v m.0 ys.0 (cover h s))) (sym path.1) ∙ ok_is ys.2 in
+    subst (λ v. IsAttribute (sign Hash h ∷ group Square inside s ∷ rest) v rest) is (in_brackets path.2 (meta_sound p.0.1 m.0 m.1) (subst (λ v. HasItems v m.0 ys.0) path.1 has))
 
-behind_sound : (w : Word) (ws : List Word) (xs : List AttributeItem) (rest : List Word) (o : Option AttributeItem) (h : Option Span) → as_outer_doc w ≡ o → as_sign Hash w ≡ h → attribute_behind o h ws ≡ Ok (xs, rest) → IsAttribute (w ∷ ws) xs rest
-behind_sound w ws xs rest (Some a) h is hash e = along (λ v us. IsAttribute (w ∷ ws) v us) (a ∷ [], ws) (xs, rest) e (outer_doc is)
-behind_sound w ws xs rest None None is hash e = cc
-behind_sound w ws xs rest None (Some h) is hash e =
+attribute_from : (w : Word) (ws : List Word) (xs : List AttributeItem) (rest : List Word) (o : Option AttributeItem) (h : Option Span) → as_outer_doc w ≡ o → as_sign Hash w ≡ h → attribute_behind o h ws ≡ Ok (xs, rest) → IsAttribute (w ∷ ws) xs rest
+attribute_from w ws xs rest (Some a) h is hash e = along (λ v us. IsAttribute (w ∷ ws) v us) (a ∷ [], ws) (xs, rest) e (outer_doc is)
+attribute_from w ws xs rest None None is hash e = cc
+attribute_from w ws xs rest None (Some h) is hash e =
     let g = bind_ok (group_at Square ws) e in
     let a = bind_ok (attribute_in (cover h g.0.0.1) (words_of g.0.0.0)) g.2 in
     along (λ v us. IsAttribute (w ∷ ws) v us) (a.0, g.0.1) (xs, rest) a.2
@@ -152,7 +153,7 @@ behind_sound w ws xs rest None (Some h) is hash e =
 attribute_sound : (ws : List Word) (xs : List AttributeItem) (rest : List Word) → attribute_at ws ≡ Ok (xs, rest) → IsAttribute ws xs rest
 unfolding attribute_at
 attribute_sound [] xs rest e = cc
-attribute_sound (w ∷ ws) xs rest e = behind_sound w ws xs rest (as_outer_doc w) (as_sign Hash w) refl refl e
+attribute_sound (w ∷ ws) xs rest e = attribute_from w ws xs rest (as_outer_doc w) (as_sign Hash w) refl refl e
 
 pub attribute_shorter : {ws rest : List Word} {xs : List AttributeItem} → IsAttribute ws xs rest → length rest < length ws
 attribute_shorter (outer_doc e) = omega arith
@@ -164,34 +165,34 @@ attribute_shortens ws p e = attribute_shorter (attribute_sound ws p.0 p.1 e)
 attribute_complete : {ws rest : List Word} {xs : List AttributeItem} → IsAttribute ws xs rest → attribute_at ws ≡ Ok (xs, rest)
 unfolding attribute_at attribute_in
 attribute_complete (outer_doc {w = w} {a = a} {rest = rest} e) = ap (λ o. attribute_behind o (as_sign Hash w) rest) e
-attribute_complete (in_brackets {h = h} {s = s} {inside = inside} {xs = xs} {meta = m} {ws = ws} {rest = rest} p r f) =
+attribute_complete (in_brackets {h = h} {s = s} {inside = inside} {xs = xs} {meta = m} {ys = ys} {ws = ws} {rest = rest} p r f) =
     let path = path_given (words_of inside) xs ws (path_item xs) (idents_complete p (meta_ends r)) refl in
-    let whole : (path_at (words_of inside) >>= behind_path (cover h s)) ≡ keeps (path_item xs) (cover h s) m =
+    let whole : (path_at (words_of inside) >>= behind_path (cover h s)) ≡ keeps (path_item xs) (cover h s) m ys =
     ap (λ (q : Read WrittenPath). q >>= behind_path (cover h s)) path
-    ∙ ap (λ (q : Result MetaItem Fault). q >>= forms (path_item xs) (cover h s)) (meta_complete r)
-    ∙ ap (λ (q : Result MetaItem Fault). q >>= keeps (path_item xs) (cover h s)) (formed_complete f) in
+    ∙ ap (λ (q : Result MetaItem Fault). q >>= with_items (path_item xs) (cover h s)) (meta_complete r)
+    ∙ ap (λ (q : Result (List SerdeItem) Fault). q >>= keeps (path_item xs) (cover h s) m) (behind_complete f) in
     ap (λ (q : Result (List AttributeItem) Fault). q >>= λ ys. Ok (ys, rest)) whole
 
 in_shallow : (span : Span) (ws : List Word) → Shallow (attribute_in span ws)
 unfolding attribute_in
 in_shallow span ws =
     then_shallow (path_at ws) (behind_path span) (path_shallow ws)
-    (λ p. then_shallow (meta_of p.1) (forms p.0 span) (meta_shallow p.1) (λ m. then_shallow (formed p.0 m) (keeps p.0 span) (formed_shallow p.0 m) (λ n. ok_shallow (kept (attribute_item p.0 n span)))))
+    (λ p. then_shallow (meta_of p.1) (with_items p.0 span) (meta_shallow p.1) (λ m. then_shallow (items_of p.0 m) (keeps p.0 span m) (behind_shallow p.0 m) (λ xs. ok_shallow (kept (attribute_item p.0 m xs span)))))
 
 abbrev in_group : Span → (Trees × Span) × List Word → Read (List AttributeItem)
 in_group h g = attribute_in (cover h g.0.1) (words_of g.0.0) >>= λ xs. Ok (xs, g.1)
 
-behind_shallow : (o : Option AttributeItem) (h : Option Span) (ws : List Word) → Shallow (attribute_behind o h ws)
-behind_shallow (Some a) h ws = ok_shallow (a ∷ [], ws)
-behind_shallow None None ws = wrong_shallow
-behind_shallow None (Some h) ws =
+from_shallow : (o : Option AttributeItem) (h : Option Span) (ws : List Word) → Shallow (attribute_behind o h ws)
+from_shallow (Some a) h ws = ok_shallow (a ∷ [], ws)
+from_shallow None None ws = wrong_shallow
+from_shallow None (Some h) ws =
     then_shallow (group_at Square ws) (in_group h) (word_shallow (as_group Square) ws)
     (λ g. then_shallow (attribute_in (cover h g.0.1) (words_of g.0.0)) (λ xs. Ok (xs, g.1)) (in_shallow (cover h g.0.1) (words_of g.0.0)) (λ xs. ok_shallow (xs, g.1)))
 
 attribute_shallow : (ws : List Word) → Shallow (attribute_at ws)
 unfolding attribute_at
 attribute_shallow [] = wrong_shallow
-attribute_shallow (w ∷ ws) = behind_shallow (as_outer_doc w) (as_sign Hash w) ws
+attribute_shallow (w ∷ ws) = from_shallow (as_outer_doc w) (as_sign Hash w) ws
 
 begins_with : {ws rest : List Word} {xs : List AttributeItem} → IsAttribute ws xs rest → begin_attributes ws ≡ true
 begins_with (outer_doc {w = w} e) = ap (λ o. is_some o || is_some (as_sign Hash w)) e

@@ -1,5 +1,5 @@
 -- The grammar of attributes (The Rust Reference, "Attributes", "Doc comments") and of serde's lists of items (serde.rs, "Attributes"). In `IsX before x rest` the words before begin with an x, and rest is what follows it.
-use Rattle.std.specs.Prelude.{◌≡◌, ℕ, List, [], ◌∷◌, ◌++◌, Some, false, codes}
+use Rattle.std.specs.Prelude.{◌≡◌, ℕ, List, [], ◌∷◌, ◌++◌, Some, true, false, codes}
 use Rattle.texts.specs.declared.span.Span.{Span}
 use Rattle.tokens.specs.declared.token.Token.{Token}
 use Rattle.tokens.specs.declared.token.Bracket.{Bracket}
@@ -32,16 +32,22 @@ pub data IsSerdeItem : List Word → SerdeItem → List Word → Type 0 where
   texted : {w : Word} {x : Ident} {s : Span} {t : Token} {text : List ℕ} {rest : List Word} → as_ident w ≡ Some x → text_value t ≡ Some text → IsSerdeItem (w ∷ sign Equals s ∷ literal t ∷ rest) (text_item x text t.span) rest
   grouped : {w : Word} {x : Ident} {b : Bracket} {inside : Trees} {s : Span} {rest : List Word} → as_ident w ≡ Some x → IsSerdeItem (w ∷ group b inside s ∷ rest) (bare_item x) rest
 
--- behind `serde` stands a group, a list of its items; behind other paths anything
-pub data IsFormed (path : WrittenPath) : MetaItem → Type 0 where
-  of_serde : {b : Bracket} {inside : Trees} {s : Span} {xs : List SerdeItem} → IsList IsSerdeItem (words_of inside) xs → IsFormed path (items b inside s)
-  of_another : {meta : MetaItem} → is_word (codes "serde") path ≡ false → IsFormed path meta
+-- a group that is a list of these items
+abbrev pub IsSerdeList : MetaItem → List SerdeItem → Type 0
+IsSerdeList (items b inside s) xs = IsList IsSerdeItem (words_of inside) xs
+IsSerdeList _ xs = ⊥
+
+-- behind `serde` stands a list of its items; behind other paths stands anything, without items
+pub data HasItems (path : WrittenPath) (meta : MetaItem) : List SerdeItem → Type 0 where
+  of_serde : {xs : List SerdeItem} → is_word (codes "serde") path ≡ true → IsSerdeList meta xs → HasItems path meta xs
+  of_another : is_word (codes "serde") path ≡ false → HasItems path meta []
 
 -- outer-doc | "#" "[" path meta "]", of which the list holds what is read
 pub data IsAttribute : List Word → List AttributeItem → List Word → Type 0 where
   outer_doc : {w : Word} {a : AttributeItem} {rest : List Word} → as_outer_doc w ≡ Some a → IsAttribute (w ∷ rest) (a ∷ []) rest
-  in_brackets : {h s : Span} {inside : Trees} {xs : List Ident} {meta : MetaItem} {ws rest : List Word} → IsPath (words_of inside) xs ws → IsMeta ws meta → IsFormed (path_item xs) meta
-      → IsAttribute (sign Hash h ∷ group Square inside s ∷ rest) (kept (attribute_item (path_item xs) meta (cover h s))) rest
+  in_brackets : {h s : Span} {inside : Trees} {xs : List Ident} {meta : MetaItem} {ys : List SerdeItem} {ws rest : List Word}
+      → IsPath (words_of inside) xs ws → IsMeta ws meta → HasItems (path_item xs) meta ys
+      → IsAttribute (sign Hash h ∷ group Square inside s ∷ rest) (kept (attribute_item (path_item xs) meta ys (cover h s))) rest
 
 -- attribute*
 pub data IsAttributes : List Word → List AttributeItem → List Word → Type 0 where

@@ -1,6 +1,5 @@
 -- Reading attributes from left to right, as functions.
 use Rattle.std.specs.Prelude.{ℕ, zero, suc, List, [], ◌∷◌, ◌++◌, length, codes, Bool, false, cond, ◌||◌, is_some, Option, Some, None, Result, Ok, Err}
-use Rattle.std.specs.List.{flat_map}
 use Rattle.texts.specs.declared.span.Span.{Span}
 use Rattle.tokens.specs.declared.token.Token.{Token}
 use Rattle.tokens.specs.declared.token.Bracket.{Bracket}
@@ -82,27 +81,15 @@ abbrev pub serde_list : MetaItem → Result (List SerdeItem) Fault
 serde_list (items b inside s) = list_of serde_item_at (words_of inside)
 serde_list _ = Err wrong
 
-abbrev pub ok_or_none : Result (List SerdeItem) Fault → List SerdeItem
-ok_or_none (Ok xs) = xs
-ok_or_none (Err f) = []
-
--- the items of an attribute, where it is a serde list
-abbrev pub serde_items_in : AttributeItem → List SerdeItem
-serde_items_in a = cond (is_word (codes "serde") a.path) (ok_or_none (serde_list a.meta)) []
-
--- the items of all serde lists at one place, as one list
-abbrev pub serde_items : List AttributeItem → List SerdeItem
-serde_items attributes = flat_map serde_items_in attributes
+-- the items of what stands behind the path: those of serde's list, and none behind another path
+unfoldable pub items_of : WrittenPath → MetaItem → Result (List SerdeItem) Fault
+items_of path meta = cond (is_word (codes "serde") path) (serde_list meta) (Ok [])
 
 -- ---- attributes
 
--- what stands behind the path, where its form is as it should be
-unfoldable pub formed : WrittenPath → MetaItem → Result MetaItem Fault
-formed path meta = cond (is_word (codes "serde") path) (serde_list meta >>= λ _. Ok meta) (Ok meta)
-
 -- what is read of an attribute between square brackets
 unfoldable pub attribute_in : Span → List Word → Result (List AttributeItem) Fault
-attribute_in span ws = path_at ws >>= λ p. meta_of p.1 >>= λ m. formed p.0 m >>= λ meta. Ok (kept (attribute_item p.0 meta span))
+attribute_in span ws = path_at ws >>= λ p. meta_of p.1 >>= λ m. items_of p.0 m >>= λ xs. Ok (kept (attribute_item p.0 m xs span))
 
 -- an outer doc comment or a `#` begins an attribute
 abbrev pub begins_attribute : Word → Bool

@@ -27,8 +27,8 @@ extent (x ∷ xs) = cover x.span (get_or (x ∷ xs) (length xs) x).span
 unfoldable pub path_item : List Ident → WrittenPath
 path_item xs = path_of false (segments_of (map plain xs)) (extent xs)
 
-abbrev pub attribute_item : WrittenPath → MetaItem → Span → AttributeItem
-attribute_item path meta span = record { path = path; meta = meta; span = span }
+abbrev pub attribute_item : WrittenPath → MetaItem → List SerdeItem → Span → AttributeItem
+attribute_item path meta xs span = record { path = path; meta = meta; items = xs; span = span }
 
 -- an attribute that is read, and nothing of another
 abbrev pub kept : AttributeItem → List AttributeItem
@@ -68,7 +68,7 @@ doc_path span = path_of false (segments_of (plain (doc_word span) ∷ [])) span
 
 -- the attribute that an outer doc comment with this text is
 abbrev pub doc_attribute : Span → List ℕ → AttributeItem
-doc_attribute span text = attribute_item (doc_path span) (item.doc text) span
+doc_attribute span text = attribute_item (doc_path span) (item.doc text) [] span
 
 abbrev pub as_outer_doc : Word → Option AttributeItem
 as_outer_doc (doc t) = option_map (doc_attribute t.span) (outer_text t.text)

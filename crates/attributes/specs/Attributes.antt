@@ -1,5 +1,6 @@
 -- Attributes, without where they lie in memory (The Rust Reference, "Attributes").
 use Rattle.std.specs.Prelude.{ℕ, List, [], ◌∷◌, Bool, false, not, ◌&&◌, ◌||◌, codes, Option, Some, None}
+use Rattle.std.specs.List.{flat_map}
 use Rattle.std.specs.Str.{bytes_eq}
 use Rattle.texts.specs.declared.span.Span.{Span}
 use Rattle.tokens.specs.declared.token.Bracket.{Bracket}
@@ -9,6 +10,7 @@ use Rattle.words.specs.Words.{Word, words_view}
 use Rattle.attributes.specs.declared.attribute.Attribute.{Attribute}
 use Rattle.attributes.specs.declared.attribute.Meta.{Meta}
 use Rattle.attributes.specs.declared.attribute.Meta.TheVariants as metas
+use Rattle.attributes.specs.declared.serde_item.SerdeItem.{SerdeItem}
 
 -- what stands behind an attribute's path: nothing, `=` and words, a group; or the text of a doc comment
 pub data MetaItem : Type 0 where
@@ -17,9 +19,11 @@ pub data MetaItem : Type 0 where
   items : Bracket → Trees → Span → MetaItem
   doc : List ℕ → MetaItem
 
+-- the items are those of the list behind `serde`; other attributes have none
 pub record AttributeItem : Type 0 where
   pub path : WrittenPath
   pub meta : MetaItem
+  pub items : List SerdeItem
   pub span : Span
 
 -- what the program's values are
@@ -30,7 +34,11 @@ meta_view (metas.Items g) = items g.bracket (trees_view g.trees) g.span
 meta_view (metas.Doc text) = doc text
 
 abbrev pub attribute_view : Attribute → AttributeItem
-attribute_view a = record { path = path_view a.path; meta = meta_view a.meta; span = a.span }
+attribute_view a = record { path = path_view a.path; meta = meta_view a.meta; items = a.items; span = a.span }
+
+-- the items of all serde lists at one place, as one list
+abbrev pub serde_items : List AttributeItem → List SerdeItem
+serde_items attributes = flat_map (λ a. a.items) attributes
 
 -- one that is read, and nothing of another
 abbrev pub kept_view : Option Attribute → List AttributeItem

@@ -2,6 +2,7 @@ ghost use Rattle.std.specs.Prelude.{◌≡◌};
 ghost use Rattle.written_types.specs.Written.{path_view, segments_view};
 ghost use Rattle.attributes.specs.Attributes.{is_only, is_word};
 
+use crate::serde_item::SerdeItem;
 use texts::{List, Span, Text};
 use tokens::{Group, TokenTree};
 use written_types::{Path, PathSegment};
@@ -21,12 +22,14 @@ pub enum Meta {
 }
 
 /// An attribute. The path of a doc comment is `doc`. The span goes from `#` to the closing bracket, or is the whole
-/// comment. Two are equal where they say the same, by text.
+/// comment. The items are those of the list behind `serde`; other attributes have none. Two are equal where they say the
+/// same, by text.
 #[derive(Debug, Drop)]
 #[derive_where(PartialEq, Eq)]
 pub struct Attribute {
     pub path: Path,
     pub meta: Meta,
+    pub items: List<SerdeItem>,
     #[derive_where(skip(EqHashOrd))]
     pub span: Span,
 }

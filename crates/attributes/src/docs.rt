@@ -82,6 +82,7 @@ pub(crate) fn doc_attribute(alloc: Global, text: &str, span: Span) -> Result<Att
     Ok(Attribute {
         path: doc_path(alloc, span)?,
         meta: Meta::Doc(Text::new(alloc, text)?),
+        items: List::new(alloc),
         span,
     })
 }

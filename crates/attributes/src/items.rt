@@ -1,23 +1,24 @@
 //! The items of serde lists.
 
-ghost use Rattle.std.specs.Prelude.{◌≡◌, ◌<◌, ◌≤◌, length, map, IfOk};
+ghost use Rattle.std.specs.Prelude.{◌≡◌, ◌<◌, ◌≤◌, length, IfOk};
 ghost use Rattle.tokens.specs.Trees.{trees_view};
+ghost use Rattle.written_types.specs.Written.{path_view};
 ghost use Rattle.words.specs.Words.{words_of, words_view, ident_of};
 ghost use Rattle.words.specs.Reading.{Gives};
 ghost use Rattle.words.specs.Lists.{turn_at, list_of};
-ghost use Rattle.attributes.specs.Attributes.{attribute_view};
 ghost use Rattle.attributes.specs.Forms.{form_view};
-ghost use Rattle.attributes.specs.AttributeReading.{text_at, value_at, serde_item_at, serde_list, serde_items_in, serde_items};
+ghost use Rattle.attributes.specs.AttributeReading.{text_at, value_at, serde_item_at, serde_list, items_of};
 
-use crate::attribute::{Attribute, Meta};
+use crate::attribute::is_word;
 use crate::meta::Form;
 use crate::path::ident_at;
 use crate::serde_item::{SerdeItem, SerdeText};
 use literal_values::text_value;
-use std::alloc::{AllocError, Global};
+use std::alloc::Global;
 use texts::{List, Span};
 use tokens::{Group, TokenTree};
 use words::{Sign, Stop, after_comma, ident_of, literal_at, optional_sign, stop_at};
+use written_types::Path;
 
 /// The text of a string literal, and what follows it.
 #[tactic(auto, unfolding(crate::specs::AttributeReading::text_at))]
@@ -74,7 +75,7 @@ fn serde_turn(alloc: Global, trees: &[TokenTree]) -> Result<(SerdeItem, &[TokenT
     Ok((item, rest))
 }
 
-fn items_of(alloc: Global, trees: &[TokenTree]) -> Result<List<SerdeItem>, Stop>
+fn list_of(alloc: Global, trees: &[TokenTree]) -> Result<List<SerdeItem>, Stop>
     ensures { Gives (λ items. items) result (list_of serde_item_at (words_view trees.now)) }
 {
     let mut items = List::new(alloc);
@@ -91,14 +92,14 @@ fn items_of(alloc: Global, trees: &[TokenTree]) -> Result<List<SerdeItem>, Stop>
 fn items_inside(alloc: Global, group: &Group) -> Result<List<SerdeItem>, Stop>
     ensures { Gives (λ items. items) result (list_of serde_item_at (words_of (trees_view group.now.trees))) }
 {
-    match items_of(alloc, group.trees.as_slice()) {
+    match list_of(alloc, group.trees.as_slice()) {
         Ok(items) => Ok(items),
         Err(stop) => Err(stop.inside(group)),
     }
 }
 
-/// The items of what stands behind a path, which stands at the span. It stops where that is no list of items.
-pub(crate) fn serde_list(alloc: Global, form: Form<'_>, at: Span) -> Result<List<SerdeItem>, Stop>
+/// The items of what stands behind `serde`, which stands at the span. It stops where that is no list of items.
+fn serde_list(alloc: Global, form: Form<'_>, at: Span) -> Result<List<SerdeItem>, Stop>
     ensures { Gives (λ items. items) result (serde_list (form_view form.entry)) }
 {
     match form {
@@ -107,30 +108,14 @@ pub(crate) fn serde_list(alloc: Global, form: Form<'_>, at: Span) -> Result<List
     }
 }
 
-/// The items of the attribute, if it is a serde list.
-fn items_in(alloc: Global, attribute: &Attribute) -> Result<List<SerdeItem>, AllocError>
-    ensures { IfOk result (λ items. items ≡ serde_items_in (attribute_view attribute.now)) }
+/// The items of what stands behind the path: those of serde's list, and none behind another path.
+#[tactic(auto, unfolding(crate::specs::AttributeReading::items_of))]
+pub(crate) fn items_of(alloc: Global, path: &Path, form: Form<'_>) -> Result<List<SerdeItem>, Stop>
+    ensures { Gives (λ items. items) result (items_of (path_view path.now) (form_view form.entry)) }
 {
-    if !attribute.is("serde") {
-        return Ok(List::new(alloc));
+    if is_word(path, "serde") {
+        serde_list(alloc, form, path.span)
+    } else {
+        Ok(List::new(alloc))
     }
-    match &attribute.meta {
-        Meta::Items(group) => match items_inside(alloc, group) {
-            Ok(items) => Ok(items),
-            Err(Stop::Memory) => Err(AllocError),
-            Err(_) => Ok(List::new(alloc)),
-        },
-        Meta::Word | Meta::NameValue(_) | Meta::Doc(_) => Ok(List::new(alloc)),
-    }
-}
-
-/// The items of all serde lists among the attributes, in order. A group that is no list of items has none.
-pub fn serde_items(alloc: Global, attributes: &[Attribute]) -> Result<List<SerdeItem>, AllocError>
-    ensures { IfOk result (λ items. items ≡ serde_items (map attribute_view attributes.now)) }
-{
-    let mut items = List::new(alloc);
-    for attribute in attributes {
-        items.append(items_in(alloc, attribute)?)?;
-    }
-    Ok(items)
 }

@@ -6,8 +6,8 @@
 //! ```
 //!
 //! An identifier may be a keyword or `_`, and expr is all that stands up to the closing bracket. The group behind the
-//! path `serde` is a list of serde's items. Attributes of the paths `doc`, `serde`, `schema`, `repr` and `deprecated` are
-//! read; others are checked by the grammar and leave nothing.
+//! path `serde` is a list of serde's items, which the attribute carries. Attributes of the paths `doc`, `serde`, `schema`,
+//! `repr` and `deprecated` are read; others are checked by the grammar and leave nothing.
 #![tactic(auto)]
 
 mod attribute;
@@ -23,7 +23,6 @@ mod serde_item;
 pub use attribute::{Attribute, Meta};
 pub use comments::CommentAttributes;
 pub use docs::is_inner_doc;
-pub use items::serde_items;
-pub use laws::attributes_are_read;
+pub use laws::{attributes_are_read, items_are_of_their_lists};
 pub use read::attributes_at;
 pub use serde_item::{SerdeItem, SerdeText};

@@ -5,14 +5,13 @@ ghost use Rattle.tokens.specs.Trees.{trees_view};
 ghost use Rattle.words.specs.Words.{words_of, words_view};
 ghost use Rattle.words.specs.Reading.{Gives};
 ghost use Rattle.attributes.specs.Attributes.{attribute_view, kept_view, is_read};
-ghost use Rattle.attributes.specs.Forms.{form_view};
 ghost use Rattle.written_types.specs.Written.{path_view};
-ghost use Rattle.attributes.specs.AttributeReading.{formed, attribute_in, begin_attributes, attribute_at, attributes_at};
+ghost use Rattle.attributes.specs.AttributeReading.{attribute_in, begin_attributes, attribute_at, attributes_at};
 
 use crate::attribute::{Attribute, is_word};
 use crate::docs::{doc_attribute, outer_text};
-use crate::items::serde_list;
-use crate::meta::{Form, form_of};
+use crate::items::items_of;
+use crate::meta::form_of;
 use crate::path::path_at;
 use std::alloc::Global;
 use texts::{List, Span};
@@ -31,29 +30,24 @@ fn is_read(path: &Path) -> bool
         || is_word(path, "deprecated")
 }
 
-/// What stands behind the path, at the span. Behind `serde` it stops where that is no list of items.
-#[tactic(auto, unfolding(crate::specs::AttributeReading::formed))]
-fn formed<'t>(alloc: Global, path: &Path, form: Form<'t>, at: Span) -> Result<Form<'t>, Stop>
-    ensures { Gives form_view result (formed (path_view path.now) (form_view form.entry)) }
-{
-    if is_word(path, "serde") {
-        serde_list(alloc, form, at)?;
-    }
-    Ok(form)
-}
-
 /// What is read of the attribute between square brackets.
 #[tactic(auto, unfolding(crate::specs::AttributeReading::attribute_in))]
 fn attribute_in(alloc: Global, trees: &[TokenTree], span: Span) -> Result<Option<Attribute>, Stop>
     ensures { Gives kept_view result (attribute_in span (words_view trees.now)) }
 {
     let (path, rest) = path_at(alloc, trees)?;
-    let form = formed(alloc, &path, form_of(rest)?, path.span)?;
+    let form = form_of(rest)?;
+    let items = items_of(alloc, &path, form)?;
     if !is_read(&path) {
         return Ok(None);
     }
     let meta = form.to_meta(alloc)?;
-    Ok(Some(Attribute { path, meta, span }))
+    Ok(Some(Attribute {
+        path,
+        meta,
+        items,
+        span,
+    }))
 }
 
 /// What is read of the attribute inside of the group. Where its trees ended too soon, reading stopped at its closing

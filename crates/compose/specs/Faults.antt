@@ -7,7 +7,6 @@ use Rattle.texts.specs.declared.span.Span.{Span}
 use Rattle.diag.specs.declared.rename_row.RenameRow.{RenameRow}
 use Rattle.schema_core.specs.Document.{Entry}
 use Rattle.attributes.specs.Attributes.{AttributeItem, is_word}
-use Rattle.attributes.specs.AttributeReading.{serde_items_in}
 use Rattle.serde_rules.specs.Items.{has_item}
 use Rattle.syntax.specs.Items.{DeclaredItem}
 use Rattle.syntax.specs.Source.{Reads, IsUnreadable, IsTooDeep, NestsTooDeep}
@@ -28,7 +27,7 @@ attributes_of ds = flat_map attributes_in ds
 
 -- an attribute of `schema` or `repr`, or a serde list that flattens: nothing is derived from these
 abbrev pub is_other : AttributeItem → Bool
-is_other a = is_word (codes "schema") a.path || is_word (codes "repr") a.path || has_item (codes "flatten") (serde_items_in a)
+is_other a = is_word (codes "schema") a.path || is_word (codes "repr") a.path || has_item (codes "flatten") a.items
 
 -- where the first of these stands
 abbrev pub first_other : List AttributeItem → Option Span

@@ -8,7 +8,7 @@ use Rattle.diag.specs.declared.rename_row.RenameRow.{RenameRow}
 use Rattle.diag.specs.RenameRules.{name_of}
 use Rattle.texts.specs.Lists.{Somewhere}
 use Rattle.written_types.specs.declared.written.Ident.{Ident}
-use Rattle.attributes.specs.AttributeReading.{serde_items}
+use Rattle.attributes.specs.Attributes.{serde_items}
 use Rattle.attributes.specs.declared.serde_item.SerdeItem.{SerdeItem}
 use Rattle.serde_rules.specs.declared.value.SerdeValue.{SerdeValue}
 use Rattle.serde_rules.specs.Container.{IsContainerRefusal}

@@ -5,8 +5,7 @@ use Rattle.diag.specs.declared.rename_rule.RenameRule.{RenameRule}
 use Rattle.diag.specs.declared.rename_row.RenameRow.{RenameRow}
 use Rattle.diag.specs.declared.rename_row.RenamePlace.TheVariants.{Field}
 use Rattle.written_types.specs.declared.written.Ident.{Ident}
-use Rattle.attributes.specs.Attributes.{AttributeItem, is_word}
-use Rattle.attributes.specs.AttributeReading.{serde_items}
+use Rattle.attributes.specs.Attributes.{AttributeItem, is_word, serde_items}
 use Rattle.attributes.specs.declared.serde_item.SerdeItem.{SerdeItem}
 use Rattle.serde_rules.specs.declared.value.SerdeValue.{SerdeValue}
 use Rattle.serde_rules.specs.declared.container.SerdeContainer.{SerdeContainer}

@@ -1,8 +1,7 @@
 -- What a declaration whose schema is asked for is resolved to, and why it may have none.
 use Rattle.std.specs.Prelude.{map}
 use Rattle.diag.specs.declared.error.DeriveError.{DeriveError}
-use Rattle.attributes.specs.Attributes.{attribute_view}
-use Rattle.attributes.specs.AttributeReading.{serde_items}
+use Rattle.attributes.specs.Attributes.{attribute_view, serde_items}
 use Rattle.syntax.specs.Items.{body_view}
 use Rattle.shapes.specs.Declarations.{DeclarationOf}
 use Rattle.derive_decl.specs.declared.schema.Schema.{Schema}

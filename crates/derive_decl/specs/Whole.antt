@@ -4,8 +4,7 @@ use Rattle.texts.specs.Names.{IsDistinct}
 use Rattle.written_types.specs.declared.written.Ident.{Ident}
 use Rattle.diag.specs.Refusal.{RefusesNone}
 use Rattle.diag.specs.declared.rename_row.RenameRow.{RenameRow}
-use Rattle.attributes.specs.Attributes.{AttributeItem}
-use Rattle.attributes.specs.AttributeReading.{serde_items}
+use Rattle.attributes.specs.Attributes.{AttributeItem, serde_items}
 use Rattle.syntax.specs.Items.{BodyItem, DeclaredItem}
 use Rattle.shapes.specs.Declarations.{DeclarationOf, names_of}
 use Rattle.derive_decl.specs.Fields.{field_rules}

@@ -1,15 +1,18 @@
 -- What items say of a struct or an enum, with one item more.
-use Rattle.std.proofs.Common.{◌≡◌, ◌≢◌, ◌<◌, ℕ, zero, suc, arith, IsSomeAnd, option_map, List, [], ◌∷◌, ◌++◌, length, take, drop, get_or, Bool, true, false, ◌||◌, ◌&&◌, cond, Option, Some, None, IsSome, is_some, MatchOption, Result, Ok, Err, refl, ap, sym, subst, ◌∙◌, ◌⊎◌, inl, inr, codes, fold, find, bytes_eq}
-use Rattle.std.specs.List.{list_all}
+use Rattle.std.proofs.Common.{◌≡◌, ◌≢◌, ◌<◌, ℕ, zero, suc, arith, IsSomeAnd, option_map, List, [], ◌∷◌, ◌++◌, length, take, drop, get_or, Bool, true, false, ◌||◌, ◌&&◌, cond, Option, Some, None, IsSome, is_some, MatchOption, Result, Ok, Err, refl, ap, sym, subst, ◌∙◌, ◌⊎◌, inl, inr, codes, fold, find, bytes_eq, map, append_assoc}
+use Rattle.std.specs.List.{list_all, Any}
 use Rattle.std.specs.Option.{option_or, option_and_then, option_map_or}
 use Rattle.std.proofs.Common.{drop-cons}
-use Rattle.std.proofs.lemmas.List.{take-append-drop}
+use Rattle.std.proofs.lemmas.List.{take-append-drop, map-append}
+use Rattle.std.proofs.lemmas.List.Quantifiers.{Any-push}
 use Rattle.std.proofs.lemmas.List.Sums.{fold-append}
 use Rattle.std.proofs.lemmas.Slice.Eq.{bytes_eq-Decides}
 use Rattle.diag.specs.Refusal.{IsRefusal}
 use Rattle.diag.specs.declared.kind.Kind.TheVariants.{BadValue}
 use Rattle.diag.specs.declared.error.DeriveError.{DeriveError}
 use Rattle.diag.specs.declared.error.DeriveError.TheVariants.{Memory}
+use Rattle.attributes.specs.Attributes.{attribute_view, serde_items}
+use Rattle.attributes.specs.declared.attribute.Attribute.{Attribute}
 use Rattle.attributes.specs.declared.serde_item.SerdeItem.{SerdeItem}
 use Rattle.attributes.specs.declared.serde_item.SerdeText.{SerdeText}
 use Rattle.std.specs.Result.{result_ok}
@@ -22,7 +25,7 @@ use Rattle.serde_rules.specs.declared.enum_repr.SerdeEnumRepr.{SerdeEnumRepr}
 use Rattle.serde_rules.specs.declared.enum_repr.SerdeEnumRepr.TheVariants.{ExternallyTagged}
 use Rattle.serde_rules.specs.Items.{is_named, literal_for, text_for, last_text}
 use Rattle.serde_rules.specs.Container.{TagFault, with_item, further, representation, all_rules, rule_named, unknown_rule, names_known_rule, AreContainerRules, IsTagRefusal, IsRuleRefusal, IsContainerRefusal}
-use Rattle.serde_rules.proofs.ItemLaws.{any_more, all_more, last_more}
+use Rattle.serde_rules.proofs.ItemLaws.{any_more, all_more, last_more, items_joined}
 
 -- ---- rename rules
 
@@ -119,26 +122,49 @@ refused_on : (r : Result SerdeEnumRepr TagFault) (after : List SerdeItem) (e : D
 refused_on (Ok repr) after e h = absurd h
 refused_on (Err why) after e h = subst (λ r. IsTagRefusal r e) (sym (stays why after)) h
 
--- what an item among these contradicts, they contradict
-refused_within : (before after : List SerdeItem) (item : SerdeItem) (repr : SerdeEnumRepr) (e : DeriveError) → representation before ≡ Ok repr → IsTagRefusal (with_item item repr) e
-    → IsTagRefusal (representation (before ++ item ∷ after)) e
-refused_within before after item repr e is h =
-    subst (λ r. IsTagRefusal r e) (sym (fold-append further (Ok ExternallyTagged) before (item ∷ after)))
-    (subst (λ r. IsTagRefusal (fold further (further r item) after) e) (sym is) (refused_on (with_item item repr) after e h))
+-- what refuses items refuses more of them
+any_front : {A : Type 0} (P : A → Type 0) (xs ys : List A) → Any P xs → Any P (xs ++ ys)
+any_front P [] ys (k, x, l, at, p) = absurd (omega arith)
+any_front P (z ∷ xs) ys (zero, x, l, at, p) = (zero, x, omega arith, at, p)
+any_front P (z ∷ xs) ys (suc k, x, l, at, p) = let r = any_front P xs ys (k, x, omega arith, at, p) in (suc r.0, r.1, omega (arith, r.2), r.3, r.4)
 
--- the same at a place of a list
-refused_at : (items : List SerdeItem) (i : ℕ) (item : SerdeItem) (repr : SerdeEnumRepr) (e : DeriveError) → i < length items → item ≡ get_or items i item → representation (take i items) ≡ Ok repr
-    → IsTagRefusal (with_item item repr) e → IsTagRefusal (representation items) e
-refused_at items i item repr e l at is h =
-    subst (λ xs. IsTagRefusal (representation xs) e) (ap (λ xs. take i items ++ xs) (ap (λ x. x ∷ drop (suc i) items) at ∙ sym (drop-cons items i item l)) ∙ take-append-drop i items)
-    (refused_within (take i items) (drop (suc i) items) item repr e is h)
+refused_more : (xs ys : List SerdeItem) (e : DeriveError) → IsContainerRefusal xs e → IsContainerRefusal (xs ++ ys) e
+refused_more xs ys e (inl tag) = inl (subst (λ r. IsTagRefusal r e) (sym (fold-append further (Ok ExternallyTagged) xs ys)) (refused_on (representation xs) ys e tag))
+refused_more xs ys e (inr rule) = inr (any_front (λ item. IsRuleRefusal item e) xs ys rule)
 
--- what refuses an item refuses the list
-pub refuses : (items : List SerdeItem) (i : ℕ) (item : SerdeItem) (so_far : SerdeContainer) (e : DeriveError) → i < length items → item ≡ get_or items i item → AreContainerRules (take i items) so_far
-    → (e ≡ Memory) ⊎ IsTagRefusal (with_item item so_far.enum_repr) e ⊎ IsRuleRefusal item e → (e ≡ Memory) ⊎ IsContainerRefusal items e
-refuses items i item so_far e l at is (inl memory) = inl memory
-refuses items i item so_far e l at is (inr (inl tag)) = inr (inl (refused_at items i item so_far.enum_repr e l at is.enum_repr tag))
-refuses items i item so_far e l at is (inr (inr rule)) = inr (inr (i, item, l, sym at, rule))
+-- what refuses an item after others refuses them all
+last_refused : (before : List SerdeItem) (item : SerdeItem) (so_far : SerdeContainer) (e : DeriveError) → AreContainerRules before so_far
+    → (e ≡ Memory) ⊎ IsTagRefusal (with_item item so_far.enum_repr) e ⊎ IsRuleRefusal item e → (e ≡ Memory) ⊎ IsContainerRefusal (before ++ item ∷ []) e
+last_refused before item so_far e is (inl memory) = inl memory
+last_refused before item so_far e is (inr (inl tag)) = inr (inl (subst (λ r. IsTagRefusal r e) (sym (representation_more before item ∙ ap (λ r. further r item) is.enum_repr)) tag))
+last_refused before item so_far e is (inr (inr rule)) = inr (inr (Any-push (λ item. IsRuleRefusal item e) before item rule))
+
+whole_at : {A : Type 0} (xs : List A) (i : ℕ) (x : A) → i < length xs → x ≡ get_or xs i x → take i xs ++ x ∷ drop (suc i) xs ≡ xs
+whole_at xs i x l at = ap (λ ys. take i xs ++ ys) (ap (λ y. y ∷ drop (suc i) xs) at ∙ sym (drop-cons xs i x l)) ∙ take-append-drop i xs
+
+-- what refuses the item at a place refuses these and those before them
+pub refuses : (before items : List SerdeItem) (i : ℕ) (item : SerdeItem) (so_far : SerdeContainer) (e : DeriveError) → i < length items → item ≡ get_or items i item
+    → AreContainerRules (before ++ take i items) so_far → (e ≡ Memory) ⊎ IsTagRefusal (with_item item so_far.enum_repr) e ⊎ IsRuleRefusal item e → (e ≡ Memory) ⊎ IsContainerRefusal (before ++ items) e
+refuses before items i item so_far e l at is why = elim (last_refused (before ++ take i items) item so_far e is why) [
+  | inl memory ↦ inl memory
+  | inr refused ↦ inr (subst (λ xs. IsContainerRefusal xs e)
+      (append_assoc (before ++ take i items) (item ∷ []) (drop (suc i) items) ∙ append_assoc before (take i items) (item ∷ drop (suc i) items) ∙ ap (λ xs. before ++ xs) (whole_at items i item l at))
+      (refused_more ((before ++ take i items) ++ item ∷ []) (drop (suc i) items) e refused))
+]
+
+abbrev items_on : List Attribute → List SerdeItem
+items_on attributes = serde_items (map attribute_view attributes)
+
+-- what refuses the items up to an attribute refuses those of all
+pub refuses_all : (attributes : List Attribute) (i : ℕ) (a : Attribute) (e : DeriveError) → i < length attributes → a ≡ get_or attributes i a
+    → IsContainerRefusal (items_on (take i attributes) ++ a.items) e → IsContainerRefusal (items_on attributes) e
+refuses_all attributes i a e l at refused =
+    let after = drop (suc i) attributes in
+    let joined : items_on (take i attributes ++ a ∷ after) ≡ items_on (take i attributes) ++ items_on (a ∷ after) =
+    ap serde_items (map-append attribute_view (take i attributes) (a ∷ after)) ∙ items_joined (map attribute_view (take i attributes)) (map attribute_view (a ∷ after)) in
+    subst (λ xs. IsContainerRefusal (items_on xs) e) (whole_at attributes i a l at)
+    (subst (λ xs. IsContainerRefusal xs e) (append_assoc (items_on (take i attributes)) a.items (items_on after) ∙ sym joined)
+    (refused_more (items_on (take i attributes) ++ a.items) (items_on after) e refused))
 
 -- ---- the rules are one, and are no refusal
 

@@ -1,13 +1,13 @@
 -- What one item more says.
-use Rattle.std.proofs.Common.{◌≡◌, ℕ, List, [], ◌∷◌, ◌++◌, Bool, ◌||◌, ◌&&◌, Option, Some, None, refl, ap, ◌∙◌}
+use Rattle.std.proofs.Common.{◌≡◌, ℕ, List, [], ◌∷◌, ◌++◌, Bool, ◌||◌, ◌&&◌, Option, Some, None, refl, ap, sym, ◌∙◌, ◌<◌, ◌≤◌, ◌+◌, length, take, get_or, append_assoc}
 use Rattle.std.specs.List.{list_any, list_all, filter_map, cons_option, last_or}
 use Rattle.std.specs.Option.{option_or}
 use Rattle.std.proofs.Math.Bool.{or-false, and-true}
+use Rattle.std.proofs.lemmas.List.{take_more, take_all}
 use Rattle.std.proofs.lemmas.List.Folds.{list_any-append, list_all-append}
 use Rattle.std.proofs.lemmas.List.Elements.{filter_map-append}
 use Rattle.std.proofs.lemmas.Grind.{flat_map-append}
-use Rattle.attributes.specs.Attributes.{AttributeItem}
-use Rattle.attributes.specs.AttributeReading.{serde_items_in, serde_items}
+use Rattle.attributes.specs.Attributes.{AttributeItem, serde_items}
 use Rattle.attributes.specs.declared.serde_item.SerdeItem.{SerdeItem}
 use Rattle.serde_rules.specs.Items.{text_for, last_text}
 
@@ -34,5 +34,12 @@ last_more name before item =
 pub last_counts : (name text : List ℕ) (before : List SerdeItem) (item : SerdeItem) → text_for name item ≡ Some text → last_text name (before ++ item ∷ []) ≡ Some text
 last_counts name text before item e = last_more name before item ∙ ap (λ o. option_or o (last_text name before)) e
 
+-- the items before, and those up to a place and one more
+pub one_more : (before items : List SerdeItem) (i : ℕ) (item : SerdeItem) → i < length items → item ≡ get_or items i item → (before ++ take i items) ++ item ∷ [] ≡ before ++ take (i + 1) items
+one_more before items i item l at = append_assoc before (take i items) (item ∷ []) ∙ ap (λ xs. before ++ xs) (ap (λ x. take i items ++ x ∷ []) at ∙ sym (take_more items i item l))
+
+pub no_more : (before items : List SerdeItem) (i : ℕ) → length items ≤ i → before ++ take i items ≡ before ++ items
+no_more before items i ended = ap (λ xs. before ++ xs) (take_all i items ended)
+
 pub items_joined : (one other : List AttributeItem) → serde_items (one ++ other) ≡ serde_items one ++ serde_items other
-items_joined one other = flat_map-append serde_items_in one other
+items_joined one other = flat_map-append (λ (a : AttributeItem). a.items) one other

@@ -1,8 +1,7 @@
 //! What serde's items say of a struct or an enum.
 
 ghost use Rattle.std.specs.Prelude.{◌≡◌, ◌⊎◌, List, [], ◌∷◌, ◌++◌, map, IfOk, OnOk, IfErr, MatchOption, IsSome, codes};
-ghost use Rattle.attributes.specs.Attributes.{attribute_view};
-ghost use Rattle.attributes.specs.AttributeReading.{serde_items};
+ghost use Rattle.attributes.specs.Attributes.{attribute_view, serde_items};
 ghost use Rattle.attributes.specs.declared.serde_item.SerdeItem.{SerdeItem as AnyItem};
 ghost use Rattle.diag.specs.declared.error.DeriveError.{DeriveError as AnyError};
 ghost use Rattle.serde_rules.specs.Container.{rule_named, with_item, IsTagRefusal, IsRuleRefusal, IsContainerRefusal, AreContainerRules};
@@ -10,7 +9,7 @@ ghost use Rattle.serde_rules.specs.Items.{text_for};
 
 use crate::enum_repr::{SerdeEnumRepr, refusal, with_item};
 use crate::items::{is_told, literal_for};
-use attributes::{Attribute, SerdeItem, serde_items};
+use attributes::{Attribute, SerdeItem};
 use diag::{DeriveError, Kind, RenameRule};
 use std::alloc::Global;
 use std::str::FromStr;
@@ -76,6 +75,24 @@ fn read_item(
     })
 }
 
+/// What the items so far and these items say.
+fn read_items(
+    alloc: Global,
+    so_far: SerdeContainer,
+    items: &[SerdeItem],
+) -> Result<SerdeContainer, DeriveError>
+    ensures read { IfOk result (λ rules. (before : List AnyItem) → AreContainerRules before so_far
+        → AreContainerRules (before ++ items.now) rules) }
+    ensures refused { IfErr result (λ e. (before : List AnyItem) → AreContainerRules before so_far
+        → (e ≡ DeriveError.Memory) ⊎ IsContainerRefusal (before ++ items.now) e) }
+{
+    let mut rules = so_far;
+    for item in items {
+        rules = read_item(alloc, rules, item)?;
+    }
+    Ok(rules)
+}
+
 /// What serde's attributes say of the struct or the enum that has them. A tag or a content that the items before it rule out
 /// is refused with the kind `SerdeTag`, and the name of a rename rule that there is not with `BadValue`.
 #[tactic(auto, using(crate::proofs::ContainerLaws::rules_are_not_refused))]
@@ -88,10 +105,9 @@ pub fn parse_container(
     ensures refused { IfErr result (λ e. (e ≡ DeriveError.Memory)
         ⊎ IsContainerRefusal (serde_items (map attribute_view attributes.now)) e) }
 {
-    let items = serde_items(alloc, attributes)?;
     let mut rules = SerdeContainer::default();
-    for item in items.as_slice() {
-        rules = read_item(alloc, rules, item)?;
+    for attribute in attributes {
+        rules = read_items(alloc, rules, attribute.items.as_slice())?;
     }
     Ok(rules)
 }

@@ -1,12 +1,9 @@
 //! Serde's items by their names.
 
-ghost use Rattle.std.specs.Prelude.{◌≡◌, ◌||◌, map, option_map, IfOk};
-ghost use Rattle.attributes.specs.Attributes.{attribute_view};
-ghost use Rattle.attributes.specs.AttributeReading.{serde_items};
+ghost use Rattle.std.specs.Prelude.{◌≡◌, ◌||◌, option_map};
 ghost use Rattle.serde_rules.specs.Items.{is_named, literal_for, has_item};
 
-use attributes::{Attribute, SerdeItem, SerdeText, serde_items};
-use std::alloc::{AllocError, Global};
+use attributes::{SerdeItem, SerdeText};
 
 /// Whether the item has the name.
 pub fn is_named(item: &SerdeItem, name: &str) -> bool
@@ -34,7 +31,7 @@ pub fn is_told(so_far: bool, item: &SerdeItem, name: &str) -> bool
 }
 
 /// Whether an item of the name is among these.
-fn has_item(items: &[SerdeItem], name: &str) -> bool
+pub fn has_item(items: &[SerdeItem], name: &str) -> bool
     ensures { result ≡ has_item name.now items.now }
 {
     for item in items {
@@ -43,16 +40,4 @@ fn has_item(items: &[SerdeItem], name: &str) -> bool
         }
     }
     false
-}
-
-/// Whether an item of the name stands in a serde list among the attributes.
-pub fn has_serde_item(
-    alloc: Global,
-    attributes: &[Attribute],
-    name: &str,
-) -> Result<bool, AllocError>
-    ensures { IfOk result (λ has. has ≡ has_item name.now (serde_items (map attribute_view attributes.now))) }
-{
-    let items = serde_items(alloc, attributes)?;
-    Ok(has_item(items.as_slice(), name))
 }

@@ -2,8 +2,7 @@
 
 ghost use Rattle.std.specs.Prelude.{◌≡◌, ℕ, List, [], ◌∷◌, ◌++◌, Some};
 ghost use Rattle.diag.specs.declared.error.DeriveError.{DeriveError};
-ghost use Rattle.attributes.specs.Attributes.{AttributeItem};
-ghost use Rattle.attributes.specs.AttributeReading.{serde_items};
+ghost use Rattle.attributes.specs.Attributes.{AttributeItem, serde_items};
 ghost use Rattle.attributes.specs.declared.serde_item.SerdeItem.{SerdeItem};
 ghost use Rattle.diag.specs.RenameRules.{name_of};
 ghost use Rattle.diag.specs.declared.rename_rule.RenameRule.{RenameRule};

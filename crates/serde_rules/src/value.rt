@@ -2,14 +2,13 @@
 
 ghost use Rattle.std.specs.Prelude.{◌≡◌, ◌||◌, List, [], ◌∷◌, ◌++◌, map, IfOk, codes};
 ghost use Rattle.std.specs.Option.{option_or, option_map_or};
-ghost use Rattle.attributes.specs.Attributes.{attribute_view};
-ghost use Rattle.attributes.specs.AttributeReading.{serde_items};
+ghost use Rattle.attributes.specs.Attributes.{attribute_view, serde_items};
 ghost use Rattle.attributes.specs.declared.serde_item.SerdeItem.{SerdeItem as AnyItem};
 ghost use Rattle.serde_rules.specs.Items.{text_for};
 ghost use Rattle.serde_rules.specs.Value.{is_skipping, is_double_option, value_rules};
 
 use crate::items::{is_named, is_told, literal_for};
-use attributes::{Attribute, SerdeItem, serde_items};
+use attributes::{Attribute, SerdeItem};
 use std::alloc::{AllocError, Global};
 use texts::Text;
 
@@ -82,14 +81,29 @@ fn read_item(alloc: Global, so_far: SerdeValue, item: &SerdeItem) -> Result<Serd
     })
 }
 
+/// What the items so far and these items say.
+fn read_items(
+    alloc: Global,
+    so_far: SerdeValue,
+    items: &[SerdeItem],
+) -> Result<SerdeValue, AllocError>
+    ensures { IfOk result (λ rules. (before : List AnyItem) → so_far ≡ value_rules before
+        → rules ≡ value_rules (before ++ items.now)) }
+{
+    let mut rules = so_far;
+    for item in items {
+        rules = read_item(alloc, rules, item)?;
+    }
+    Ok(rules)
+}
+
 /// What serde's attributes say of the field or the variant that has them.
 pub fn parse_value(alloc: Global, attributes: &[Attribute]) -> Result<SerdeValue, AllocError>
     ensures { IfOk result (λ rules. rules ≡ value_rules (serde_items (map attribute_view attributes.now))) }
 {
-    let items = serde_items(alloc, attributes)?;
     let mut rules = SerdeValue::default();
-    for item in items.as_slice() {
-        rules = read_item(alloc, rules, item)?;
+    for attribute in attributes {
+        rules = read_items(alloc, rules, attribute.items.as_slice())?;
     }
     Ok(rules)
 }

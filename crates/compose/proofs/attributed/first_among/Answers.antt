@@ -14,10 +14,10 @@ part declaration = attributes_in (declaration_view declaration)
 
 pub returns-in-Some : goal.returns-in-Some
 returns-in-Some c =
-    first_here parts part (λ x xs. refl) c.args.declarations.now c.loop-declaration.declaration-index c.declaration-item.result c.in_ok-span.field-0 c.in-Some.span c.loop-declaration-test.true c.declaration-item.is
-    c.in_ok-span.ensures c.in-Some.is c.loop-declaration.invariant
+    first_here parts part (λ x xs. refl) c.args.declarations.now c.loop-declaration.declaration-index c.declaration-item.result c.first_in.result c.in-Some.span c.loop-declaration-test.true c.declaration-item.is
+    c.first_in.ensures c.in-Some.is c.loop-declaration.invariant
 
 pub loop-declaration-preserved : goal.loop-declaration-preserved
 loop-declaration-preserved c =
-    first_later parts part (λ x xs. refl) c.args.declarations.now c.loop-declaration.declaration-index c.declaration-item.result c.in_ok-span.field-0 c.loop-declaration-test.true c.declaration-item.is
-    c.in_ok-span.ensures c.in_default.is c.loop-declaration.invariant
+    first_later parts part (λ x xs. refl) c.args.declarations.now c.loop-declaration.declaration-index c.declaration-item.result c.first_in.result c.loop-declaration-test.true c.declaration-item.is
+    c.first_in.ensures c.in_default.is c.loop-declaration.invariant

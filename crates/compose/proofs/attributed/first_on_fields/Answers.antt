@@ -16,10 +16,10 @@ part field = map attribute_view field.attrs
 
 pub returns-in-Some : goal.returns-in-Some
 returns-in-Some c =
-    first_here parts part (λ x xs. refl) c.args.fields.now c.loop-field.field-index c.field-item.result c.in_ok-span.field-0 c.in-Some.span c.loop-field-test.true c.field-item.is
-    (c.in_ok-span.ensures ∙ ap (λ (xs : List Attribute). first_other (map attribute_view xs)) c.as_slice.ensures) c.in-Some.is c.loop-field.invariant
+    first_here parts part (λ x xs. refl) c.args.fields.now c.loop-field.field-index c.field-item.result c.first_other.result c.in-Some.span c.loop-field-test.true c.field-item.is
+    (c.first_other.ensures ∙ ap (λ (xs : List Attribute). first_other (map attribute_view xs)) c.as_slice.ensures) c.in-Some.is c.loop-field.invariant
 
 pub loop-field-preserved : goal.loop-field-preserved
 loop-field-preserved c =
-    first_later parts part (λ x xs. refl) c.args.fields.now c.loop-field.field-index c.field-item.result c.in_ok-span.field-0 c.loop-field-test.true c.field-item.is
-    (c.in_ok-span.ensures ∙ ap (λ (xs : List Attribute). first_other (map attribute_view xs)) c.as_slice.ensures) c.in_default.is c.loop-field.invariant
+    first_later parts part (λ x xs. refl) c.args.fields.now c.loop-field.field-index c.field-item.result c.first_other.result c.loop-field-test.true c.field-item.is
+    (c.first_other.ensures ∙ ap (λ (xs : List Attribute). first_other (map attribute_view xs)) c.as_slice.ensures) c.in_default.is c.loop-field.invariant

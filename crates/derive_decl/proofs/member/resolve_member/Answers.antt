@@ -1,8 +1,7 @@
 use Rattle.std.proofs.Common.{◌≡◌, ◌∙◌, ◌∷◌, [], List, true, not, cond, map, ap, sym, subst, inl, inr}
 use Rattle.std.proofs.lemmas.Result.{err_from_is_err_and}
 use Rattle.attributes.specs.declared.attribute.Attribute.{Attribute}
-use Rattle.attributes.specs.Attributes.{attribute_view}
-use Rattle.attributes.specs.AttributeReading.{serde_items}
+use Rattle.attributes.specs.Attributes.{attribute_view, serde_items}
 use Rattle.serde_rules.specs.declared.value.SerdeValue.{SerdeValue}
 use Rattle.serde_rules.specs.Value.{value_rules}
 use Rattle.syntax.specs.Items.{field_view}

@@ -1,7 +1,6 @@
 use Rattle.std.proofs.Common.{◌∙◌, List, map, ap, sym, subst, inl, inr}
 use Rattle.std.proofs.lemmas.Result.{err_from_is_err_and}
-use Rattle.attributes.specs.Attributes.{attribute_view}
-use Rattle.attributes.specs.AttributeReading.{serde_items}
+use Rattle.attributes.specs.Attributes.{attribute_view, serde_items}
 use Rattle.syntax.specs.declared.item.Field.{Field}
 use Rattle.syntax.specs.Items.{field_view, fields_view, unnamed}
 use Rattle.derive_decl.specs.Fields.{field_rules}

@@ -1,14 +1,19 @@
-use Rattle.std.proofs.Common.{◌≡◌, ◌⊎◌, subst, ◌∙◌}
+use Rattle.std.proofs.Common.{◌++◌, inl, inr, List, map, take, subst}
 use Rattle.std.proofs.lemmas.Result.{err_from_is_err_and}
-use Rattle.diag.specs.declared.error.DeriveError.TheVariants.{Memory}
+use Rattle.attributes.specs.Attributes.{attribute_view, serde_items}
+use Rattle.attributes.specs.declared.serde_item.SerdeItem.{SerdeItem}
 use Rattle.serde_rules.specs.Container.{IsContainerRefusal}
-use Rattle.serde_rules.proofs.ContainerLaws.{refuses}
+use Rattle.serde_rules.proofs.ContainerLaws.{refuses_all}
 use Rattle.serde_rules.proofs.container.parse_container.Goals as goal
 
 pub returns-in_err-rules-clause-refused : goal.returns-in_err-rules-clause-refused
 returns-in_err-rules-clause-refused c =
-    let p = err_from_is_err_and c.from_residual-in_err-rules.result c.from_residual-in_err-rules.ensures.1 in
+    let p = err_from_is_err_and c.from_residual.result c.from_residual.ensures.1 in
     let e = c.in_err-rules.field-0.0 in
+    let before = serde_items (map attribute_view (take c.loop-attribute.attribute-index c.args.attributes.now)) in
     rw (p.1, p.2)
-    (subst (λ items. (e ≡ Memory) ⊎ IsContainerRefusal items e) (c.as_slice-item-items.ensures ∙ c.in_ok-items.ensures)
-    (refuses c.as_slice-item-items.result.now c.loop-item.item-index c.item-item.result c.loop-item.rules e c.loop-item-test.true c.item-item.is c.loop-item.invariant c.in_err-rules.ensures.refused))
+    (elim (c.in_err-rules.ensures.refused before c.loop-attribute.invariant) [
+      | inl memory ↦ inl memory
+      | inr refused ↦ inr (refuses_all c.args.attributes.now c.loop-attribute.attribute-index c.attribute-item.result e c.loop-attribute-test.true c.attribute-item.is
+          (subst (λ (items : List SerdeItem). IsContainerRefusal (before ++ items) e) c.as_slice.ensures refused))
+    ])

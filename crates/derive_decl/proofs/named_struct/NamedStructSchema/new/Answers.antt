@@ -1,7 +1,6 @@
 use Rattle.std.proofs.Common.{map, sym, subst, inl, inr}
 use Rattle.std.proofs.lemmas.Result.{err_from_is_err_and}
-use Rattle.attributes.specs.Attributes.{attribute_view}
-use Rattle.attributes.specs.AttributeReading.{serde_items}
+use Rattle.attributes.specs.Attributes.{attribute_view, serde_items}
 use Rattle.syntax.specs.Items.{field_view}
 use Rattle.derive_decl.specs.Faults.{AreFaultyMembers}
 use Rattle.derive_decl.specs.Views.{known}

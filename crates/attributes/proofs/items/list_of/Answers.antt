@@ -5,7 +5,7 @@ use Rattle.words.specs.Lists.{itself, turn_at}
 use Rattle.words.proofs.Many.{ends, goes_on, many_done, many_turn, many_fails}
 use Rattle.attributes.specs.AttributeReading.{serde_item_at}
 use Rattle.attributes.proofs.Serde.{serde_turn_shortens}
-use Rattle.attributes.proofs.items.items_of.Goals as goal
+use Rattle.attributes.proofs.items.list_of.Goals as goal
 
 pub returns : goal.returns
 returns c = many_done itself (turn_at serde_item_at) serde_turn_shortens (words_view c.args.trees.now) c.items.items (words_view c.items.rest.now) c.items.invariant (ends c.items.rest.now (sym c.is_empty.ensures ∙ c.items-test.false))
