@@ -1,15 +1,21 @@
 -- What words, files and input give, where they tell it.
-use Rattle.std.proofs.Common.{◌≡◌, ℕ, List, Bool, IsTrue, Option, Some, None, IsSome, inl, inr, refl, sym, ◌∙◌, subst}
+use Rattle.std.proofs.Common.{◌≡◌, ℕ, List, IsTrue, Option, Some, None, IsSome, inl, inr, refl, sym, ◌∙◌, subst}
 use Rattle.diag.specs.declared.error.DeriveError.{DeriveError}
 use Rattle.streams.specs.Told.{IsAll}
+use Rattle.files.specs.Held.{IsMissing}
 use Rattle.configuration.specs.Configuration.{Configuration}
 use Rattle.configuration.specs.Form.{IsConfigurationText}
-use Rattle.schema_gen.specs.Given.{IsSaid, SaysNone, IsConfigured}
+use Rattle.schema_gen.specs.Beginning.{Beginning, IsTold}
+use Rattle.schema_gen.specs.Given.{IsSaid, IsConfigured, IsMisconfigured}
 use Rattle.schema_gen.specs.Refusals.{IsRefusedRun}
 use Rattle.schema_gen.specs.Words.{IsDerive, HaveForm}
 
+-- a text says one configuration
+abbrev pub OneConfiguration : Type 0
+OneConfiguration = (bytes : List ℕ) (c d : Configuration) → IsConfigurationText bytes c → IsConfigurationText bytes d → c ≡ d
+
 -- words name one path
-pub one_path : (words : List (List ℕ)) (p q : Option (List ℕ)) → IsDerive words p → IsDerive words q → p ≡ q
+one_path : (words : List (List ℕ)) (p q : Option (List ℕ)) → IsDerive words p → IsDerive words q → p ≡ q
 unfolding IsDerive
 one_path words None None d e = cc
 one_path words None (Some q) d e = cc
@@ -24,52 +30,46 @@ one_text (Some z) x y some p q = cc
 one_held : (held : Option (List ℕ)) (x y : List ℕ) → held ≡ Some x → held ≡ Some y → x ≡ y
 one_held held x y p q = cc
 
-module _ (words : List (List ℕ)) (tells : Bool) (held : List ℕ → Option (List ℕ)) where
-  -- what is configured is what the told bytes say
-  said_there : (path bytes : List ℕ) → IsTrue tells → held path ≡ Some bytes → (p : Option (List ℕ)) → p ≡ Some path → (c : Configuration) → IsSaid tells held p c → IsConfigurationText bytes c
-  said_there path bytes told is None same c said = cc
-  said_there path bytes told is (Some p) same c (found, at, says) =
-      let here : held p ≡ Some bytes = cc in
-      let one : found ≡ bytes = one_held (held p) found bytes (at told) here in
-      subst (λ b. IsConfigurationText b c) one says
+module _ (begun : Beginning) where
+  -- what the words name at a path is said there
+  said_at : (path : List ℕ) → IsDerive begun.words (Some path) → (c : Configuration) → IsConfigured begun c → IsSaid begun (Some path) c
+  said_at path derive c (p, form, said) = subst (λ o. IsSaid begun o c) (one_path begun.words p (Some path) form derive) said
 
-  pub said_bytes : (path bytes : List ℕ) → IsDerive words (Some path) → IsTrue tells → held path ≡ Some bytes → (c : Configuration) → IsConfigured words tells held c → IsConfigurationText bytes c
-  said_bytes path bytes derive told is c (p, form, said) = said_there path bytes told is p (one_path words p (Some path) form derive) c said
+  -- a file that says no configuration is the one of what is configured
+  pub misconfigured : IsTrue begun.tells → IsMisconfigured begun → (c : Configuration) → IsConfigured begun c → ⊥
+  misconfigured told (path, bytes, form, at, none) c configured =
+      let said = said_at path form c configured in
+      none c (subst (λ b. IsConfigurationText b c) (one_held (begun.held path) said.0 bytes (said.1 told) (at told)) said.2)
 
-  missing_there : (path : List ℕ) → IsTrue tells → held path ≡ None → (p : Option (List ℕ)) → p ≡ Some path → (c : Configuration) → IsSaid tells held p c → ⊥
-  missing_there path told is None same c said = cc
-  missing_there path told is (Some p) same c (found, at, says) = let here : held p ≡ Some found = at told in cc
+  absent : (path bytes : List ℕ) → IsMissing begun.tells (begun.held path) → (IsTrue begun.tells → begun.held path ≡ Some bytes) → ⊥
+  absent path bytes missing at = let here : begun.held path ≡ Some bytes = at missing.0 in let gone : begun.held path ≡ None = missing.1 in cc
 
   -- nothing is configured by a file that is told to be missing
-  pub said_missing : (path : List ℕ) → IsDerive words (Some path) → IsTrue tells → held path ≡ None → (c : Configuration) → IsConfigured words tells held c → ⊥
-  said_missing path derive told is c (p, form, said) = missing_there path told is p (one_path words p (Some path) form derive) c said
+  pub said_missing : (path : List ℕ) → IsDerive begun.words (Some path) → IsMissing begun.tells (begun.held path) → (c : Configuration) → IsConfigured begun c → ⊥
+  said_missing path form missing c configured = let said = said_at path form c configured in absent path said.0 missing said.1
 
-  none_there : (path p : List ℕ) → Some p ≡ Some path → SaysNone tells held p → SaysNone tells held path
-  none_there path p same none = let paths : p ≡ path = cc in subst (SaysNone tells held) paths none
+  -- nor is what says no configuration there
+  pub none_missing : (path : List ℕ) → IsDerive begun.words (Some path) → IsMissing begun.tells (begun.held path) → IsMisconfigured begun → ⊥
+  none_missing path form missing (p, bytes, p_form, at, none) =
+      let same : p ≡ path = some_path p (one_path begun.words (Some p) (Some path) p_form form) in
+      absent path bytes missing (subst (λ q. IsTrue begun.tells → begun.held q ≡ Some bytes) same at)
+    where
+      some_path : (p : List ℕ) → Some p ≡ Some path → p ≡ path
+      some_path p e = cc
 
-  -- what says no configuration is at the path that the words name
-  pub none_missing : (path : List ℕ) → IsDerive words (Some path) → IsTrue tells → held path ≡ None → (p : List ℕ) → IsDerive words (Some p) → SaysNone tells held p → ⊥
-  none_missing path derive told is p form none =
-      let there : SaysNone tells held path = none_there path p (one_path words (Some p) (Some path) form derive) none in
-      let here : held path ≡ Some there.0 = there.1 told in
-      cc
-
-  one_said : ((bytes : List ℕ) (c d : Configuration) → IsConfigurationText bytes c → IsConfigurationText bytes d → c ≡ d) → (p : Option (List ℕ)) → ((path : List ℕ) → p ≡ Some path → IsTrue tells)
-      → (c d : Configuration) → IsSaid tells held p c → IsSaid tells held p d → c ≡ d
+  one_said : OneConfiguration → (p : Option (List ℕ)) → ((path : List ℕ) → p ≡ Some path → IsTrue begun.tells) → (c d : Configuration) → IsSaid begun p c → IsSaid begun p d → c ≡ d
   one_said law None told c d of_c of_d = of_c ∙ sym of_d
   one_said law (Some path) told c d (x, x_at, x_says) (y, y_at, y_says) =
-      let here : IsTrue tells = told path refl in
-      let same : x ≡ y = one_held (held path) x y (x_at here) (y_at here) in
-      law y c d (subst (λ b. IsConfigurationText b c) same x_says) y_says
+      let here : IsTrue begun.tells = told path refl in
+      law y c d (subst (λ b. IsConfigurationText b c) (one_held (begun.held path) x y (x_at here) (y_at here)) x_says) y_says
 
   -- told configurations are one
-  pub one_configuration : ((bytes : List ℕ) (c d : Configuration) → IsConfigurationText bytes c → IsConfigurationText bytes d → c ≡ d) → ((path : List ℕ) → IsDerive words (Some path) → IsTrue tells)
-      → (c d : Configuration) → IsConfigured words tells held c → IsConfigured words tells held d → c ≡ d
+  pub one_configuration : OneConfiguration → IsTold begun → (c d : Configuration) → IsConfigured begun c → IsConfigured begun d → c ≡ d
   one_configuration law told c d (p, p_form, p_said) (q, q_form, q_said) =
-      let same : q ≡ p = one_path words q p q_form p_form in
-      one_said law p (λ path is. told path (subst (IsDerive words) is p_form)) c d p_said (subst (λ o. IsSaid tells held o d) same q_said)
+      let same : q ≡ p = one_path begun.words q p q_form p_form in
+      one_said law p (λ path is. told.held path (subst (IsDerive begun.words) is p_form)) c d p_said (subst (λ o. IsSaid begun o d) same q_said)
 
   -- a refused run has words of a form
-  pub refused_form : (left : Option (List ℕ)) (e : DeriveError) → IsRefusedRun words tells held left e → HaveForm words
-  refused_form left e (inl (path, form, none, bad)) = (Some path, form)
-  refused_form left e (inr (given, is, refused)) = (is.config.0, is.config.1)
+  pub refused_form : (e : DeriveError) → IsRefusedRun begun e → HaveForm begun.words
+  refused_form e (inl (file, bad)) = (Some file.0, file.2)
+  refused_form e (inr (given, is, refused)) = (is.config.0, is.config.1)

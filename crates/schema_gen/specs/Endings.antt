@@ -1,5 +1,7 @@
--- The status of an ending, and the bytes that it has for `out` and `err`.
+-- The status of an ending, the bytes that it has for `out` and `err`, and whether a run owes it.
 use Rattle.std.specs.Prelude.{ℕ, List, [], codes}
+use Rattle.schema_gen.specs.Beginning.{Beginning}
+use Rattle.schema_gen.specs.Owed.{Owed}
 use Rattle.schema_gen.specs.declared.status.Status.{Status}
 use Rattle.schema_gen.specs.declared.status.Status.TheVariants as status
 use Rattle.schema_gen.specs.declared.ending.Ending.{Ending}
@@ -28,3 +30,7 @@ report_of Usage = codes "usage: schema_gen derive [--config PATH]\n"
 report_of ReadFault = codes "read fault\n"
 report_of Memory = []
 report_of FileFault = codes "file fault\n"
+
+-- a run that begins so may end so
+abbrev pub IsEnding : Beginning → Ending → Type 0
+IsEnding begun ending = Owed begun (status_of ending) (document_of ending) (report_of ending)

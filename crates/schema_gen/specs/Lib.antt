@@ -1,3 +1,4 @@
+pub mod Beginning
 pub mod Endings
 pub mod Given
 pub mod Numbers

@@ -1,5 +1,5 @@
 -- Why a run refuses, and how a refusal is reported.
-use Rattle.std.specs.Prelude.{◌≡◌, ◌<◌, ◌≤◌, ◌+◌, ◌++◌, ◌⊎◌, ℕ, List, [], ◌∷◌, Bool, length, Option, Some, codes}
+use Rattle.std.specs.Prelude.{◌≡◌, ◌<◌, ◌≤◌, ◌+◌, ◌++◌, ◌⊎◌, ℕ, List, [], ◌∷◌, length, Some, codes}
 use Rattle.std.specs.Fmt.{decimal}
 use Rattle.std.specs.Str.{IsUtf8, IsValidUpTo}
 use Rattle.diag.specs.Diagnostics.{text_of, HasFirst}
@@ -20,8 +20,8 @@ use Rattle.shapes.specs.Declarations.{DeclarationOf}
 use Rattle.derive_decl.specs.Whole.{resolved_declarations}
 use Rattle.compose.specs.Bounds.{AreBounded}
 use Rattle.compose.specs.Faults.{IsRefused, AreClear}
-use Rattle.schema_gen.specs.Given.{Given, IsGiven, SaysNone}
-use Rattle.schema_gen.specs.Words.{IsDerive}
+use Rattle.schema_gen.specs.Beginning.{Beginning}
+use Rattle.schema_gen.specs.Given.{Given, IsGiven, IsMisconfigured}
 
 -- the most bytes of a source
 abbrev pub most_bytes : ℕ
@@ -32,7 +32,8 @@ pub record IsText (bytes : List ℕ) : Type 0 where
   pub short : length bytes ≤ most_bytes
   pub utf8 : IsUtf8 bytes
 
--- The span of the first bytes that are no UTF-8. The longest front that is UTF-8 ends where it starts.
+-- The span of the first bytes that are no UTF-8. The longest front that is UTF-8 ends where it
+-- starts.
 pub record IsBroken (bytes : List ℕ) (span : Span) : Type 0 where
   pub no_text : ¬ (IsUtf8 bytes)
   pub front : IsValidUpTo bytes span.start
@@ -43,34 +44,40 @@ pub record IsBroken (bytes : List ℕ) (span : Span) : Type 0 where
 -- ---- the causes of a source's refusal, of which an earlier one comes first
 
 abbrev pub IsTooLong : List ℕ → DeriveError → Type 0
-IsTooLong bytes e = (most_bytes < length bytes) × IsRefusal TooLong no_span (codes "the source is longer than 1048576 bytes") e
+IsTooLong bytes e =
+    (most_bytes < length bytes)
+    × IsRefusal TooLong no_span (codes "the source is longer than 1048576 bytes") e
 
 abbrev pub IsNoText : List ℕ → DeriveError → Type 0
-IsNoText bytes e = (length bytes ≤ most_bytes) × ((span : Span) × IsBroken bytes span × IsSyntaxRefusal span e)
+IsNoText bytes e =
+    (length bytes ≤ most_bytes) × ((span : Span) × IsBroken bytes span × IsSyntaxRefusal span e)
 
--- the error refuses the bytes: they are too many, or else no UTF-8, or else the source that they are is refused
+-- the error refuses the bytes: they are too many, or else no UTF-8, or else the source that they
+-- are is refused
 abbrev pub IsRefusedSource : Configuration → List ℕ → DeriveError → Type 0
-IsRefusedSource c bytes e = IsTooLong bytes e ⊎ (IsNoText bytes e ⊎ (IsText bytes × IsRefused c bytes e))
+IsRefusedSource c bytes e =
+    IsTooLong bytes e ⊎ (IsNoText bytes e ⊎ (IsText bytes × IsRefused c bytes e))
 
--- No condition of a refusal holds of the bytes: they are a text that has a reading, and nothing in it is at fault or beyond a bound of the configuration.
+-- No condition of a refusal holds of the bytes: they are a text that has a reading, and nothing in
+-- it is at fault or beyond a bound of the configuration.
 pub record IsSound (c : Configuration) (bytes : List ℕ) : Type 0 where
   pub text : IsText bytes
   pub declarations : List DeclaredItem
   pub read : Reads bytes declarations
   pub shallow : (span : Span) → ¬ NestsTooDeep bytes span
   pub clear : AreClear c.renames declarations
-  pub bounded : (resolved : List DeclarationOf) → resolved_declarations c.renames declarations ≡ Some resolved → AreBounded c declarations resolved
+  pub bounded : (resolved : List DeclarationOf)
+      → resolved_declarations c.renames declarations ≡ Some resolved
+      → AreBounded c declarations resolved
 
 -- ---- the causes of a run's refusal
 
--- the error refuses the file at the path that the words name: it says no configuration
-abbrev pub IsRefusedFile : List (List ℕ) → Bool → (List ℕ → Option (List ℕ)) → DeriveError → Type 0
-IsRefusedFile words tells held e = (path : List ℕ) × IsDerive words (Some path) × SaysNone tells held path × IsBadConfig e
-
--- the error refuses that file, or else the source that is given, with the configuration that is given
-abbrev pub IsRefusedRun : List (List ℕ) → Bool → (List ℕ → Option (List ℕ)) → Option (List ℕ) → DeriveError → Type 0
-IsRefusedRun words tells held left e =
-    IsRefusedFile words tells held e ⊎ ((given : Given) × IsGiven words tells held left given × IsRefusedSource given.config given.text e)
+-- the error refuses the file that the words name, or else the source that is given, with the
+-- configuration that is given
+abbrev pub IsRefusedRun : Beginning → DeriveError → Type 0
+IsRefusedRun begun e =
+    (IsMisconfigured begun × IsBadConfig e)
+    ⊎ ((given : Given) × IsGiven begun given × IsRefusedSource given.config given.text e)
 
 -- ---- the report
 
@@ -78,11 +85,12 @@ IsRefusedRun words tells held left e =
 abbrev pub refusal_line : List DiangosticsInner → List ℕ
 refusal_line [] = []
 refusal_line (d ∷ ds) =
-    codes "refused: " ++ (name_of d.kind ++ (codes " " ++ (decimal d.span.start ++ (codes ".." ++ (decimal d.span.end ++ (codes ": " ++ (text_of (d ∷ ds) ++ codes "\n")))))))
+    codes "refused: " ++ (name_of d.kind ++ (codes " " ++ (decimal d.span.start
+    ++ (codes ".." ++ (decimal d.span.end ++ (codes ": " ++ (text_of (d ∷ ds) ++ codes "\n")))))))
 
--- There is a refusal with this kind, whose report is the line.
-pub record IsReported (refuses : DeriveError → Type 0) (kind : Kind) (line : List ℕ) : Type 0 where
+-- There is a refusal of the run with this kind, whose report is the line.
+pub record IsReported (begun : Beginning) (kind : Kind) (line : List ℕ) : Type 0 where
   pub diagnostics : List DiangosticsInner
-  pub cause : refuses (error.Refused diagnostics)
+  pub cause : IsRefusedRun begun (error.Refused diagnostics)
   pub kind_is : HasFirst diagnostics (λ d. d.kind ≡ kind)
   pub line_is : line ≡ refusal_line diagnostics

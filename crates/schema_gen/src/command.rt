@@ -37,7 +37,8 @@ impl Words {
 
     /// The path of the configuration's file, where the words are `derive --config PATH`.
     pub(crate) fn config_path(&self) -> Option<&str>
-        ensures { MatchOption result ((path : List ℕ) → ¬ (IsDerive self.now (Some path))) (λ path. IsDerive self.now (Some path.now)) }
+        ensures { MatchOption result ((path : List ℕ) → ¬ (IsDerive self.now (Some path)))
+            (λ path. IsDerive self.now (Some path.now)) }
     {
         if self.words.len() != 3 {
             return None;

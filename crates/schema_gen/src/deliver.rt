@@ -15,13 +15,17 @@ pub(crate) fn deliver<O: Sink, E: Sink>(
 ) -> Result<(), Failed>
     ensures out { OnOk result (Appends (O.written out.old) (O.written out.new) document.now) }
     ensures err { OnOk result (Appends (E.written err.old) (E.written err.new) report.now) }
-    ensures out_part { OnErr result (AppendsPart (O.written out.old) (O.written out.new) document.now) }
-    ensures err_part { OnErr result (AppendsPart (E.written err.old) (E.written err.new) report.now) }
+    ensures out_part { OnErr result
+        (AppendsPart (O.written out.old) (O.written out.new) document.now) }
+    ensures err_part { OnErr result
+        (AppendsPart (E.written err.old) (E.written err.new) report.now) }
     ensures out_later { O.faults out.old ≤ O.faults out.new }
     ensures err_later { E.faults err.old ≤ E.faults err.new }
     ensures out_calm { OnOk result (O.faults out.new ≡ O.faults out.old) }
     ensures err_calm { OnOk result (E.faults err.new ≡ E.faults err.old) }
-    ensures cause { OnErr result (CountsFault (O.faults out.old) (O.faults out.new) ⊎ CountsFault (E.faults err.old) (E.faults err.new)) }
+    ensures cause { OnErr result (
+        CountsFault (O.faults out.old) (O.faults out.new)
+        ⊎ CountsFault (E.faults err.old) (E.faults err.new)) }
 {
     write_all(err, report)?;
     write_all(out, document)?;

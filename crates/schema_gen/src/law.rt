@@ -10,7 +10,8 @@ use syntax::one_reading;
 
 /// Nothing refuses a source that is sound with a configuration.
 pub fn sound_is_not_refused()
-    ensures { (c : Configuration) (source : List ℕ) (e : DeriveError) → IsSound c source → ¬ (IsRefusedSource c source e) }
+    ensures { (c : Configuration) (source : List ℕ) (e : DeriveError)
+        → IsSound c source → ¬ (IsRefusedSource c source e) }
 {
     one_reading();
     bounded_are_not_refused();

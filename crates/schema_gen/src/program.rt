@@ -1,17 +1,18 @@
-ghost use Rattle.std.specs.Prelude.{◌≡◌, ◌≢◌, ◌⊎◌, ℕ, List, IsTrue, IsSome, codes};
+ghost use Rattle.std.specs.Prelude.{◌≡◌, ◌≢◌, ◌⊎◌, ℕ, List, IsTrue, codes};
 ghost use Rattle.std.specs.Io.KnownBytes.{Appends, Keeps, IsAtEnd};
 ghost use Rattle.diag.specs.declared.kind.Kind.{Kind as AnyKind};
-ghost use Rattle.schema_core.specs.Document.{Entry, document, text_of};
+ghost use Rattle.acceptance.specs.Json.{Json};
+ghost use Rattle.schema_core.specs.Document.{text_of};
 ghost use Rattle.streams.specs.Faults.{CountsFault};
 ghost use Rattle.streams.specs.Told.{AppendsPart};
 ghost use Rattle.configuration.specs.Configuration.{Configuration};
-ghost use Rattle.configuration.specs.Form.{IsConfigurationText};
 ghost use Rattle.files.specs.Held.{IsMissing};
+ghost use Rattle.shapes.specs.Declarations.{DeclarationOf};
 ghost use Rattle.closing.specs.Described.{Describes};
-ghost use Rattle.compose.specs.Faults.{IsDerived};
-ghost use Rattle.schema_gen.specs.Given.{Given as AnyGiven, IsGiven, IsConfigured, SaysNone};
-ghost use Rattle.schema_gen.specs.Owed.{Owed};
-ghost use Rattle.schema_gen.specs.Refusals.{IsText, IsSound, IsRefusedRun, IsReported};
+ghost use Rattle.schema_gen.specs.Beginning.{IsTold, beginning_of};
+ghost use Rattle.schema_gen.specs.Given.{Given as AnyGiven, IsGiven, IsConfigured, IsMisconfigured, ResolvesTo};
+ghost use Rattle.schema_gen.specs.Owed.{IsDocument, Owed};
+ghost use Rattle.schema_gen.specs.Refusals.{IsSound, IsReported};
 ghost use Rattle.schema_gen.specs.Words.{IsDerive, HaveForm};
 ghost use Rattle.schema_gen.specs.declared.status.Status.{Status as AnyStatus};
 
@@ -33,7 +34,7 @@ use streams::{Failed, Sink, Source};
 ///
 /// Nothing is written before all is made, and writing takes no memory. So `out` gets the whole document or nothing,
 /// except after a fault of writing, when it has a front of what it was to get.
-#[tactic(auto, using(crate::proofs::Consequences::done_owed, crate::proofs::Consequences::usage_owed, crate::proofs::Consequences::fault_owed, crate::proofs::Consequences::other_words))]
+#[tactic(auto, using(crate::proofs::Consequences::consequences))]
 pub fn run<S: Source, F: Files, O: Sink, E: Sink>(
     alloc: Global,
     words: &Words,
@@ -42,57 +43,97 @@ pub fn run<S: Source, F: Files, O: Sink, E: Sink>(
     out: &mut O,
     err: &mut E,
 ) -> Status
-    // The document that was written describes the declarations of the source: each has its component, and so has each
-    // reference, and the component accepts the JSON that has the declaration's shape.
-    ensures done { result ≡ Status.Done → (given : AnyGiven) × (components : List Entry) × (made : IsDerived given.config given.text components)
-        × IsGiven words.now (F.tells files.old) (F.held files.old) (S.left input.old) given × IsText given.text
-        × Describes made.resolved (document components) × Appends (O.written out.old) (O.written out.new) (text_of (document components)) }
-    ensures refused { (kind : AnyKind) → result ≡ Status.Refused kind
-        → (line : List ℕ) × IsReported (IsRefusedRun words.now (F.tells files.old) (F.held files.old) (S.left input.old)) kind line
+    // The bytes that were written are one document. It describes the declarations that the source
+    // is resolved to: each has its component, and so has each reference, and the component of a
+    // plain declaration accepts exactly the JSON that has its shape.
+    ensures done { result ≡ Status.Done
+        → (given : AnyGiven) × (resolved : List DeclarationOf) × (document : Json)
+        × IsGiven (beginning_of S.Source F.Files words.now input.old files.old) given
+        × ResolvesTo given resolved × Describes resolved document
+        × Appends (O.written out.old) (O.written out.new) (text_of document) }
+    // The document is that of the source's components, without others, and no condition of a
+    // refusal holds.
+    ensures derived { result ≡ Status.Done → (text : List ℕ)
+        × IsDocument (beginning_of S.Source F.Files words.now input.old files.old) text
+        × Appends (O.written out.old) (O.written out.new) text }
+    ensures refused { (kind : AnyKind) → result ≡ Status.Refused kind → (line : List ℕ)
+        × IsReported (beginning_of S.Source F.Files words.now input.old files.old) kind line
         × Appends (E.written err.old) (E.written err.new) line }
-    ensures usage { result ≡ Status.Usage → ¬ (HaveForm words.now)
-        × Appends (E.written err.old) (E.written err.new) (codes "usage: schema_gen derive [--config PATH]\n") }
-    ensures only_usage { ¬ (HaveForm words.now) → (result ≡ Status.Usage) ⊎ (result ≡ Status.WriteFault) }
-    // The configuration comes first. Without one nothing of the input is read, and where the words name no path, no file is.
+    ensures usage { result ≡ Status.Usage → ¬ (HaveForm words.now) }
+    ensures usage_line { result ≡ Status.Usage
+        → Appends (E.written err.old) (E.written err.new)
+        (codes "usage: schema_gen derive [--config PATH]\n") }
+    ensures only_usage { ¬ (HaveForm words.now)
+        → (result ≡ Status.Usage) ⊎ (result ≡ Status.WriteFault) }
+    // The configuration comes first. Without one nothing of the input is read, and where the words
+    // name no path, no file is.
     ensures bad_config { result ≡ Status.Refused Kind.BadConfig
-        → (path : List ℕ) × IsDerive words.now (Some path) × SaysNone (F.tells files.old) (F.held files.old) path }
-    ensures only_bad_config { (path : List ℕ) (bytes : List ℕ) → IsDerive words.now (Some path) → IsTrue (F.tells files.old)
-        → F.held files.old path ≡ Some bytes → ((c : Configuration) → ¬ (IsConfigurationText bytes c))
-        → (result ≡ Status.Refused Kind.BadConfig) ⊎ (result ≡ Status.FileFault) ⊎ (result ≡ Status.Memory) ⊎ (result ≡ Status.WriteFault) }
-    ensures missing { (path : List ℕ) → IsDerive words.now (Some path) → IsMissing (F.tells files.old) (F.held files.old path)
+        → IsMisconfigured (beginning_of S.Source F.Files words.now input.old files.old) }
+    ensures only_bad_config { IsTrue (F.tells files.old)
+        → IsMisconfigured (beginning_of S.Source F.Files words.now input.old files.old)
+        → (result ≡ Status.Refused Kind.BadConfig) ⊎ (result ≡ Status.FileFault)
+        ⊎ (result ≡ Status.Memory) ⊎ (result ≡ Status.WriteFault) }
+    ensures missing { (path : List ℕ) → IsDerive words.now (Some path)
+        → IsMissing (F.tells files.old) (F.held files.old path)
         → (result ≡ Status.FileFault) ⊎ (result ≡ Status.Memory) ⊎ (result ≡ Status.WriteFault) }
-    ensures unread { ((c : Configuration) → ¬ (IsConfigured words.now (F.tells files.old) (F.held files.old) c)) → input.new ≡ input.old }
-    ensures unread_config { (result ≡ Status.Refused Kind.BadConfig) ⊎ (result ≡ Status.FileFault) → input.new ≡ input.old }
-    ensures no_file { ((path : List ℕ) → ¬ (IsDerive words.now (Some path))) → files.new ≡ files.old }
+    ensures unread { ((c : Configuration)
+        → ¬ (IsConfigured (beginning_of S.Source F.Files words.now input.old files.old) c))
+        → input.new ≡ input.old }
+    ensures unread_config { (result ≡ Status.Refused Kind.BadConfig) ⊎ (result ≡ Status.FileFault)
+        → input.new ≡ input.old }
+    ensures no_file { ((path : List ℕ) → ¬ (IsDerive words.now (Some path)))
+        → files.new ≡ files.old }
     ensures tells_on { F.tells files.new ≡ F.tells files.old }
     ensures same { (path : List ℕ) → F.held files.new path ≡ F.held files.old path }
-    // What is given has its document, where it is told and sound, unless something fails or memory is wanted.
-    ensures complete { (given : AnyGiven) → IsGiven words.now (F.tells files.old) (F.held files.old) (S.left input.old) given
-        → IsSome (S.left input.old) → ((path : List ℕ) → IsDerive words.now (Some path) → IsTrue (F.tells files.old)) → IsSound given.config given.text
-        → ¬ (CountsFault (S.faults input.old) (S.faults input.new)) → ¬ (CountsFault (F.faults files.old) (F.faults files.new))
-        → ¬ (CountsFault (O.faults out.old) (O.faults out.new)) → ¬ (CountsFault (E.faults err.old) (E.faults err.new))
+    // What is given has its document, where it is told and sound, unless something fails or memory
+    // is wanted.
+    ensures complete { (given : AnyGiven)
+        → IsGiven (beginning_of S.Source F.Files words.now input.old files.old) given
+        → IsTold (beginning_of S.Source F.Files words.now input.old files.old)
+        → IsSound given.config given.text
+        → ¬ (CountsFault (S.faults input.old) (S.faults input.new))
+        → ¬ (CountsFault (F.faults files.old) (F.faults files.new))
+        → ¬ (CountsFault (O.faults out.old) (O.faults out.new))
+        → ¬ (CountsFault (E.faults err.old) (E.faults err.new))
         → (result ≡ Status.Done) ⊎ (result ≡ Status.Memory) }
-    // What was written is what the status owes, and after a fault of writing a front of what a status owes.
+    // What was written is what the status owes, and after a fault of writing a front of what a
+    // status owes.
     ensures written { result ≢ Status.WriteFault → (text : List ℕ) × (report : List ℕ)
-        × Owed words.now (F.tells files.old) (F.held files.old) (S.left input.old) result text report
-        × Appends (O.written out.old) (O.written out.new) text × Appends (E.written err.old) (E.written err.new) report }
-    ensures cut { result ≡ Status.WriteFault → (status : AnyStatus) × (text : List ℕ) × (report : List ℕ)
-        × Owed words.now (F.tells files.old) (F.held files.old) (S.left input.old) status text report
+        × Owed (beginning_of S.Source F.Files words.now input.old files.old) result text report
+        × Appends (O.written out.old) (O.written out.new) text
+        × Appends (E.written err.old) (E.written err.new) report }
+    ensures cut { result ≡ Status.WriteFault
+        → (status : AnyStatus) × (text : List ℕ) × (report : List ℕ)
+        × Owed (beginning_of S.Source F.Files words.now input.old files.old) status text report
         × (status ≡ Status.ReadFault → CountsFault (S.faults input.old) (S.faults input.new))
         × (status ≡ Status.FileFault → CountsFault (F.faults files.old) (F.faults files.new))
-        × AppendsPart (O.written out.old) (O.written out.new) text × AppendsPart (E.written err.old) (E.written err.new) report }
-    ensures out_kept { result ≢ Status.Done → result ≢ Status.WriteFault → Keeps (O.written out.old) (O.written out.new) }
-    ensures err_kept { (result ≡ Status.Done) ⊎ (result ≡ Status.Memory) → Keeps (E.written err.old) (E.written err.new) }
+        × AppendsPart (O.written out.old) (O.written out.new) text
+        × AppendsPart (E.written err.old) (E.written err.new) report }
+    ensures out_kept { result ≢ Status.Done → result ≢ Status.WriteFault
+        → Keeps (O.written out.old) (O.written out.new) }
+    ensures err_kept { (result ≡ Status.Done) ⊎ (result ≡ Status.Memory)
+        → Keeps (E.written err.old) (E.written err.new) }
     // Faults have causes, and after `Done` the input has nothing left.
-    ensures read_fault { result ≡ Status.ReadFault → ((c : Configuration) × IsConfigured words.now (F.tells files.old) (F.held files.old) c)
-        × CountsFault (S.faults input.old) (S.faults input.new) × Appends (E.written err.old) (E.written err.new) (codes "read fault\n") }
-    ensures file_fault { result ≡ Status.FileFault → (path : List ℕ) × IsDerive words.now (Some path) × (F.failed files.new ≡ Some path)
-        × CountsFault (F.faults files.old) (F.faults files.new) × Appends (E.written err.old) (E.written err.new) (codes "file fault\n") }
-    ensures write_fault { result ≡ Status.WriteFault →
-        CountsFault (O.faults out.old) (O.faults out.new) ⊎ CountsFault (E.faults err.old) (E.faults err.new) }
+    ensures read_fault { result ≡ Status.ReadFault → (c : Configuration)
+        × IsConfigured (beginning_of S.Source F.Files words.now input.old files.old) c }
+    ensures read_count { result ≡ Status.ReadFault
+        → CountsFault (S.faults input.old) (S.faults input.new) }
+    ensures read_line { result ≡ Status.ReadFault
+        → Appends (E.written err.old) (E.written err.new) (codes "read fault\n") }
+    ensures file_fault { result ≡ Status.FileFault → (path : List ℕ)
+        × IsDerive words.now (Some path) × (F.failed files.new ≡ Some path) }
+    ensures file_count { result ≡ Status.FileFault
+        → CountsFault (F.faults files.old) (F.faults files.new) }
+    ensures file_line { result ≡ Status.FileFault
+        → Appends (E.written err.old) (E.written err.new) (codes "file fault\n") }
+    ensures write_fault { result ≡ Status.WriteFault
+        → CountsFault (O.faults out.old) (O.faults out.new)
+        ⊎ CountsFault (E.faults err.old) (E.faults err.new) }
     ensures end { result ≡ Status.Done → IsAtEnd (S.left input.new) }
-    ensures input_calm { result ≢ Status.ReadFault → result ≢ Status.WriteFault → S.faults input.new ≡ S.faults input.old }
-    ensures files_calm { result ≢ Status.FileFault → result ≢ Status.WriteFault → F.faults files.new ≡ F.faults files.old }
+    ensures input_calm { result ≢ Status.ReadFault → result ≢ Status.WriteFault
+        → S.faults input.new ≡ S.faults input.old }
+    ensures files_calm { result ≢ Status.FileFault → result ≢ Status.WriteFault
+        → F.faults files.new ≡ F.faults files.old }
     ensures out_calm { result ≢ Status.WriteFault → O.faults out.new ≡ O.faults out.old }
     ensures err_calm { result ≢ Status.WriteFault → E.faults err.new ≡ E.faults err.old }
 {

@@ -1,7 +1,6 @@
 //! A run up to its ending: it reads the file that the words name and the input, and derives.
 
-ghost use Rattle.std.specs.Prelude.{◌≡◌, ◌≢◌, ◌≤◌, ◌<◌, ◌⊎◌, ℕ, List as Items, Bool, length, IfOk, IfErr, OnOk};
-ghost use Rattle.std.specs.declared.option.Option.{Option};
+ghost use Rattle.std.specs.Prelude.{◌≡◌, ◌≢◌, ◌≤◌, ◌<◌, ◌⊎◌, ℕ, List as Items, length, IfOk, IfErr, OnOk};
 ghost use Rattle.std.specs.Io.KnownBytes.{IsAtEnd};
 ghost use Rattle.streams.specs.Faults.{CountsFault};
 ghost use Rattle.streams.specs.Told.{IsAll};
@@ -10,9 +9,10 @@ ghost use Rattle.configuration.specs.Form.{IsConfigurationText};
 ghost use Rattle.files.specs.Held.{IsHeld};
 ghost use Rattle.diag.specs.Diagnostics.{HasFirst};
 ghost use Rattle.diag.specs.declared.kind.Kind.{Kind as AnyKind};
-ghost use Rattle.schema_gen.specs.Endings.{status_of, document_of, report_of};
-ghost use Rattle.schema_gen.specs.Given.{IsSaid, SaysNone, IsConfigured};
-ghost use Rattle.schema_gen.specs.Owed.{IsDocumentOf, Owed};
+ghost use Rattle.schema_gen.specs.Beginning.{Beginning, beginning_of};
+ghost use Rattle.schema_gen.specs.Endings.{status_of, IsEnding};
+ghost use Rattle.schema_gen.specs.Given.{Given, IsSaidBy, IsConfigured, IsMisconfigured, IsGiven};
+ghost use Rattle.schema_gen.specs.Owed.{IsDocumentOf};
 ghost use Rattle.schema_gen.specs.Refusals.{most_bytes, IsRefusedSource, IsRefusedRun};
 ghost use Rattle.schema_gen.specs.Words.{IsDerive};
 
@@ -30,13 +30,13 @@ use texts::Text;
 
 /// The ending of a run that is refused.
 fn refused(alloc: Global, refusal: &Diagnostics) -> Ending
-    ensures owed { (words : Items (Items ℕ)) (tells : Bool) (held : Items ℕ → Option (Items ℕ)) (left : Option (Items ℕ))
-        → IsRefusedRun words tells held left (DeriveError.Refused refusal.now)
-        → Owed words tells held left (status_of result) (document_of result) (report_of result) }
+    ensures owed { (begun : Beginning) → IsRefusedRun begun (DeriveError.Refused refusal.now)
+        → IsEnding begun result }
     ensures not_done { status_of result ≢ Status.Done }
     ensures no_read_fault { status_of result ≢ Status.ReadFault }
     ensures no_file_fault { status_of result ≢ Status.FileFault }
-    ensures kind { (kind : AnyKind) → status_of result ≡ Status.Refused kind → HasFirst refusal.now (λ d. d.kind ≡ kind) }
+    ensures kind { (kind : AnyKind) → status_of result ≡ Status.Refused kind
+        → HasFirst refusal.now (λ d. d.kind ≡ kind) }
 {
     match refusal_line(alloc, refusal) {
         Ok(line) => Ending::Refused(refusal.kind(), line),
@@ -48,7 +48,8 @@ fn refused(alloc: Global, refusal: &Diagnostics) -> Ending
 fn document_text(alloc: Global, config: &Config, bytes: &[u8]) -> Result<Text, DeriveError>
     requires { length bytes.now ≤ most_bytes }
     ensures made { IfOk result (λ text. IsDocumentOf config.now bytes.now text) }
-    ensures refused { IfErr result (λ e. (e ≡ DeriveError.Memory) ⊎ IsRefusedSource config.now bytes.now e) }
+    ensures refused { IfErr result (λ e.
+        (e ≡ DeriveError.Memory) ⊎ IsRefusedSource config.now bytes.now e) }
 {
     let source = source_text(alloc, bytes)?;
     let derived = derive_components(alloc, source, config)?;
@@ -58,9 +59,8 @@ fn document_text(alloc: Global, config: &Config, bytes: &[u8]) -> Result<Text, D
 /// The ending of a source that was read.
 fn end_of_source(alloc: Global, config: &Config, bytes: &[u8]) -> Ending
     requires { length bytes.now ≤ most_bytes }
-    ensures owed { (words : Items (Items ℕ)) (tells : Bool) (held : Items ℕ → Option (Items ℕ)) (left : Option (Items ℕ))
-        → IsConfigured words tells held config.now → IsAll left bytes.now
-        → Owed words tells held left (status_of result) (document_of result) (report_of result) }
+    ensures owed { (begun : Beginning) → IsConfigured begun config.now → IsAll begun.left bytes.now
+        → IsEnding begun result }
     ensures no_read_fault { status_of result ≢ Status.ReadFault }
     ensures no_file_fault { status_of result ≢ Status.FileFault }
     ensures no_bad_config { status_of result ≢ Status.Refused Kind.BadConfig }
@@ -74,9 +74,8 @@ fn end_of_source(alloc: Global, config: &Config, bytes: &[u8]) -> Ending
 
 /// The ending of a source that is too long.
 fn end_of_longer(alloc: Global) -> Ending
-    ensures owed { (words : Items (Items ℕ)) (tells : Bool) (held : Items ℕ → Option (Items ℕ)) (left : Option (Items ℕ)) (c : Configuration) (source : Items ℕ)
-        → IsConfigured words tells held c → IsAll left source → most_bytes < length source
-        → Owed words tells held left (status_of result) (document_of result) (report_of result) }
+    ensures owed { (begun : Beginning) (given : Given) → IsGiven begun given
+        → most_bytes < length given.text → IsEnding begun result }
     ensures not_done { status_of result ≢ Status.Done }
     ensures no_read_fault { status_of result ≢ Status.ReadFault }
     ensures no_file_fault { status_of result ≢ Status.FileFault }
@@ -90,12 +89,13 @@ fn end_of_longer(alloc: Global) -> Ending
 
 /// Reads the input and derives with the configuration.
 fn end_with<S: Source>(alloc: Global, config: &Config, input: &mut S) -> Ending
-    ensures owed { (words : Items (Items ℕ)) (tells : Bool) (held : Items ℕ → Option (Items ℕ)) → IsConfigured words tells held config.now
-        → Owed words tells held (S.left input.old) (status_of result) (document_of result) (report_of result) }
+    ensures owed { (begun : Beginning) → begun.left ≡ S.left input.old
+        → IsConfigured begun config.now → IsEnding begun result }
     ensures end { status_of result ≡ Status.Done → IsAtEnd (S.left input.new) }
     ensures later { S.faults input.old ≤ S.faults input.new }
     ensures kept { status_of result ≢ Status.ReadFault → S.faults input.new ≡ S.faults input.old }
-    ensures failed { status_of result ≡ Status.ReadFault → CountsFault (S.faults input.old) (S.faults input.new) }
+    ensures failed { status_of result ≡ Status.ReadFault
+        → CountsFault (S.faults input.old) (S.faults input.new) }
     ensures no_file_fault { status_of result ≢ Status.FileFault }
     ensures no_bad_config { status_of result ≢ Status.Refused Kind.BadConfig }
 {
@@ -109,9 +109,7 @@ fn end_with<S: Source>(alloc: Global, config: &Config, input: &mut S) -> Ending
 
 /// The ending of a run whose file is too long for a configuration.
 fn end_of_longer_file(alloc: Global) -> Ending
-    ensures owed { (words : Items (Items ℕ)) (tells : Bool) (held : Items ℕ → Option (Items ℕ)) (left : Option (Items ℕ)) (path : Items ℕ)
-        → IsDerive words (Some path) → SaysNone tells held path
-        → Owed words tells held left (status_of result) (document_of result) (report_of result) }
+    ensures owed { (begun : Beginning) → IsMisconfigured begun → IsEnding begun result }
     ensures not_done { status_of result ≢ Status.Done }
     ensures no_read_fault { status_of result ≢ Status.ReadFault }
     ensures no_file_fault { status_of result ≢ Status.FileFault }
@@ -125,9 +123,9 @@ fn end_of_longer_file(alloc: Global) -> Ending
 /// The configuration that the bytes of a file say, or the ending of a run with that file.
 fn said_config(alloc: Global, bytes: &[u8]) -> Result<Config, Ending>
     ensures said { IfOk result (IsConfigurationText bytes.now) }
-    ensures owed { IfErr result (λ ending. (words : Items (Items ℕ)) (tells : Bool) (held : Items ℕ → Option (Items ℕ)) (left : Option (Items ℕ)) (path : Items ℕ)
-        → IsDerive words (Some path) → IsHeld tells (held path) bytes.now
-        → Owed words tells held left (status_of ending) (document_of ending) (report_of ending)) }
+    ensures owed { IfErr result (λ ending. (begun : Beginning) (path : Items ℕ)
+        → IsDerive begun.words (Some path) → IsHeld begun.tells (begun.held path) bytes.now
+        → IsEnding begun ending) }
     ensures not_done { IfErr result (λ ending. status_of ending ≢ Status.Done) }
     ensures no_read_fault { IfErr result (λ ending. status_of ending ≢ Status.ReadFault) }
     ensures no_file_fault { IfErr result (λ ending. status_of ending ≢ Status.FileFault) }
@@ -141,18 +139,22 @@ fn said_config(alloc: Global, bytes: &[u8]) -> Result<Config, Ending>
 
 /// The configuration of the file at the path, or the ending of a run with that path.
 fn read_config<F: Files>(alloc: Global, path: &str, files: &mut F) -> Result<Config, Ending>
-    ensures said { IfOk result (IsSaid (F.tells files.old) (F.held files.old) (Some path.now)) }
-    ensures owed { IfErr result (λ ending. (words : Items (Items ℕ)) (left : Option (Items ℕ)) → IsDerive words (Some path.now)
-        → Owed words (F.tells files.old) (F.held files.old) left (status_of ending) (document_of ending) (report_of ending)) }
+    ensures said { IfOk result (IsSaidBy (F.tells files.old) (F.held files.old path.now)) }
+    ensures owed { IfErr result (λ ending. (begun : Beginning)
+        → IsDerive begun.words (Some path.now)
+        → begun.tells ≡ F.tells files.old → begun.held path.now ≡ F.held files.old path.now
+        → IsEnding begun ending) }
     ensures not_done { IfErr result (λ ending. status_of ending ≢ Status.Done) }
     ensures no_read_fault { IfErr result (λ ending. status_of ending ≢ Status.ReadFault) }
     ensures tells_on { F.tells files.new ≡ F.tells files.old }
     ensures same { (other : Items ℕ) → F.held files.new other ≡ F.held files.old other }
     ensures later { F.faults files.old ≤ F.faults files.new }
     ensures calm { OnOk result (F.faults files.new ≡ F.faults files.old) }
-    ensures kept { IfErr result (λ ending. status_of ending ≢ Status.FileFault → F.faults files.new ≡ F.faults files.old) }
-    ensures failed { IfErr result (λ ending. status_of ending ≡ Status.FileFault →
-        CountsFault (F.faults files.old) (F.faults files.new) × (F.failed files.new ≡ Some path.now)) }
+    ensures kept { IfErr result (λ ending. status_of ending ≢ Status.FileFault
+        → F.faults files.new ≡ F.faults files.old) }
+    ensures failed { IfErr result (λ ending. status_of ending ≡ Status.FileFault
+        → CountsFault (F.faults files.old) (F.faults files.new)
+        × (F.failed files.new ≡ Some path.now)) }
 {
     match files.read_file(alloc, path, MAX_BYTES) {
         Ok(bytes) => said_config(alloc, bytes.as_slice()),
@@ -165,20 +167,26 @@ fn read_config<F: Files>(alloc: Global, path: &str, files: &mut F) -> Result<Con
 /// Reads the file at the path, then the input, and derives.
 fn end_at<S: Source, F: Files>(alloc: Global, path: &str, input: &mut S, files: &mut F) -> Ending
     ensures owed { (words : Items (Items ℕ)) → IsDerive words (Some path.now)
-        → Owed words (F.tells files.old) (F.held files.old) (S.left input.old) (status_of result) (document_of result) (report_of result) }
-    ensures unread { ((c : Configuration) → ¬ (IsSaid (F.tells files.old) (F.held files.old) (Some path.now) c)) → input.new ≡ input.old }
+        → IsEnding (beginning_of S.Source F.Files words input.old files.old) result }
+    ensures unread { ((c : Configuration)
+        → ¬ (IsSaidBy (F.tells files.old) (F.held files.old path.now) c))
+        → input.new ≡ input.old }
     ensures unread_fault { status_of result ≡ Status.FileFault → input.new ≡ input.old }
-    ensures unread_config { status_of result ≡ Status.Refused Kind.BadConfig → input.new ≡ input.old }
+    ensures unread_config { status_of result ≡ Status.Refused Kind.BadConfig
+        → input.new ≡ input.old }
     ensures end { status_of result ≡ Status.Done → IsAtEnd (S.left input.new) }
     ensures later { S.faults input.old ≤ S.faults input.new }
     ensures kept { status_of result ≢ Status.ReadFault → S.faults input.new ≡ S.faults input.old }
-    ensures failed { status_of result ≡ Status.ReadFault → CountsFault (S.faults input.old) (S.faults input.new) }
+    ensures failed { status_of result ≡ Status.ReadFault
+        → CountsFault (S.faults input.old) (S.faults input.new) }
     ensures tells_on { F.tells files.new ≡ F.tells files.old }
     ensures same { (other : Items ℕ) → F.held files.new other ≡ F.held files.old other }
     ensures files_later { F.faults files.old ≤ F.faults files.new }
-    ensures files_kept { status_of result ≢ Status.FileFault → F.faults files.new ≡ F.faults files.old }
-    ensures files_failed { status_of result ≡ Status.FileFault →
-        CountsFault (F.faults files.old) (F.faults files.new) × (F.failed files.new ≡ Some path.now) }
+    ensures files_kept { status_of result ≢ Status.FileFault
+        → F.faults files.new ≡ F.faults files.old }
+    ensures files_failed { status_of result ≡ Status.FileFault
+        → CountsFault (F.faults files.old) (F.faults files.new)
+        × (F.failed files.new ≡ Some path.now) }
 {
     match read_config(alloc, path, files) {
         Ok(config) => end_with(alloc, &config, input),
@@ -195,20 +203,27 @@ pub(crate) fn end_of<S: Source, F: Files>(
     input: &mut S,
     files: &mut F,
 ) -> Ending
-    ensures owed { Owed words.now (F.tells files.old) (F.held files.old) (S.left input.old) (status_of result) (document_of result) (report_of result) }
-    ensures unread { ((c : Configuration) → ¬ (IsConfigured words.now (F.tells files.old) (F.held files.old) c)) → input.new ≡ input.old }
+    ensures owed { IsEnding (beginning_of S.Source F.Files words.now input.old files.old) result }
+    ensures unread { ((c : Configuration)
+        → ¬ (IsConfigured (beginning_of S.Source F.Files words.now input.old files.old) c))
+        → input.new ≡ input.old }
     ensures unread_fault { status_of result ≡ Status.FileFault → input.new ≡ input.old }
-    ensures unread_config { status_of result ≡ Status.Refused Kind.BadConfig → input.new ≡ input.old }
-    ensures no_file { ((path : Items ℕ) → ¬ (IsDerive words.now (Some path))) → files.new ≡ files.old }
+    ensures unread_config { status_of result ≡ Status.Refused Kind.BadConfig
+        → input.new ≡ input.old }
+    ensures no_file { ((path : Items ℕ) → ¬ (IsDerive words.now (Some path)))
+        → files.new ≡ files.old }
     ensures end { status_of result ≡ Status.Done → IsAtEnd (S.left input.new) }
     ensures later { S.faults input.old ≤ S.faults input.new }
     ensures kept { status_of result ≢ Status.ReadFault → S.faults input.new ≡ S.faults input.old }
-    ensures failed { status_of result ≡ Status.ReadFault → CountsFault (S.faults input.old) (S.faults input.new) }
+    ensures failed { status_of result ≡ Status.ReadFault
+        → CountsFault (S.faults input.old) (S.faults input.new) }
     ensures tells_on { F.tells files.new ≡ F.tells files.old }
     ensures same { (path : Items ℕ) → F.held files.new path ≡ F.held files.old path }
     ensures files_later { F.faults files.old ≤ F.faults files.new }
-    ensures files_kept { status_of result ≢ Status.FileFault → F.faults files.new ≡ F.faults files.old }
-    ensures files_failed { status_of result ≡ Status.FileFault → CountsFault (F.faults files.old) (F.faults files.new)
+    ensures files_kept { status_of result ≢ Status.FileFault
+        → F.faults files.new ≡ F.faults files.old }
+    ensures files_failed { status_of result ≡ Status.FileFault
+        → CountsFault (F.faults files.old) (F.faults files.new)
         × ((path : Items ℕ) × IsDerive words.now (Some path) × (F.failed files.new ≡ Some path)) }
 {
     if words.is_derive() {

@@ -7,9 +7,9 @@ use Rattle.schema_gen.proofs.OtherKinds.{long_kind, refuses}
 use Rattle.schema_gen.proofs.reading.end_of_longer.Goals as goal
 
 pub returns-in-Refused-clause-owed : goal.returns-in-Refused-clause-owed
-returns-in-Refused-clause-owed c = λ words tells held left config source configured all long.
+returns-in-Refused-clause-owed c = λ begun given is_given long.
     let is = refuses (IsRefusal TooLong no_span (codes "the source is longer than 1048576 bytes")) c.too_long.result _ c.too_long.ensures c.in-Refused.is in
-    c.refused.ensures.owed words tells held left (inr (record { config = config; text = source }, record { config = configured; text = all }, inl (long, is)))
+    c.refused.ensures.owed begun (inr (given, is_given, inl (long, is)))
 
 pub returns-in-Refused-clause-no_bad_config : goal.returns-in-Refused-clause-no_bad_config
 returns-in-Refused-clause-no_bad_config c = λ is.
@@ -17,4 +17,4 @@ returns-in-Refused-clause-no_bad_config c = λ is.
 
 pub returns-in-Memory-clause-owed : goal.returns-in-Memory-clause-owed
 unfolding Owed
-returns-in-Memory-clause-owed c = λ words tells held left config source configured all long. ((configured.0, configured.1), refl, refl)
+returns-in-Memory-clause-owed c = λ begun given is_given long. let configured = is_given.config in ((configured.0, configured.1), refl, refl)

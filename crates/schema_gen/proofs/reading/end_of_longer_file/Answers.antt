@@ -4,4 +4,4 @@ use Rattle.schema_gen.proofs.reading.end_of_longer_file.Goals as goal
 
 pub returns-in-Memory-clause-owed : goal.returns-in-Memory-clause-owed
 unfolding Owed
-returns-in-Memory-clause-owed c = λ words tells held left path form none. ((Some path, form), refl, refl)
+returns-in-Memory-clause-owed c = λ begun file. ((Some file.0, file.2), refl, refl)

@@ -16,17 +16,17 @@ cause_of config bytes e ds is (inr cause) = subst (IsRefusedSource config bytes)
 
 pub returns-in-Ok-clause-owed : goal.returns-in-Ok-clause-owed
 unfolding Owed
-returns-in-Ok-clause-owed c = λ words tells held left configured all. (
+returns-in-Ok-clause-owed c = λ begun configured all. (
   (record { config = c.args.config.now; text = c.args.bytes.now }, record { config = configured; text = all }, c.in-Ok.ensures.made),
   refl,
 )
 
 pub returns-in-Err-Refused-clause-owed : goal.returns-in-Err-Refused-clause-owed
-returns-in-Err-Refused-clause-owed c = λ words tells held left configured all.
+returns-in-Err-Refused-clause-owed c = λ begun configured all.
     let config = c.args.config.now in
     let bytes = c.args.bytes.now in
-    c.refused.ensures.owed words tells held left
-    (inr (record { config = config; text = bytes }, record { config = configured; text = all }, cause_of config bytes _ _ c.in-Err-Refused.field-0-is c.in-Err-Refused.ensures.refused))
+    let cause = cause_of config bytes _ _ c.in-Err-Refused.field-0-is c.in-Err-Refused.ensures.refused in
+    c.refused.ensures.owed begun (inr (record { config = config; text = bytes }, record { config = configured; text = all }, cause))
 
 pub returns-in-Err-Refused-clause-no_bad_config : goal.returns-in-Err-Refused-clause-no_bad_config
 returns-in-Err-Refused-clause-no_bad_config c = λ is.
@@ -36,4 +36,4 @@ returns-in-Err-Refused-clause-no_bad_config c = λ is.
 
 pub returns-in-Err-Memory-clause-owed : goal.returns-in-Err-Memory-clause-owed
 unfolding Owed
-returns-in-Err-Memory-clause-owed c = λ words tells held left configured all. ((configured.0, configured.1), refl, refl)
+returns-in-Err-Memory-clause-owed c = λ begun configured all. ((configured.0, configured.1), refl, refl)

@@ -1,6 +1,7 @@
 use Rattle.std.proofs.Common.{◌≡◌, List, [], ◌∷◌, refl, sym, ◌∙◌}
 use Rattle.diag.specs.Diagnostics.{HasFirst}
 use Rattle.diag.specs.declared.diagnostics.DiangosticsInner.{DiangosticsInner}
+use Rattle.diag.specs.declared.error.DeriveError.TheVariants.{Refused}
 use Rattle.diag.specs.declared.kind.Kind.{Kind}
 use Rattle.schema_gen.specs.Owed.{Owed}
 use Rattle.schema_gen.proofs.Told.{refused_form}
@@ -12,7 +13,7 @@ kind_is (d ∷ ds) kind told first is = sym first ∙ is
 
 pub returns-in-Ok-clause-owed : goal.returns-in-Ok-clause-owed
 unfolding Owed
-returns-in-Ok-clause-owed c = λ words tells held left cause. (
+returns-in-Ok-clause-owed c = λ begun cause. (
   record {
     diagnostics = c.args.refusal.now;
     cause = cause;
@@ -27,4 +28,4 @@ returns-in-Ok-clause-kind c = λ kind is. kind_is _ _ _ c.kind.ensures cc
 
 pub returns-in-Err-clause-owed : goal.returns-in-Err-clause-owed
 unfolding Owed
-returns-in-Err-clause-owed c = λ words tells held left cause. (refused_form words tells held left _ cause, refl, refl)
+returns-in-Err-clause-owed c = λ begun cause. (refused_form begun (Refused c.args.refusal.now) cause, refl, refl)

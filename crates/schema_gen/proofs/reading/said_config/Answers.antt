@@ -14,11 +14,11 @@ cause_of bytes e ds is (inl memory) = cc
 cause_of bytes e ds is (inr (bad, none)) = (subst IsBadConfig is bad, none)
 
 pub returns-in-Err-Refused-clause-owed : goal.returns-in-Err-Refused-clause-owed
-returns-in-Err-Refused-clause-owed c = λ words tells held left path form held_there.
+returns-in-Err-Refused-clause-owed c = λ begun path form held_there.
     let bytes = c.args.bytes.now in
     let cause = cause_of bytes _ _ c.in-Err-Refused.field-0-is c.in-Err-Refused.ensures.refused in
-    c.refused.ensures.owed words tells held left (inl (path, form, (bytes, held_there, cause.1), cause.0))
+    c.refused.ensures.owed begun (inl ((path, bytes, form, held_there, cause.1), cause.0))
 
 pub returns-in-Err-Memory-clause-owed : goal.returns-in-Err-Memory-clause-owed
 unfolding Owed
-returns-in-Err-Memory-clause-owed c = λ words tells held left path form held_there. ((Some path, form), refl, refl)
+returns-in-Err-Memory-clause-owed c = λ begun path form held_there. ((Some path, form), refl, refl)
