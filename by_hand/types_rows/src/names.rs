@@ -1,7 +1,7 @@
 //! Built-in names.
 
 use leaves::Leaf;
-use resolving::Head;
+use open_types::Head;
 use rows::given::text_of;
 use serde_json::Value;
 use std::alloc::{AllocError, Global};

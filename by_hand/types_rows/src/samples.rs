@@ -3,8 +3,7 @@
 
 use crate::resolved::read_in;
 use anyhow::{Context, bail};
-use open_types::{Leaf, OpenType};
-use resolving::Head;
+use open_types::{Head, Leaf, OpenType};
 use std::alloc::{AllocError, Global};
 use std::marker::Model;
 use texts::List;

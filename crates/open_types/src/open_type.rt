@@ -1,3 +1,6 @@
+ghost use Rattle.std.specs.Prelude.{◌≡◌};
+ghost use Rattle.open_types.specs.Heads.{list_name, set_name, map_name, through_name};
+
 use leaves::Leaf;
 use texts::List;
 
@@ -10,11 +13,36 @@ pub enum ListHead {
     Array,
 }
 
+impl ListHead {
+    /// The name. That of an array or slice is `Array`.
+    pub fn name(self) -> &'static str
+        ensures { result.now ≡ list_name self }
+    {
+        match self {
+            ListHead::Vec => "Vec",
+            ListHead::LinkedList => "LinkedList",
+            ListHead::SmallVec => "SmallVec",
+            ListHead::Array => "Array",
+        }
+    }
+}
+
 /// The names of sets.
 #[derive(Clone, Copy, Debug, PartialEq, Eq)]
 pub enum SetHead {
     BTreeSet,
     HashSet,
+}
+
+impl SetHead {
+    pub fn name(self) -> &'static str
+        ensures { result.now ≡ set_name self }
+    {
+        match self {
+            SetHead::BTreeSet => "BTreeSet",
+            SetHead::HashSet => "HashSet",
+        }
+    }
 }
 
 /// The names of maps.
@@ -26,6 +54,19 @@ pub enum MapHead {
     IndexMap,
 }
 
+impl MapHead {
+    pub fn name(self) -> &'static str
+        ensures { result.now ≡ map_name self }
+    {
+        match self {
+            MapHead::HashMap => "HashMap",
+            MapHead::BTreeMap => "BTreeMap",
+            MapHead::Map => "Map",
+            MapHead::IndexMap => "IndexMap",
+        }
+    }
+}
+
 /// The names of types that are read as what they hold.
 #[derive(Clone, Copy, Debug, PartialEq, Eq)]
 pub enum ThroughHead {
@@ -34,6 +75,20 @@ pub enum ThroughHead {
     RefCell,
     Arc,
     Rc,
+}
+
+impl ThroughHead {
+    pub fn name(self) -> &'static str
+        ensures { result.now ≡ through_name self }
+    {
+        match self {
+            ThroughHead::Cow => "Cow",
+            ThroughHead::Box => "Box",
+            ThroughHead::RefCell => "RefCell",
+            ThroughHead::Arc => "Arc",
+            ThroughHead::Rc => "Rc",
+        }
+    }
 }
 
 /// What a written type stands for, over the parameters of the declaration in which it is written.

@@ -8,7 +8,7 @@ use crate::open_type::OpenType;
 
 impl OpenType {
     /// Whether the other is the same type: equal names, equal places, and the same types in them.
-    #[tactic(auto, using(crate::specs::SameLaws::same_decides))]
+    #[tactic(auto, using(crate::specs::proved::SameLaws::same_decides))]
     pub fn is_same(&self, other: &OpenType) -> bool
         ensures { IsTrue result ↔ (open_view self.now ≡ open_view other.now) }
     {
@@ -20,7 +20,7 @@ impl PartialEq for OpenType {
     ghost use Rattle.std.specs.Ordering.{on};
     ghost use Rattle.open_types.specs.Open.{open_view};
     ghost use Rattle.open_types.specs.Same.{same_type};
-    ghost use Rattle.open_types.specs.SameLaws.{views_partial_equiv};
+    ghost use Rattle.open_types.specs.proved.SameLaws.{views_partial_equiv};
 
     ghost eq = { on open_view same_type };
 
@@ -32,7 +32,7 @@ impl PartialEq for OpenType {
 }
 
 impl Eq for OpenType {
-    ghost use Rattle.open_types.specs.SameLaws.{views_equiv};
+    ghost use Rattle.open_types.specs.proved.SameLaws.{views_equiv};
 
     ghost laws = { views_equiv };
 }

@@ -16,7 +16,7 @@ use Rattle.open_types.specs.declared.open_type.OpenType.{OpenType, the_lemmas}
 use Rattle.open_types.specs.declared.open_type.OpenType.TheVariants as variants
 use Rattle.open_types.specs.Open.{Open, Opens, tuple, open_view, opens_view}
 use Rattle.open_types.specs.Open as types
-use Rattle.resolving.specs.declared.head.Head.{Head}
+use Rattle.open_types.specs.declared.head.Head.{Head}
 use Rattle.resolving.specs.Names.{ident_of, nameless, where_none, meaning, path_size, names_in_path, names_in, names_in_arguments, names_in_argument, names_in_types, names_in_last, names_in_segment, last_size, segment_size}
 use Rattle.resolving.specs.Resolved.{contained, alone, meant, tuple_of, type_of, path_type, segment_type, last_type, argument_types, argument_type, all_types}
 use Rattle.texts.specs.Lists.{Somewhere}

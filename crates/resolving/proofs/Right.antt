@@ -1,8 +1,8 @@
 -- What has a meaning with its arguments has right ones.
-use Rattle.std.proofs.Common.{◌≡◌, ℕ, List, [], ◌∷◌, Bool, true, false, not, ◌&&◌, cond, Option, Some, None, option_and_then, bytes_eq, codes, refl, ap, sym, ◌∙◌}
+use Rattle.std.proofs.Common.{◌≡◌, ℕ, List, [], ◌∷◌, Bool, true, false, not, cond, Option, Some, None, option_and_then, bytes_eq, codes, refl, ap, sym, ◌∙◌}
 use Rattle.std.specs.List.{list_all}
 use Rattle.std.proofs.lemmas.Option.{none-some, same_Some}
-use Rattle.std.proofs.lemmas.Bool.{false≢true}
+use Rattle.std.proofs.lemmas.Bool.{false≢true, and_parts}
 use Rattle.leaves.specs.declared.leaf.Leaf.{Leaf}
 use Rattle.leaves.specs.Leaves.{leaf_of}
 use Rattle.written_types.specs.Written.{Written, WrittenPath, Segments, Segment, path, reference, tuple, slice, array, trait_object, path_of, no_segments, more_segments, plain, applied}
@@ -10,11 +10,12 @@ use Rattle.open_types.specs.declared.open_type.ListHead.{ListHead}
 use Rattle.open_types.specs.declared.open_type.ListHead.TheVariants as lists
 use Rattle.open_types.specs.Open.{Open, Opens}
 use Rattle.open_types.specs.Open as types
-use Rattle.resolving.specs.declared.head.Head.{Head}
-use Rattle.resolving.specs.declared.head.Head.TheVariants as heads
+use Rattle.open_types.specs.Heads.{head_name, containers, container_among}
+use Rattle.open_types.specs.declared.head.Head.{Head}
+use Rattle.open_types.specs.declared.head.Head.TheVariants as heads
 use Rattle.resolving.specs.declared.meaning.Meaning.{Meaning}
 use Rattle.resolving.specs.declared.meaning.Meaning.TheVariants as meanings
-use Rattle.resolving.specs.Names.{nameless, where_none, is_array, containers, container_among, declared_or_unknown, other_meaning, leaf_or, container_or, name_meaning, meaning}
+use Rattle.resolving.specs.Names.{nameless, where_none, is_array, declared_or_unknown, other_meaning, leaf_or, container_or, name_meaning, meaning}
 use Rattle.resolving.specs.Resolved.{small_list, list_of, of_one, of_two, contained, alone, meant, tuple_of, type_of, path_type, last_type, segment_type, argument_types, all_types, is_wrong_item, is_wrong_one, is_no_map, are_wrong_in, are_any, are_wrong}
 use Rattle.resolving.proofs.Stands.{Stand, mapped}
 
@@ -45,17 +46,13 @@ name-named p n =
     leaf-named (leaf_of n) (other_meaning p n)
     (by_test (bytes_eq n (codes "Value")) meanings.Value _ refl (by_test (bytes_eq n (codes "Object")) meanings.Object _ refl (by_test (bytes_eq n (codes "Self")) meanings.Unknown _ refl (declared-named (p n)))))
 
-and_parts : (a b : Bool) → (a && b) ≡ true → (a ≡ true) × (b ≡ true)
-and_parts true b e = (refl, e)
-and_parts false b e = absurd (false≢true e)
-
-container-named : (n : List ℕ) (cs : List (List ℕ × Head)) (m : Meaning) → list_all (λ (c : List ℕ × Head). is_named (meanings.Container c.1)) cs ≡ true → is_named m ≡ true → is_named (container_or (container_among n cs) m) ≡ true
-container-named n [] m h g = g
-container-named n (c ∷ cs) m h g =
-    let parts = and_parts (is_named (meanings.Container c.1)) (list_all (λ (d : List ℕ × Head). is_named (meanings.Container d.1)) cs) h in
-    by (bytes_eq n c.0) parts.0 (container-named n cs m parts.1 g)
+container-named : (n : List ℕ) (hs : List Head) (m : Meaning) → list_all (λ h. is_named (meanings.Container h)) hs ≡ true → is_named m ≡ true → is_named (container_or (container_among n hs) m) ≡ true
+container-named n [] m e g = g
+container-named n (h ∷ hs) m e g =
+    let parts = and_parts (is_named (meanings.Container h)) (list_all (λ k. is_named (meanings.Container k)) hs) e in
+    by (bytes_eq n (head_name h)) parts.0 (container-named n hs m parts.1 g)
   where
-    by : (b : Bool) → is_named (meanings.Container c.1) ≡ true → is_named (container_or (container_among n cs) m) ≡ true → is_named (container_or (cond b (Some c.1) (container_among n cs)) m) ≡ true
+    by : (b : Bool) → is_named (meanings.Container h) ≡ true → is_named (container_or (container_among n hs) m) ≡ true → is_named (container_or (cond b (Some h) (container_among n hs)) m) ≡ true
     by true f rest = f
     by false f rest = rest
 

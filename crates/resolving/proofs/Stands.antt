@@ -1,13 +1,13 @@
 -- Type arguments and what they stand for.
-use Rattle.std.proofs.Common.{◌≡◌, ◌≢◌, ℕ, List, [], ◌∷◌, subst, true, not, Option, Some, None, option_map, option_and_then, refl, ap, sym, ◌∙◌, arith}
+use Rattle.std.proofs.Common.{◌≡◌, ◌≢◌, ℕ, List, [], ◌∷◌, subst, true, not, Option, Some, None, option_map, option_and_then, refl, ap, sym, ◌∙◌}
 use Rattle.std.proofs.lemmas.Option.{none-some, same_Some}
 use Rattle.written_types.specs.Written.{Written, Segment, Arguments, path, reference, tuple, slice, array, trait_object, plain, applied, no_arguments, more_arguments, lifetime_argument, constant_argument, type_argument}
 use Rattle.open_types.specs.declared.open_type.ListHead.{ListHead}
 use Rattle.open_types.specs.declared.open_type.ListHead.TheVariants as lists
 use Rattle.open_types.specs.Open.{Open, Opens}
 use Rattle.open_types.specs.Open as types
-use Rattle.resolving.specs.declared.head.Head.{Head}
-use Rattle.resolving.specs.declared.head.Head.TheVariants as heads
+use Rattle.open_types.specs.declared.head.Head.{Head}
+use Rattle.open_types.specs.declared.head.Head.TheVariants as heads
 use Rattle.resolving.specs.declared.meaning.Meaning.{Meaning}
 use Rattle.resolving.specs.declared.meaning.Meaning.TheVariants as meanings
 use Rattle.resolving.specs.Names.{types_of, arguments_of, is_array}

@@ -8,11 +8,12 @@ use Rattle.written_types.specs.Written.{Written, Writtens, WrittenPath, Segments
 use Rattle.open_types.specs.declared.open_type.ListHead.TheVariants as lists
 use Rattle.open_types.specs.Open.{Open, Opens}
 use Rattle.open_types.specs.Open as types
-use Rattle.resolving.specs.declared.head.Head.{Head}
-use Rattle.resolving.specs.declared.head.Head.TheVariants as heads
+use Rattle.open_types.specs.Heads.{container_of}
+use Rattle.open_types.specs.declared.head.Head.{Head}
+use Rattle.open_types.specs.declared.head.Head.TheVariants as heads
 use Rattle.resolving.specs.declared.meaning.Meaning.{Meaning}
 use Rattle.resolving.specs.declared.meaning.Meaning.TheVariants as meanings
-use Rattle.resolving.specs.Names.{nameless, where_none, container_of, declared_or_unknown, other_meaning, leaf_or, container_or, name_meaning, meaning}
+use Rattle.resolving.specs.Names.{nameless, where_none, declared_or_unknown, other_meaning, leaf_or, container_or, name_meaning, meaning}
 use Rattle.resolving.specs.Resolved.{small_list, of_one, of_two, contained, alone, meant, tuple_of, type_of, path_type, last_type, segment_type, argument_types, all_types}
 use Rattle.open_types.specs.Within.{IsWithin, AreWithin}
 use Rattle.resolving.proofs.Stands.{mapped}

@@ -5,12 +5,8 @@ use Rattle.written_types.specs.declared.written.Ident.{Ident}
 use Rattle.written_types.specs.Written.{Written, Writtens, WrittenPath, Segments, Segment, Arguments, Argument, path, reference, tuple, slice, array, trait_object, no_types, more_types, path_of, no_segments, more_segments, plain, applied, no_arguments, more_arguments, lifetime_argument, constant_argument, type_argument}
 use Rattle.leaves.specs.declared.leaf.Leaf.{Leaf}
 use Rattle.leaves.specs.Leaves.{leaf_of}
-use Rattle.open_types.specs.declared.open_type.ListHead.TheVariants as lists
-use Rattle.open_types.specs.declared.open_type.SetHead.TheVariants as sets
-use Rattle.open_types.specs.declared.open_type.MapHead.TheVariants as maps
-use Rattle.open_types.specs.declared.open_type.ThroughHead.TheVariants as throughs
-use Rattle.resolving.specs.declared.head.Head.{Head}
-use Rattle.resolving.specs.declared.head.Head.TheVariants as heads
+use Rattle.open_types.specs.declared.head.Head.{Head}
+use Rattle.open_types.specs.Heads.{container_of}
 use Rattle.resolving.specs.declared.meaning.Meaning.{Meaning}
 use Rattle.resolving.specs.declared.meaning.Meaning.TheVariants as meanings
 
@@ -130,23 +126,6 @@ is_array (array t s) = true
 is_array (trait_object p s) = false
 
 -- ---- what a name stands for
-
-abbrev pub containers : List (List ℕ × Head)
-containers =
-    (codes "Vec", heads.List lists.Vec) ∷ (codes "LinkedList", heads.List lists.LinkedList) ∷ (codes "SmallVec", heads.List lists.SmallVec)
-    ∷ (codes "BTreeSet", heads.Set sets.BTreeSet) ∷ (codes "HashSet", heads.Set sets.HashSet)
-    ∷ (codes "HashMap", heads.Map maps.HashMap) ∷ (codes "BTreeMap", heads.Map maps.BTreeMap) ∷ (codes "Map", heads.Map maps.Map) ∷ (codes "IndexMap", heads.Map maps.IndexMap)
-    ∷ (codes "Option", heads.Option)
-    ∷ (codes "Cow", heads.Through throughs.Cow) ∷ (codes "Box", heads.Through throughs.Box) ∷ (codes "RefCell", heads.Through throughs.RefCell)
-    ∷ (codes "Arc", heads.Through throughs.Arc) ∷ (codes "Rc", heads.Through throughs.Rc) ∷ []
-
-abbrev pub container_among : List ℕ → List (List ℕ × Head) → Option Head
-container_among name [] = None
-container_among name (c ∷ cs) = cond (bytes_eq name c.0) (Some c.1) (container_among name cs)
-
--- the container of a name
-abbrev pub container_of : List ℕ → Option Head
-container_of name = container_among name containers
 
 abbrev pub declared_or_unknown : Option ℕ → Meaning
 declared_or_unknown (Some d) = meanings.Declared d

@@ -12,8 +12,8 @@ use Rattle.open_types.specs.declared.open_type.ListHead.TheVariants as lists
 use Rattle.open_types.specs.Open.{Open, Opens}
 use Rattle.open_types.specs.Open as types
 use Rattle.open_types.specs.Within.{IsWithin}
-use Rattle.resolving.specs.declared.head.Head.{Head}
-use Rattle.resolving.specs.declared.head.Head.TheVariants as heads
+use Rattle.open_types.specs.declared.head.Head.{Head}
+use Rattle.open_types.specs.declared.head.Head.TheVariants as heads
 use Rattle.resolving.specs.declared.meaning.Meaning.{Meaning}
 use Rattle.resolving.specs.declared.meaning.Meaning.TheVariants as meanings
 use Rattle.resolving.specs.Names.{types_of, ident_of, arguments_of, nameless, where_none, names_in, size, span_of, is_array, meaning}

@@ -4,9 +4,8 @@ ghost use Rattle.std.specs.Prelude.{◌≡◌, IfOk, option_map};
 ghost use Rattle.open_types.specs.Open.{open_view, opens_view};
 ghost use Rattle.resolving.specs.Resolved.{list_of, of_one, of_two, contained, alone, meant};
 
-use crate::head::Head;
 use crate::meaning::Meaning;
-use open_types::{ListHead, OpenType};
+use open_types::{Head, ListHead, OpenType};
 use std::alloc::{AllocError, Global};
 use texts::List;
 

@@ -2,14 +2,12 @@
 #![tactic(auto)]
 
 mod arguments;
-mod head;
 mod law;
 mod meaning;
 mod refusal;
 mod resolve;
 mod size;
 
-pub use head::Head;
 pub use law::{resolved_are_within, resolved_have_no_fault};
 pub use meaning::Meaning;
 pub use resolve::{MAX_NAMES, resolve_type};

@@ -5,8 +5,8 @@ ghost use Rattle.std.specs.BTreeMap.{get_by_text};
 ghost use Rattle.written_types.specs.Written.{segment_view};
 ghost use Rattle.resolving.specs.Names.{other_meaning, name_meaning, meaning};
 
-use crate::head::Head;
 use leaves::Leaf;
+use open_types::Head;
 use std::collections::BTreeMap;
 use written_types::PathSegment;
 

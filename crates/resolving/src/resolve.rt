@@ -11,7 +11,7 @@ ghost use Rattle.resolving.specs.Reading.{IsAtFault, AreAtFault, segment_argumen
 
 use crate::arguments::meant;
 use crate::meaning::{Meaning, segment_meaning};
-use crate::refusal::{arity, large, unknown};
+use crate::refusal::{arity, type_size, unknown_type};
 use crate::size::{left_after, span_of};
 use diag::DeriveError;
 use open_types::{ListHead, OpenType};
@@ -38,7 +38,7 @@ pub fn resolve_type(
     ensures refused { IfErr result (λ e. (e ≡ DeriveError.Memory) ⊎ ((fault : AnyFault) × IsFault (get_by_text places.now) (written_view ty.now) fault × IsRefusedFor fault e)) }
 {
     match left_after(ty, MAX_NAMES) {
-        None => Err(large(alloc, span_of(ty))?),
+        None => Err(type_size(alloc, span_of(ty))),
         Some(_) => resolve_whole(alloc, places, ty),
     }
 }
@@ -151,8 +151,8 @@ fn resolve_name(
     match meant(alloc, meaning, arguments)? {
         Some(ty) => Ok(ty),
         None => match meaning {
-            Meaning::Unknown => Err(unknown(alloc, &segment.ident)?),
-            _ => Err(arity(alloc, &segment.ident)?),
+            Meaning::Unknown => Err(unknown_type(alloc, &segment.ident)),
+            _ => Err(arity(alloc, &segment.ident)),
         },
     }
 }

@@ -1,5 +1,7 @@
 -- The members of a map that is put together field by field.
 use Rattle.std.proofs.Common.{ℕ, List, [], ◌∷◌, Bool, true, false, ◌&&◌, ◌||◌, Option, Some, None, bytes_eq, nat_cmp, is_eq, cond, Ordering, Less, Equal, Greater, ◌≡◌, refl, ap, sym, ◌∙◌}
+use Rattle.std.proofs.lemmas.Bool.{or_parts, or_from}
+use Rattle.std.proofs.Math.Bool.{and-true}
 use Rattle.std.specs.Cmp.Lexicographic.{slice_cmp}
 use Rattle.std.specs.Ordering.{match_ordering}
 use Rattle.std.proofs.lemmas.Map.Text.{is_eq-slice_cmp}
@@ -25,18 +27,6 @@ twice : (a b : Bool) → (a || b) ≡ (a || (a || b))
 twice true b = refl
 twice false b = refl
 
-pub first-false : (a b : Bool) → (a || b) ≡ false → a ≡ false
-first-false true b e = e
-first-false false b e = refl
-
-pub rest-false : (a b : Bool) → (a || b) ≡ false → b ≡ false
-rest-false true b e = cc
-rest-false false b e = e
-
-pub or-false-of : (a b : Bool) → a ≡ false → b ≡ false → (a || b) ≡ false
-or-false-of true b e f = cc
-or-false-of false b e f = f
-
 pub equal_names : (k l : List ℕ) → slice_cmp nat_cmp k l ≡ Equal → k ≡ l
 equal_names k l e = (bytes_eq-Decides k l).0 (sym (is_eq-slice_cmp k l) ∙ ap is_eq e)
 
@@ -45,7 +35,7 @@ same_name k = (bytes_eq-Decides k k).1 refl
 
 -- two texts that compare as equal are one: a name that is not there does not
 equal_there : (k l : List ℕ) (b : Bool) → slice_cmp nat_cmp k l ≡ Equal → (bytes_eq k l || b) ≡ false → true ≡ false
-equal_there k l b e h = sym ((bytes_eq-Decides k l).1 (equal_names k l e)) ∙ first-false (bytes_eq k l) b h
+equal_there k l b e h = sym ((bytes_eq-Decides k l).1 (equal_names k l e)) ∙ (or_parts (bytes_eq k l) b h).0
 
 pub names-put : (j k : List ℕ) (x : Json) (ms : Members) → is_in j (names (entries (put k x ms))) ≡ (bytes_eq j k || is_in j (names (entries ms)))
 names-put j k x no_members = refl
@@ -134,7 +124,7 @@ module _ (R : List ℕ → Json → Bool) (w : Members) where
 
   holds-put : (k : List ℕ) (x : Json) (ms : Members) (v : Json) → is_in k (names (entries ms)) ≡ false → members_hold R w (put k x ms) v ≡ (member_holds k x v && members_hold R w ms v)
   holds-put k x no_members v h = refl
-  holds-put k x (member l y ms) v h = by (slice_cmp nat_cmp k l) refl (holds-put k x ms v (rest-false (bytes_eq k l) (is_in k (names (entries ms))) h))
+  holds-put k x (member l y ms) v h = by (slice_cmp nat_cmp k l) refl (holds-put k x ms v ((or_parts (bytes_eq k l) (is_in k (names (entries ms))) h).1))
     where
       by : (o : Ordering) → slice_cmp nat_cmp k l ≡ o → members_hold R w (put k x ms) v ≡ (member_holds k x v && members_hold R w ms v) →
           members_hold R w (match_ordering o (member k x (member l y ms)) (member l x ms) (member l y (put k x ms))) v ≡ (member_holds k x v && (member_holds l y v && members_hold R w ms v))
@@ -148,7 +138,7 @@ module _ (R : List ℕ → Json → Bool) (w : Members) where
 
 names-given : (j k : List ℕ) (o : Option Json) (ms : Members) → bytes_eq j k ≡ false → is_in j (names (entries ms)) ≡ false → is_in j (names (entries (put_given k o ms))) ≡ false
 names-given j k None ms e h = h
-names-given j k (Some x) ms e h = names-put j k x ms ∙ or-false-of (bytes_eq j k) (is_in j (names (entries ms))) e h
+names-given j k (Some x) ms e h = names-put j k x ms ∙ or_from (bytes_eq j k) (is_in j (names (entries ms))) e h
 
 -- the fields have names of their own, and none that is taken
 abbrev pub AreFresh : List (List ℕ × Option Json) → List (List ℕ) → Type 0
@@ -174,13 +164,9 @@ module _ (R : List ℕ → Json → Bool) (w : Members) where
       members_hold R w (put_fields fs ms) v ≡ (fields_hold R w fs v && members_hold R w ms v)
   fields-hold [] taken ms v h t = refl
   fields-hold (f ∷ fs) taken ms v h t =
-      fields-hold fs (f.0 ∷ taken) (put_given f.0 f.1 ms) v h.1 (λ j e. names-given j f.0 f.1 ms (first-false (bytes_eq j f.0) (is_in j taken) e) (t j (rest-false (bytes_eq j f.0) (is_in j taken) e)))
+      fields-hold fs (f.0 ∷ taken) (put_given f.0 f.1 ms) v h.1 (λ j e. names-given j f.0 f.1 ms ((or_parts (bytes_eq j f.0) (is_in j taken) e).0) (t j ((or_parts (bytes_eq j f.0) (is_in j taken) e).1)))
       ∙ ap (λ b. fields_hold R w fs v && b) (holds-given R w f.0 f.1 ms v (t f.0 h.0))
       ∙ and-last (fields_hold R w fs v) (field_holds R w f v) (members_hold R w ms v)
-
-  and-true : (b : Bool) → (b && true) ≡ b
-  and-true true = refl
-  and-true false = refl
 
   -- a map of fields holds where each field does
   pub map-of-fields : (fs : List (List ℕ × Option Json)) (v : Json) → AreFresh fs [] → members_hold R w (put_fields fs no_members) v ≡ fields_hold R w fs v
@@ -199,7 +185,7 @@ module _ (R : List ℕ → Json → Bool) where
   properties-put : (k : List ℕ) (x : Json) (ms : Members) (es : List (List ℕ × Json)) → is_in k (names (entries ms)) ≡ false →
       each_property R (put k x ms) es ≡ (if_there (look k es) (accepts_with R x) && each_property R ms es)
   properties-put k x no_members es h = refl
-  properties-put k x (member l y ms) es h = by (slice_cmp nat_cmp k l) refl (properties-put k x ms es (rest-false (bytes_eq k l) (is_in k (names (entries ms))) h))
+  properties-put k x (member l y ms) es h = by (slice_cmp nat_cmp k l) refl (properties-put k x ms es ((or_parts (bytes_eq k l) (is_in k (names (entries ms))) h).1))
     where
       by : (o : Ordering) → slice_cmp nat_cmp k l ≡ o → each_property R (put k x ms) es ≡ (if_there (look k es) (accepts_with R x) && each_property R ms es) →
           each_property R (match_ordering o (member k x (member l y ms)) (member l x ms) (member l y (put k x ms))) es
@@ -212,16 +198,12 @@ module _ (R : List ℕ → Json → Bool) where
       each_property R (put_all ps ms) es ≡ (entries_accept R ps es && each_property R ms es)
   all-put [] taken ms es h t = refl
   all-put (p ∷ ps) taken ms es h t =
-      all-put ps (p.0 ∷ taken) (put p.0 p.1 ms) es h.1 (λ j e. names-given j p.0 (Some p.1) ms (first-false (bytes_eq j p.0) (is_in j taken) e) (t j (rest-false (bytes_eq j p.0) (is_in j taken) e)))
+      all-put ps (p.0 ∷ taken) (put p.0 p.1 ms) es h.1 (λ j e. names-given j p.0 (Some p.1) ms ((or_parts (bytes_eq j p.0) (is_in j taken) e).0) (t j ((or_parts (bytes_eq j p.0) (is_in j taken) e).1)))
       ∙ ap (λ b. entries_accept R ps es && b) (properties-put p.0 p.1 ms es (t p.0 h.0))
       ∙ and-last (entries_accept R ps es) (if_there (look p.0 es) (accepts_with R p.1)) (each_property R ms es)
 
-  and-true-again : (b : Bool) → (b && true) ≡ b
-  and-true-again true = refl
-  and-true-again false = refl
-
   pub map-of-entries : (ps : List (List ℕ × Json)) (es : List (List ℕ × Json)) → AreNew ps [] → each_property R (put_all ps no_members) es ≡ entries_accept R ps es
-  map-of-entries ps es h = all-put ps [] no_members es h (λ j e. refl) ∙ and-true-again (entries_accept R ps es)
+  map-of-entries ps es h = all-put ps [] no_members es h (λ j e. refl) ∙ and-true (entries_accept R ps es)
 
 -- the names of the map of the entries
 pub names-put_all : (j : List ℕ) (ps : List (List ℕ × Json)) (ms : Members) → is_in j (names (entries (put_all ps ms))) ≡ (is_in j (names ps) || is_in j (names (entries ms)))

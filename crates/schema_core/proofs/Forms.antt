@@ -1,7 +1,8 @@
 -- The JSON of a schema accepts what the tree accepts.
 use Rattle.std.proofs.Common.{ℕ, suc, ℤ, List, [], ◌∷◌, Bool, true, false, ◌&&◌, ◌||◌, Option, Some, None, option_map, codes, drop, length, bytes_eq, ◌≡◌, refl, ap, ◌∙◌}
 use Rattle.std.specs.List.{list_all, list_any}
-use Rattle.std.proofs.Math.Bool.{or-false, and-true}
+use Rattle.std.proofs.lemmas.Bool.{or_from}
+use Rattle.std.proofs.Math.Bool.{or-false, or-true, and-true}
 use Rattle.acceptance.specs.Json.{Json, null, number, text, list, map, Members, no_members, elements, names, look, same, on_map, on_list, if_there}
 use Rattle.texts.specs.Names.{is_in, IsDistinct}
 use Rattle.acceptance.specs.Acceptance.{kinds_of, texts_of, if_texts, keyword_holds, names_of, named, count_of, prefix_count, others_pass, names_pass, in_order, each_accepts, accepts_with, readings_of}
@@ -15,8 +16,7 @@ use Rattle.schema_core.specs.Schema.{SchemaOf, leaf, object, array, one_of, all_
 use Rattle.schema_core.specs.Form.{word_text, type_form, texts_form, required_form, entries_form, value_items, values_form, true_form, schemas_form, array_word, put_fields, note_fields, object_fields, array_fields, one_of_fields, all_of_fields, reference_fields, form, part_form, schema_forms, property_forms}
 use Rattle.schema_core.specs.Meaning.{word_accepts, enum_accepts, unique_accepts, max_items_accepts, min_items_accepts, minimum_accepts, bounds_accept, required_accepts, tree_accepts, where_given, each_in_order, all_accept, some_accepts, properties_accept, IsProper, IsPartProper, AreProper, ArePropertiesProper}
 use Rattle.std.proofs.lemmas.Slice.Eq.{bytes_eq-Decides}
-use Rattle.std.proofs.Math.Bool.{or-true}
-use Rattle.schema_core.proofs.Fields.{AreOthers, others-notes, given_at, names-put_all, field_holds, fields_hold, look-fields, map-of-fields, entries_accept, map-of-entries, AreNew, or-false-of, same_name}
+use Rattle.schema_core.proofs.Fields.{AreOthers, others-notes, given_at, names-put_all, field_holds, fields_hold, look-fields, map-of-fields, entries_accept, map-of-entries, AreNew, same_name}
 
 always : (v : Json) → true ≡ on_map v (λ es. true)
 always null = refl
@@ -83,7 +83,7 @@ module _ (R : List ℕ → Json → Bool) (w : Members) where
 new-forms : (ps : PropertiesOf RefLeaf) (taken : List (List ℕ)) → IsDistinct (property_names ps) → ((j : List ℕ) → is_in j (property_names ps) ≡ true → is_in j taken ≡ false) → AreNew (property_forms ps) taken
 new-forms no_properties taken d t = tt
 new-forms (property k s ps) taken d t =
-    (t k here, new-forms ps (k ∷ taken) d.1 (λ j e. or-false-of (bytes_eq j k) (is_in j taken) (apart j e) (t j (later j e))))
+    (t k here, new-forms ps (k ∷ taken) d.1 (λ j e. or_from (bytes_eq j k) (is_in j taken) (apart j e) (t j (later j e))))
   where
     here : is_in k (property_names (property k s ps)) ≡ true
     here = ap (λ b. b || is_in k (property_names ps)) (same_name k)

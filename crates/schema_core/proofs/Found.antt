@@ -1,12 +1,13 @@
 -- A component is found in the document under its name.
 use Rattle.std.proofs.Common.{ℕ, List, [], ◌∷◌, Bool, true, false, Option, Some, None, option_map, bytes_eq, cond, map as map_list, ◌≡◌, refl, ap, sym, subst, ◌∙◌}
+use Rattle.std.proofs.lemmas.Bool.{or_parts}
 use Rattle.std.proofs.lemmas.Slice.Eq.{bytes_eq-Decides}
 use Rattle.acceptance.specs.Json.{Json, Members, no_members, put, put_all, entries, names, look}
 use Rattle.texts.specs.Names.{is_in, IsDistinct}
 use Rattle.schema_core.specs.Form.{form}
 use Rattle.schema_core.specs.Document.{Entry, entry_form}
 use Rattle.schema_core.specs.Entries.{names_of, find}
-use Rattle.schema_core.proofs.Fields.{look-put, first-false, rest-false}
+use Rattle.schema_core.proofs.Fields.{look-put}
 
 abbrev or_else : Option Json → Option Json → Option Json
 or_else (Some x) o = Some x
@@ -14,7 +15,7 @@ or_else None o = o
 
 look-absent : (j : List ℕ) (ps : List (List ℕ × Json)) → is_in j (names ps) ≡ false → look j ps ≡ None
 look-absent j [] h = refl
-look-absent j (p ∷ ps) h = ap (λ b. cond b (Some p.1) (look j ps)) (first-false (bytes_eq j p.0) (is_in j (names ps)) h) ∙ look-absent j ps (rest-false (bytes_eq j p.0) (is_in j (names ps)) h)
+look-absent j (p ∷ ps) h = ap (λ b. cond b (Some p.1) (look j ps)) ((or_parts (bytes_eq j p.0) (is_in j (names ps)) h).0) ∙ look-absent j ps ((or_parts (bytes_eq j p.0) (is_in j (names ps)) h).1)
 
 look-put_all : (j : List ℕ) (ps : List (List ℕ × Json)) (ms : Members) → IsDistinct (names ps) → look j (entries (put_all ps ms)) ≡ or_else (look j ps) (look j (entries ms))
 look-put_all j [] ms d = refl

@@ -1,6 +1,6 @@
 -- A value of serde_json without floats is the data of the JSON value that it is read as.
-use Rattle.std.proofs.Common.{◌<◌, arith, Bool, true, false, not, ◌&&◌, pos, negsuc, ◌≡◌, refl, ap, sym}
-use Rattle.std.proofs.lemmas.Bool.{ltb-true}
+use Rattle.std.proofs.Common.{◌<◌, arith, true, not, pos, negsuc, ◌≡◌, refl, ap, sym}
+use Rattle.std.proofs.lemmas.Bool.{ltb-true, and_parts}
 use Rattle.serde_json.specs.Data.{Num, unsigned, negative, float, Data, null, boolean, number, string, array, object, Items, no_items, item, Members, no_members, member}
 use Rattle.serde_json.specs.Find.{is_float}
 use Rattle.serde_json.specs.Number.{num_of, is_valid}
@@ -13,14 +13,6 @@ pub float_or_whole : (n : N) → is_valid n ≡ true → not (is_float (num_of n
 float_or_whole (PosInt n) h = refl
 float_or_whole (NegInt z) h = sym h
 float_or_whole (Float x) h = refl
-
-first-true : (a b : Bool) → (a && b) ≡ true → a ≡ true
-first-true true b e = refl
-first-true false b e = e
-
-rest-true : (a b : Bool) → (a && b) ≡ true → b ≡ true
-rest-true true b e = e
-rest-true false b e = cc
 
 held-number : (n : Num) → is_whole_number n ≡ true → data_of (number_of n) ≡ number n
 held-number (unsigned n) h = refl
@@ -39,8 +31,8 @@ mutual
 
   held-items : (ds : Items) → are_items_whole ds ≡ true → items_data (json_items ds) ≡ ds
   held-items no_items h = refl
-  held-items (item d ds) h = λ i. item (held-data d (first-true (is_whole d) (are_items_whole ds) h) i) (held-items ds (rest-true (is_whole d) (are_items_whole ds) h) i)
+  held-items (item d ds) h = λ i. item (held-data d (and_parts (is_whole d) (are_items_whole ds) h).0 i) (held-items ds (and_parts (is_whole d) (are_items_whole ds) h).1 i)
 
   held-members : (ms : Members) → are_members_whole ms ≡ true → members_data (json_members ms) ≡ ms
   held-members no_members h = refl
-  held-members (member k d ms) h = λ i. member k (held-data d (first-true (is_whole d) (are_members_whole ms) h) i) (held-members ms (rest-true (is_whole d) (are_members_whole ms) h) i)
+  held-members (member k d ms) h = λ i. member k (held-data d (and_parts (is_whole d) (are_members_whole ms) h).0 i) (held-members ms (and_parts (is_whole d) (are_members_whole ms) h).1 i)

@@ -1,13 +1,12 @@
 pub mod Bound
 pub mod Bounds
-pub mod Code
 pub mod Document
 pub mod Entries
 pub mod Form
-pub mod JsonCode
 pub mod Meaning
 pub mod Members
 pub mod Notes
 pub mod Objects
 pub mod Schema
 pub mod Whole
+pub mod proved

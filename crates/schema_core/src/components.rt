@@ -30,7 +30,7 @@ pub struct Components {
 impl Model for Components {
     ghost use Rattle.std.specs.Prelude.{◌≡◌, ℕ, List as Items, length, map};
     ghost use Rattle.std.specs.Coded.{coded_list, coded×, coded_ℕ};
-    ghost use Rattle.schema_core.specs.Code.{coded_schema};
+    ghost use Rattle.schema_core.specs.proved.Code.{coded_schema};
     ghost use Rattle.schema_core.specs.Entries.{entries_of, IsInOrder};
     ghost use Rattle.schema_core.specs.Schema.{SchemaOf, schema_view};
     ghost use Rattle.schema_core.specs.contracts.tree.RefLeaf as reference;

@@ -20,7 +20,7 @@ impl Model for Json {
     ghost use Rattle.serde_json.specs.View.{view as view_of};
     ghost use Rattle.acceptance.specs.Json.{Json as Meant};
     ghost use Rattle.acceptance.specs.Data.{data_of, json_of};
-    ghost use Rattle.schema_core.specs.JsonCode.{coded_json};
+    ghost use Rattle.schema_core.specs.proved.JsonCode.{coded_json};
 
     ghost Value = { Meant };
 

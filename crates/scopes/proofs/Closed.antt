@@ -7,8 +7,8 @@ use Rattle.open_types.specs.declared.open_type.ListHead.{ListHead}
 use Rattle.open_types.specs.declared.open_type.ListHead.TheVariants as lists
 use Rattle.open_types.specs.Open.{Open, Opens, IsClosed, AreClosed}
 use Rattle.open_types.specs.Open as types
-use Rattle.resolving.specs.declared.head.Head.{Head}
-use Rattle.resolving.specs.declared.head.Head.TheVariants as heads
+use Rattle.open_types.specs.declared.head.Head.{Head}
+use Rattle.open_types.specs.declared.head.Head.TheVariants as heads
 use Rattle.resolving.specs.declared.meaning.Meaning.{Meaning}
 use Rattle.resolving.specs.declared.meaning.Meaning.TheVariants as meanings
 use Rattle.resolving.specs.Names.{nameless, where_none, meaning}

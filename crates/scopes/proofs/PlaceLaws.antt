@@ -2,15 +2,11 @@
 use Rattle.std.proofs.Common.{ℕ, zero, suc, ◌<◌, List, [], ◌∷◌, ◌++◌, Option, Some, None, option_map, Bool, true, false, cond, ◌||◌, bytes_eq, length, take, drop, get_or, map, ◌≡◌, refl, ap, sym, subst, ◌∙◌, arith, rules, ◌⊎◌, inl, inr, IsTrue, Result, Ok, Err, MatchResult, is_ok}
 use Rattle.std.specs.Map.{update}
 use Rattle.std.proofs.lemmas.Slice.Eq.{bytes_eq-Decides}
-use Rattle.std.proofs.lemmas.Bool.{false≢true}
+use Rattle.std.proofs.lemmas.Bool.{false≢true, cases_Bool}
 use Rattle.texts.specs.Names.{is_in, IsDistinct, place_in}
 use Rattle.written_types.specs.declared.written.Ident.{Ident}
 use Rattle.diag.specs.Refusal.{RefusesNone}
 use Rattle.scopes.specs.Names.{texts, IsGivenTwice}
-
-bool_cases : (b : Bool) → (b ≡ true) ⊎ (b ≡ false)
-bool_cases true = inl refl
-bool_cases false = inr refl
 
 pub none≢some : {A : Type 0} {x : A} → None ≡ Some x → ⊥
 none≢some e = search rules
@@ -44,7 +40,7 @@ or_at-none None = refl
 or_at-none (Some p) = refl
 
 bytes_eq-false : (k n : List ℕ) → bytes_eq k n ≡ false → bytes_eq n k ≡ false
-bytes_eq-false k n e = by (bool_cases (bytes_eq n k))
+bytes_eq-false k n e = by (cases_Bool (bytes_eq n k))
   where
     by : (bytes_eq n k ≡ true) ⊎ (bytes_eq n k ≡ false) → bytes_eq n k ≡ false
     by (inr f) = f
@@ -53,7 +49,7 @@ bytes_eq-false k n e = by (bool_cases (bytes_eq n k))
 -- a look-up that says the places says them after one name more was put in
 pub places_more : (ns : List (List ℕ)) (n : List ℕ) (f g : List ℕ → Option ℕ) → ((k : List ℕ) → f k ≡ place_in k ns) → f n ≡ None → ((k : List ℕ) → g k ≡ update bytes_eq f n (Some (length ns)) k) →
     (k : List ℕ) → g k ≡ place_in k (ns ++ n ∷ [])
-places_more ns n f g before new after k = after k ∙ by (bool_cases (bytes_eq n k)) ∙ sym (place_in-push k ns n)
+places_more ns n f g before new after k = after k ∙ by (cases_Bool (bytes_eq n k)) ∙ sym (place_in-push k ns n)
   where
     by : (bytes_eq n k ≡ true) ⊎ (bytes_eq n k ≡ false) → update bytes_eq f n (Some (length ns)) k ≡ or_at (place_in k ns) (cond (bytes_eq k n) (Some (length ns)) None)
     by (inl t) =

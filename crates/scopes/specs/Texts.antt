@@ -1,41 +1,11 @@
 -- How a resolved type reads, as in `Page<Vec<User>>`.
 use Rattle.std.specs.Prelude.{ℕ, zero, suc, List, [], ◌∷◌, ◌++◌, codes}
 use Rattle.leaves.specs.Leaves.{name_of}
-use Rattle.open_types.specs.declared.open_type.ListHead.{ListHead}
-use Rattle.open_types.specs.declared.open_type.ListHead.TheVariants as lists
-use Rattle.open_types.specs.declared.open_type.SetHead.{SetHead}
-use Rattle.open_types.specs.declared.open_type.SetHead.TheVariants as sets
-use Rattle.open_types.specs.declared.open_type.MapHead.{MapHead}
-use Rattle.open_types.specs.declared.open_type.MapHead.TheVariants as maps
-use Rattle.open_types.specs.declared.open_type.ThroughHead.{ThroughHead}
-use Rattle.open_types.specs.declared.open_type.ThroughHead.TheVariants as throughs
+use Rattle.open_types.specs.Heads.{list_name, set_name, map_name, through_name}
 use Rattle.open_types.specs.Open.{Open, Opens, leaf, any_value, free_object, unit, tuple, items, set, map_of, option, through, param, named, no_types, more_types}
 use Rattle.syntax.specs.Items.{DeclaredItem}
 
 -- ---- names
-
-abbrev pub list_name : ListHead → List ℕ
-list_name lists.Vec = codes "Vec"
-list_name lists.LinkedList = codes "LinkedList"
-list_name lists.SmallVec = codes "SmallVec"
-list_name lists.Array = codes "Array"
-
-abbrev pub set_name : SetHead → List ℕ
-set_name sets.BTreeSet = codes "BTreeSet"
-set_name sets.HashSet = codes "HashSet"
-
-abbrev pub map_name : MapHead → List ℕ
-map_name maps.HashMap = codes "HashMap"
-map_name maps.BTreeMap = codes "BTreeMap"
-map_name maps.Map = codes "Map"
-map_name maps.IndexMap = codes "IndexMap"
-
-abbrev pub through_name : ThroughHead → List ℕ
-through_name throughs.Cow = codes "Cow"
-through_name throughs.Box = codes "Box"
-through_name throughs.RefCell = codes "RefCell"
-through_name throughs.Arc = codes "Arc"
-through_name throughs.Rc = codes "Rc"
 
 -- the name of the declaration at a place; past the end, none
 abbrev pub name_at : List DeclaredItem → ℕ → List ℕ

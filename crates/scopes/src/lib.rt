@@ -2,7 +2,6 @@
 #![tactic(auto)]
 
 mod container;
-mod heads;
 mod lookup;
 mod names;
 mod scope;

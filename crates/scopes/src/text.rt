@@ -6,7 +6,6 @@ ghost use Rattle.open_types.specs.Within.{IsWithin, AreWithin};
 ghost use Rattle.syntax.specs.Items.{declarations_view};
 ghost use Rattle.scopes.specs.Texts.{name_at, applied, applied_to, tuple_end, separator, type_text, texts_from};
 
-use crate::heads::{list_name, map_name, set_name, through_name};
 use open_types::{ClosedType, OpenType};
 use std::alloc::{AllocError, Global};
 use syntax::Declarations;
@@ -66,17 +65,17 @@ pub(crate) fn push_type(
         OpenType::FreeObject => text.push("Object"),
         OpenType::Unit => text.push("()"),
         OpenType::Tuple(items) => push_tuple(text, declarations, items.as_slice()),
-        OpenType::Items(head, of) => push_applied(text, declarations, list_name(*head), of),
-        OpenType::Set(head, of) => push_applied(text, declarations, set_name(*head), of),
+        OpenType::Items(head, of) => push_applied(text, declarations, head.name(), of),
+        OpenType::Set(head, of) => push_applied(text, declarations, head.name(), of),
         OpenType::Map(head, key, of) => {
-            push_opening(text, map_name(*head))?;
+            push_opening(text, head.name())?;
             push_type(text, declarations, key)?;
             text.push(", ")?;
             push_type(text, declarations, of)?;
             text.push(">")
         }
         OpenType::Option(of) => push_applied(text, declarations, "Option", of),
-        OpenType::Through(head, of) => push_applied(text, declarations, through_name(*head), of),
+        OpenType::Through(head, of) => push_applied(text, declarations, head.name(), of),
         OpenType::Param(_) => Ok(()),
         OpenType::Named(place, arguments) => {
             text.push(name_at(declarations, *place))?;

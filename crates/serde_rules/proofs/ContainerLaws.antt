@@ -1,5 +1,6 @@
 -- What items say of a struct or an enum, with one item more.
 use Rattle.std.proofs.Common.{◌≡◌, ◌≢◌, ◌<◌, ℕ, zero, suc, arith, IsSomeAnd, option_map, List, [], ◌∷◌, ◌++◌, length, take, drop, get_or, Bool, true, false, ◌||◌, ◌&&◌, cond, Option, Some, None, IsSome, is_some, MatchOption, Result, Ok, Err, refl, ap, sym, subst, ◌∙◌, ◌⊎◌, inl, inr, codes, fold, find, bytes_eq, map, append_assoc}
+use Rattle.std.proofs.lemmas.Bool.{and_parts, and_from, false_from_ne_true}
 use Rattle.std.specs.List.{list_all, Any}
 use Rattle.std.specs.Option.{option_or, option_and_then, option_map_or}
 use Rattle.std.proofs.Common.{drop-cons}
@@ -53,16 +54,12 @@ found_passes p (y ∷ xs) x e = by (p y) refl e (found_passes p xs x)
 pub found_has_name : (text : List ℕ) (rule : RenameRule) → rule_named text ≡ Some rule → name_of rule ≡ text
 found_has_name text rule e = (bytes_eq-Decides (name_of rule) text).0 (found_passes (λ rule. bytes_eq (name_of rule) text) all_rules rule e)
 
-not_true : (b : Bool) → (b ≡ true → ⊥) → b ≡ false
-not_true true h = absurd (h refl)
-not_true false h = refl
-
 find_none : {A : Type 0} (p : A → Bool) (xs : List A) → ((x : A) → p x ≡ false) → find p xs ≡ None
 find_none p [] h = refl
 find_none p (x ∷ xs) h = ap (λ b. cond b (Some x) (find p xs)) (h x) ∙ find_none p xs h
 
 named_none : (text : List ℕ) → ((rule : RenameRule) → name_of rule ≢ text) → rule_named text ≡ None
-named_none text h = find_none (λ rule. bytes_eq (name_of rule) text) all_rules (λ rule. not_true (bytes_eq (name_of rule) text) (λ e. h rule ((bytes_eq-Decides (name_of rule) text).0 e)))
+named_none text h = find_none (λ rule. bytes_eq (name_of rule) text) all_rules (λ rule. false_from_ne_true (bytes_eq (name_of rule) text) (λ e. h rule ((bytes_eq-Decides (name_of rule) text).0 e)))
 
 -- reading a name finds its rule
 pub named : (text : List ℕ) (read : Result RenameRule UnknownRule) → IsRuleNamed text read → result_ok read ≡ rule_named text
@@ -87,13 +84,6 @@ next_known (Some text) so_far rule h = ap is_some h.0 ∙ h.1
 representation_more : (before : List SerdeItem) (item : SerdeItem) → representation (before ++ item ∷ []) ≡ further (representation before) item
 representation_more before item = fold-append further (Ok ExternallyTagged) before (item ∷ [])
 
-and_parts : (a b : Bool) → (a && b) ≡ true → (a ≡ true) × (b ≡ true)
-and_parts true b e = (refl, e)
-and_parts false b e = cc
-
-and_both : (a b : Bool) → a ≡ true → b ≡ true → (a && b) ≡ true
-and_both a b p q = ap (λ x. x && b) p ∙ q
-
 pub record IsNext (so_far : SerdeContainer) (item : SerdeItem) (rules : SerdeContainer) : Type 0 where
   pub rename_all : NextRule so_far.rename_all item rules.rename_all
   pub enum_repr : with_item item so_far.enum_repr ≡ Ok rules.enum_repr
@@ -106,7 +96,7 @@ rules_more so_far rules before item next is = record {
   rename_all = next_rule (text_for (codes "rename_all") item) (last_text (codes "rename_all") before) so_far.rename_all rules.rename_all is.rename_all next.rename_all
       ∙ ap (option_and_then rule_named) (sym (last_more (codes "rename_all") before item));
   known = all_more names_known_rule before item
-      ∙ and_both (list_all names_known_rule before) (names_known_rule item) is.known (next_known (text_for (codes "rename_all") item) so_far.rename_all rules.rename_all next.rename_all);
+      ∙ and_from (list_all names_known_rule before) (names_known_rule item) is.known (next_known (text_for (codes "rename_all") item) so_far.rename_all rules.rename_all next.rename_all);
   enum_repr = representation_more before item ∙ ap (λ r. further r item) is.enum_repr ∙ next.enum_repr;
   default = next.default ∙ ap (λ b. b || is_named (codes "default") item) is.default ∙ sym (any_more (is_named (codes "default")) before item);
   deny_unknown_fields = next.deny_unknown_fields ∙ ap (λ b. b || is_named (codes "deny_unknown_fields") item) is.deny_unknown_fields ∙ sym (any_more (is_named (codes "deny_unknown_fields")) before item);

@@ -5,6 +5,11 @@ use Rattle.texts.specs.declared.span.Span.{Span}
 use Rattle.written_types.specs.Written.{Written, path, reference, tuple, slice, array, trait_object, Writtens, no_types, more_types, WrittenPath, path_of, Segments, no_segments, more_segments, Segment, plain, applied, Arguments, no_arguments, more_arguments, Argument, lifetime_argument, constant_argument, type_argument, path_view}
 use Rattle.leaves.specs.Leaves.{leaf_of}
 use Rattle.leaves.specs.declared.leaf.Leaf.{Leaf}
+use Rattle.open_types.specs.Heads.{container_of}
+use Rattle.open_types.specs.declared.head.Head.{Head}
+use Rattle.open_types.specs.declared.head.Head.TheVariants as heads
+use Rattle.open_types.specs.declared.open_type.ListHead.TheVariants as lists
+use Rattle.open_types.specs.declared.open_type.ThroughHead.TheVariants as throughs
 use Rattle.type_tree.specs.declared.path.SchemaPath.{SchemaPath}
 use Rattle.type_tree.specs.declared.path.SchemaPath.TheVariants as shown
 use Rattle.type_tree.specs.declared.tree.ValueType.{ValueType}
@@ -87,25 +92,25 @@ value_type_among name None = cond (bytes_eq name (codes "Value")) Value Object
 abbrev pub value_type_of : List ℕ → ValueType
 value_type_of name = value_type_among name (leaf_of name)
 
-abbrev pub containers : List (List ℕ × GenericType)
-containers =
-    (codes "HashMap", kind.Map) ∷ (codes "BTreeMap", kind.Map) ∷ (codes "Map", kind.Map) ∷ (codes "IndexMap", kind.Map)
-    ∷ (codes "Vec", kind.Vec) ∷ (codes "LinkedList", kind.LinkedList) ∷ (codes "SmallVec", kind.SmallVec)
-    ∷ (codes "BTreeSet", kind.Set) ∷ (codes "HashSet", kind.Set) ∷ (codes "Option", kind.Option)
-    ∷ (codes "Cow", kind.Cow) ∷ (codes "Box", kind.Box) ∷ (codes "RefCell", kind.RefCell) ∷ (codes "Arc", kind.Arc) ∷ (codes "Rc", kind.Rc) ∷ []
-
-abbrev pub generic_among : List ℕ → List (List ℕ × GenericType) → Option GenericType
-generic_among name [] = None
-generic_among name (c ∷ cs) = cond (bytes_eq name c.0) (Some c.1) (generic_among name cs)
-
--- the kind of a container's name
-abbrev pub container_of : List ℕ → Option GenericType
-container_of name = generic_among name containers
+-- the kind of a container
+abbrev pub container_kind : Head → GenericType
+container_kind (heads.List lists.Vec) = kind.Vec
+container_kind (heads.List lists.LinkedList) = kind.LinkedList
+container_kind (heads.List lists.SmallVec) = kind.SmallVec
+container_kind (heads.List lists.Array) = kind.Vec
+container_kind (heads.Set head) = kind.Set
+container_kind (heads.Map head) = kind.Map
+container_kind heads.Option = kind.Option
+container_kind (heads.Through throughs.Cow) = kind.Cow
+container_kind (heads.Through throughs.Box) = kind.Box
+container_kind (heads.Through throughs.RefCell) = kind.RefCell
+container_kind (heads.Through throughs.Arc) = kind.Arc
+container_kind (heads.Through throughs.Rc) = kind.Rc
 
 -- a container's name counts where an argument list stands
 abbrev pub generic_type_of : Segment → Option GenericType
 generic_type_of (plain x) = None
-generic_type_of (applied x xs) = container_of x.text
+generic_type_of (applied x xs) = option_map container_kind (container_of x.text)
 
 -- the unit type has no span
 abbrev pub tuple_span : Writtens → Span → Option Span

@@ -2,11 +2,12 @@
 
 ghost use Rattle.std.specs.Prelude.{◌≡◌, IfOk, option_and_then, option_map};
 ghost use Rattle.written_types.specs.Written.{written_view, path_view, segment_view, segments_view, argument_view, arguments_view, writtens_view};
-ghost use Rattle.type_tree.specs.TypeTrees.{tree_of, path_tree, segments_trees, segment_trees, argument_trees, argument_tree, item_trees, tree, tree_view, trees_view, shown_children, those, array_node, path_node, tuple_span, value_type_of, container_of, generic_type_of, last_segment};
+ghost use Rattle.type_tree.specs.TypeTrees.{tree_of, path_tree, segments_trees, segment_trees, argument_trees, argument_tree, item_trees, tree, tree_view, trees_view, shown_children, those, array_node, path_node, tuple_span, value_type_of, generic_type_of, last_segment};
 
 use crate::path::{SchemaPath, last_of, name_of};
 use crate::tree::{GenericType, TypeTree, ValueType};
 use leaves::Leaf;
+use open_types::Head;
 use std::alloc::{AllocError, Global};
 use texts::Span;
 use written_types::{GenericArgument, Path, PathSegment, WrittenType};
@@ -211,26 +212,9 @@ fn container_type(segment: &PathSegment) -> Option<GenericType>
 {
     match &segment.arguments {
         None => None,
-        Some(_) => container_of(segment.ident.text.as_str()),
-    }
-}
-
-/// The kind of the container of the name.
-fn container_of(name: &str) -> Option<GenericType>
-    ensures { result ≡ container_of name.now }
-{
-    match name {
-        "HashMap" | "BTreeMap" | "Map" | "IndexMap" => Some(GenericType::Map),
-        "Vec" => Some(GenericType::Vec),
-        "LinkedList" => Some(GenericType::LinkedList),
-        "SmallVec" => Some(GenericType::SmallVec),
-        "BTreeSet" | "HashSet" => Some(GenericType::Set),
-        "Option" => Some(GenericType::Option),
-        "Cow" => Some(GenericType::Cow),
-        "Box" => Some(GenericType::Box),
-        "RefCell" => Some(GenericType::RefCell),
-        "Arc" => Some(GenericType::Arc),
-        "Rc" => Some(GenericType::Rc),
-        _ => None,
+        Some(_) => match Head::named(segment.ident.text.as_str()) {
+            Some(head) => Some(GenericType::of(head)),
+            None => None,
+        },
     }
 }

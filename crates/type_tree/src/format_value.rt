@@ -5,7 +5,7 @@ ghost use Rattle.tokens.specs.Trees.{tree_view, trees_view};
 ghost use Rattle.type_tree.specs.Formats.{format_named, token_format, format_value, only_token, tree_span, trees_span, format_message, token_message, unexpected_value, IsRefusedFormat};
 
 use crate::known_format::KnownFormat;
-use diag::{DeriveError, Diagnostics, Kind};
+use diag::{DeriveError, Kind};
 use literal_values::{LiteralValue, literal_value};
 use std::alloc::{AllocError, Global};
 use texts::{Span, Text};
@@ -29,7 +29,7 @@ impl KnownFormat {
     {
         match format_of_trees(alloc, trees)? {
             Some(format) => Ok(format),
-            None => Err(refusal(alloc, trees, attribute)?),
+            None => Err(bad_value(alloc, trees, attribute)),
         }
     }
 
@@ -103,14 +103,16 @@ fn format_of_token(alloc: Global, token: &Token) -> Result<Option<KnownFormat>, 
     }
 }
 
-/// The refusal of the trees.
-fn refusal(alloc: Global, trees: &[TokenTree], attribute: &Ident) -> Result<DeriveError, AllocError>
-    ensures { IfOk result (λ e. IsRefusedFormat (trees_view trees.now) attribute.now e) }
+/// The refusal of the trees, or want of memory.
+fn bad_value(alloc: Global, trees: &[TokenTree], attribute: &Ident) -> DeriveError
+    ensures { (result ≡ DeriveError.Memory)
+        ⊎ IsRefusedFormat (trees_view trees.now) attribute.now result }
 {
-    let message = message_of(alloc, trees, attribute)?;
     let span = span_of_trees(trees, attribute.span);
-    let diagnostics = Diagnostics::with_span(alloc, Kind::BadValue, span, message.as_str())?;
-    Ok(DeriveError::Refused(diagnostics))
+    match message_of(alloc, trees, attribute) {
+        Ok(message) => DeriveError::refusal(alloc, Kind::BadValue, span, message.as_str()),
+        Err(error) => DeriveError::from(error),
+    }
 }
 
 /// What the refusal of the trees tells.

@@ -1,4 +1,8 @@
+ghost use Rattle.std.specs.Prelude.{◌≡◌};
+ghost use Rattle.type_tree.specs.TypeTrees.{container_kind};
+
 use crate::path::SchemaPath;
+use open_types::{Head, ListHead, ThroughHead};
 use texts::Span;
 
 /// What the values of a type are: those of a built-in name, of anything else, of a tuple, or any value.
@@ -24,6 +28,27 @@ pub enum GenericType {
     RefCell,
     Arc,
     Rc,
+}
+
+impl GenericType {
+    /// The kind of the container.
+    pub(crate) fn of(head: Head) -> GenericType
+        ensures { result ≡ container_kind head }
+    {
+        match head {
+            Head::List(ListHead::Vec) | Head::List(ListHead::Array) => GenericType::Vec,
+            Head::List(ListHead::LinkedList) => GenericType::LinkedList,
+            Head::List(ListHead::SmallVec) => GenericType::SmallVec,
+            Head::Set(_) => GenericType::Set,
+            Head::Map(_) => GenericType::Map,
+            Head::Option => GenericType::Option,
+            Head::Through(ThroughHead::Cow) => GenericType::Cow,
+            Head::Through(ThroughHead::Box) => GenericType::Box,
+            Head::Through(ThroughHead::RefCell) => GenericType::RefCell,
+            Head::Through(ThroughHead::Arc) => GenericType::Arc,
+            Head::Through(ThroughHead::Rc) => GenericType::Rc,
+        }
+    }
 }
 
 /// A type, and the types that it is made of. Two trees are equal where their paths are by text, and their types and

@@ -1,5 +1,6 @@
 -- A text is among words only if its length is among theirs.
 use Rattle.std.proofs.Common.{◌≡◌, ℕ, ◌<◌, List, [], ◌∷◌, ◌++◌, length, refl, ap, ap₂, sym, ◌∙◌, arith, Bool, true, false, ◌&&◌, ◌||◌, ltb}
+use Rattle.std.proofs.lemmas.Bool.{and_parts, false_from_ne_true}
 use Rattle.std.specs.List.{list_all}
 use Rattle.std.specs.Str.{bytes_eq}
 use Rattle.std.proofs.lemmas.Bool.Decides.{nat_tests}
@@ -8,22 +9,14 @@ use Rattle.std.proofs.lemmas.Slice.Eq.{bytes_eq-Decides}
 use Rattle.std.proofs.lemmas.List.Folds.{list_any-append}
 use Rattle.words.specs.Words.{is_among, is_reserved, reserved_words, reserved_of_2, reserved_of_3, reserved_of_4, reserved_of_5, reserved_of_6, reserved_of_7, reserved_of_8}
 
-both : (a b : Bool) → (a && b) ≡ true → (a ≡ true) × (b ≡ true)
-both true b e = (refl, e)
-both false b e = cc
-
-never : (b : Bool) → (b ≡ true → ⊥) → b ≡ false
-never true h = absurd (h refl)
-never false h = refl
-
 abbrev lengths_pass : (ℕ → Bool) → List (List ℕ) → Bool
 lengths_pass test words = list_all (λ word. test (length word)) words
 
 none_passes : (test : ℕ → Bool) (text : List ℕ) (words : List (List ℕ)) → lengths_pass test words ≡ true → test (length text) ≡ false → is_among text words ≡ false
 none_passes test text [] e h = refl
 none_passes test text (word ∷ words) e h =
-    let parts = both (test (length word)) (lengths_pass test words) e in
-    let other : bytes_eq text word ≡ false = never (bytes_eq text word) (λ k. let same = ap (λ w. test (length w)) ((bytes_eq-Decides text word).0 k) in cc) in
+    let parts = and_parts (test (length word)) (lengths_pass test words) e in
+    let other : bytes_eq text word ≡ false = false_from_ne_true (bytes_eq text word) (λ k. let same = ap (λ w. test (length w)) ((bytes_eq-Decides text word).0 k) in cc) in
     ap₂ (λ a b. a || b) other (none_passes test text words parts.1 h)
 
 abbrev shorter : ℕ → ℕ → Bool
@@ -50,7 +43,7 @@ at_length n text front middle back e f b =
     sym (before ∙ after)
 
 within : (n : ℕ) → (1 < n → n < 9 → ⊥) → (ltb 1 n && ltb n 9) ≡ false
-within n h = never (ltb 1 n && ltb n 9) (λ e. let low : 1 < n = grind (arith, nat_tests) in let high : n < 9 = grind (arith, nat_tests) in h low high)
+within n h = false_from_ne_true (ltb 1 n && ltb n 9) (λ e. let low : 1 < n = grind (arith, nat_tests) in let high : n < 9 = grind (arith, nat_tests) in h low high)
 
 abbrev to_3 : List (List ℕ)
 to_3 = reserved_of_2 ++ reserved_of_3

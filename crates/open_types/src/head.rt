@@ -1,7 +1,7 @@
 ghost use Rattle.std.specs.Prelude.{◌≡◌};
-ghost use Rattle.resolving.specs.Names.{container_of};
+ghost use Rattle.open_types.specs.Heads.{container_of};
 
-use open_types::{ListHead, MapHead, SetHead, ThroughHead};
+use crate::open_type::{ListHead, MapHead, SetHead, ThroughHead};
 
 /// The containers, which count as such only with an argument list.
 #[derive(Clone, Copy, Debug, PartialEq, Eq)]
