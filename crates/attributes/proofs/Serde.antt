@@ -11,7 +11,7 @@ use Rattle.words.specs.Lists.{IsList, after_comma, turn_at, many_at, many_of, it
 use Rattle.words.proofs.Read.{bind_ok, along, first_is, first_shallow}
 use Rattle.words.proofs.Stands.{as_sign-is}
 use Rattle.words.proofs.Many.{Shortens}
-use Rattle.words.proofs.Sound.{turn_shortens, list_sound}
+use Rattle.words.proofs.Sound.{list_sound}
 use Rattle.words.proofs.Complete as complete
 use Rattle.words.proofs.Complete.{Ends, at_end, at_comma}
 use Rattle.literal_values.specs.Values.{text_value}
@@ -96,9 +96,6 @@ item_shorter (grouped e) = omega arith
 
 pub item_shortens : Shortens serde_item_at
 item_shortens ws i rest e = item_shorter (item_sound ws i rest e)
-
-pub serde_turn_shortens : Shortens (turn_at serde_item_at)
-serde_turn_shortens = turn_shortens serde_item_at item_shortens
 
 pub items_sound : (ws : List Word) (xs : List SerdeItem) → list_of serde_item_at ws ≡ Ok xs → IsList IsSerdeItem ws xs
 items_sound ws xs e = list_sound serde_item_at IsSerdeItem item_sound ws xs e

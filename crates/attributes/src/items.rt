@@ -1,13 +1,11 @@
 //! The items of serde lists.
 
 ghost use Rattle.std.specs.Prelude.{◌≡◌, ◌<◌, ◌≤◌, length, IfOk};
-ghost use Rattle.tokens.specs.Trees.{trees_view};
 ghost use Rattle.written_types.specs.Written.{path_view};
-ghost use Rattle.words.specs.Words.{words_of, words_view, ident_of};
+ghost use Rattle.words.specs.Words.{words_view};
 ghost use Rattle.words.specs.Reading.{Gives};
-ghost use Rattle.words.specs.Lists.{turn_at, list_of};
 ghost use Rattle.attributes.specs.Forms.{form_view};
-ghost use Rattle.attributes.specs.AttributeReading.{text_at, value_at, serde_item_at, serde_list, items_of};
+ghost use Rattle.attributes.specs.AttributeReading.{text_at, value_at, serde_list, items_of};
 
 use crate::attribute::is_word;
 use crate::meta::Form;
@@ -16,8 +14,8 @@ use crate::serde_item::{SerdeItem, SerdeText};
 use literal_values::text_value;
 use std::alloc::Global;
 use texts::{List, Span};
-use tokens::{Group, TokenTree};
-use words::{Sign, Stop, after_comma, ident_of, literal_at, optional_sign, stop_at};
+use tokens::TokenTree;
+use words::{ReadItem, Sign, Stop, ident_of, list_inside, literal_at, optional_sign, stop_at};
 use written_types::Path;
 
 /// The text of a string literal, and what follows it.
@@ -54,47 +52,24 @@ fn value_at(alloc: Global, trees: &[TokenTree]) -> Result<(Option<SerdeText>, &[
     }
 }
 
-#[tactic(auto, unfolding(crate::specs::AttributeReading::serde_item_at))]
-fn serde_item_at(alloc: Global, trees: &[TokenTree]) -> Result<(SerdeItem, &[TokenTree]), Stop>
-    ensures value { Gives (λ p. (p.0, words_view p.1.now)) result (serde_item_at (words_view trees.now)) }
-    ensures shorter { IfOk result (λ p. length p.1.now < length trees.now) }
-{
-    let (token, rest) = ident_at(trees)?;
-    let (value, rest) = value_at(alloc, rest)?;
-    let name = ident_of(alloc, token)?;
-    Ok((SerdeItem { name, value }, rest))
-}
+impl ReadItem for SerdeItem {
+    ghost use Rattle.attributes.specs.declared.serde_item.SerdeItem.{SerdeItem as AnyItem};
+    ghost use Rattle.attributes.specs.AttributeReading.{serde_item_at};
 
-#[tactic(auto, unfolding(words::specs::Lists::turn_at))]
-fn serde_turn(alloc: Global, trees: &[TokenTree]) -> Result<(SerdeItem, &[TokenTree]), Stop>
-    ensures value { Gives (λ p. (p.0, words_view p.1.now)) result (turn_at serde_item_at (words_view trees.now)) }
-    ensures shorter { IfOk result (λ p. length p.1.now < length trees.now) }
-{
-    let (item, rest) = serde_item_at(alloc, trees)?;
-    let rest = after_comma(rest)?;
-    Ok((item, rest))
-}
+    type Item = SerdeItem;
 
-fn list_of(alloc: Global, trees: &[TokenTree]) -> Result<List<SerdeItem>, Stop>
-    ensures { Gives (λ items. items) result (list_of serde_item_at (words_view trees.now)) }
-{
-    let mut items = List::new(alloc);
-    let mut rest = trees;
-    'items: while !rest.is_empty() {
-        let (item, after) = serde_turn(alloc, rest)?;
-        items.push(item)?;
-        rest = after;
-    }
-    Ok(items)
-}
+    ghost Form = { AnyItem };
 
-/// The items inside of the group. Where its trees ended too soon, reading stopped at its closing bracket.
-fn items_inside(alloc: Global, group: &Group) -> Result<List<SerdeItem>, Stop>
-    ensures { Gives (λ items. items) result (list_of serde_item_at (words_of (trees_view group.now.trees))) }
-{
-    match list_of(alloc, group.trees.as_slice()) {
-        Ok(items) => Ok(items),
-        Err(stop) => Err(stop.inside(group)),
+    ghost form_of = { λ item. item };
+
+    ghost reader = { serde_item_at };
+
+    #[tactic(auto, unfolding(crate::specs::AttributeReading::serde_item_at))]
+    fn item_at(alloc: Global, trees: &[TokenTree]) -> Result<(SerdeItem, &[TokenTree]), Stop> {
+        let (token, rest) = ident_at(trees)?;
+        let (value, rest) = value_at(alloc, rest)?;
+        let name = ident_of(alloc, token)?;
+        Ok((SerdeItem { name, value }, rest))
     }
 }
 
@@ -103,7 +78,7 @@ fn serde_list(alloc: Global, form: Form<'_>, at: Span) -> Result<List<SerdeItem>
     ensures { Gives (λ items. items) result (serde_list (form_view form.entry)) }
 {
     match form {
-        Form::Items(group) => items_inside(alloc, group),
+        Form::Items(group) => list_inside::<SerdeItem>(alloc, group),
         Form::Word | Form::NameValue(_) => Err(Stop::Unexpected(at)),
     }
 }

@@ -2,9 +2,11 @@
 #![tactic(auto)]
 
 mod escapes;
+mod laws;
 mod numbers;
 mod raw_strings;
 mod strings;
 mod value;
 
+pub use laws::texts_are_said;
 pub use value::{LiteralValue, literal_value, text_value};

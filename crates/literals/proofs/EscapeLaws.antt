@@ -39,26 +39,26 @@ plain_append (x ∷ xs) ys h g =
 -- ---- codes
 
 -- the number that is left, after digits of that value
-abbrev number_after : ℕ → List ℕ → ℕ
+abbrev pub number_after : ℕ → List ℕ → ℕ
 number_after value cs = number_from_digits_after 16 value (map digit_value (hex_digits cs))
 
-hex_more : (c : ℕ) (cs : List ℕ) → is_hex_digit c ≡ true → hex_digits (c ∷ cs) ≡ c ∷ hex_digits cs
+pub hex_more : (c : ℕ) (cs : List ℕ) → is_hex_digit c ≡ true → hex_digits (c ∷ cs) ≡ c ∷ hex_digits cs
 hex_more c cs h = cond_true (c ∷ hex_digits cs) (hex_digits cs) (is_hex_digit c) h
 
-hex_same : (c : ℕ) (cs : List ℕ) → is_hex_digit c ≡ false → hex_digits (c ∷ cs) ≡ hex_digits cs
+pub hex_same : (c : ℕ) (cs : List ℕ) → is_hex_digit c ≡ false → hex_digits (c ∷ cs) ≡ hex_digits cs
 hex_same c cs h = cond_false (c ∷ hex_digits cs) (hex_digits cs) (is_hex_digit c) h
 
-number_more : (value c : ℕ) (cs : List ℕ) → is_hex_digit c ≡ true → number_after value (c ∷ cs) ≡ number_after (value * 16 + digit_value c) cs
+pub number_more : (value c : ℕ) (cs : List ℕ) → is_hex_digit c ≡ true → number_after value (c ∷ cs) ≡ number_after (value * 16 + digit_value c) cs
 number_more value c cs h = ap (λ v. number_from_digits_after 16 value (map digit_value v)) (hex_more c cs h)
 
-number_same : (value c : ℕ) (cs : List ℕ) → is_hex_digit c ≡ false → number_after value (c ∷ cs) ≡ number_after value cs
+pub number_same : (value c : ℕ) (cs : List ℕ) → is_hex_digit c ≡ false → number_after value (c ∷ cs) ≡ number_after value cs
 number_same value c cs h = ap (λ v. number_from_digits_after 16 value (map digit_value v)) (hex_same c cs h)
 
 -- the code goes on with these signs, up to }
-abbrev GoesOn : ℕ → ℕ → List ℕ → Type 0
+abbrev pub GoesOn : ℕ → ℕ → List ℕ → Type 0
 GoesOn digits value cs = (front : List ℕ) × (more : List ℕ) × (cs ≡ front ++ 125 ∷ more) × (list_all is_code_sign front ≡ true) × (digits + length (hex_digits front) ≤ 6) × IsScalar (number_after value front)
 
-on_digit : (digits value c : ℕ) (cs : List ℕ) → is_hex_digit c ≡ true → GoesOn (digits + 1) (value * 16 + digit_value c) cs → GoesOn digits value (c ∷ cs)
+unfoldable pub on_digit : (digits value c : ℕ) (cs : List ℕ) → is_hex_digit c ≡ true → GoesOn (digits + 1) (value * 16 + digit_value c) cs → GoesOn digits value (c ∷ cs)
 on_digit digits value c cs h r = (
   c ∷ r.0,
   r.1,
@@ -68,7 +68,7 @@ on_digit digits value c cs h r = (
   ap scalar (number_more value c r.0 h) ∙ r.5,
 )
 
-on_line : (digits value c : ℕ) (cs : List ℕ) → is_hex_digit c ≡ false → (c == 95) ≡ true → GoesOn digits value cs → GoesOn digits value (c ∷ cs)
+unfoldable pub on_line : (digits value c : ℕ) (cs : List ℕ) → is_hex_digit c ≡ false → (c == 95) ≡ true → GoesOn digits value cs → GoesOn digits value (c ∷ cs)
 on_line digits value c cs h g r = (
   c ∷ r.0,
   r.1,

@@ -39,7 +39,7 @@ raw_text_later : (n c : ℕ) (text : List ℕ) → IsRawText n text → ((after 
 raw_text_later n c text raw first [] after e = let quote : c ≡ 34 = cc in let rest : text ≡ replicate n 35 ++ after = cc in first after quote rest
 raw_text_later n c text raw first (b ∷ bs) after e = let rest : text ≡ bs ++ 34 ∷ (replicate n 35 ++ after) = cc in raw bs after rest
 
-raw_text_inside : (n c : ℕ) (text : List ℕ) → IsRawText n (c ∷ text) → IsRawText n text
+pub raw_text_inside : (n c : ℕ) (text : List ℕ) → IsRawText n (c ∷ text) → IsRawText n text
 raw_text_inside n c text raw before after e = raw (c ∷ before) after (ap (λ v. c ∷ v) e)
 
 -- what stands before the end of a raw string is a raw text
@@ -72,7 +72,7 @@ raw_text_sound n (c ∷ cs) rest e =
       | inr h ↦ raw_front_later n c cs rest (λ q. let both : true ≡ false = sym q ∙ h.0 in cc) (raw_text_sound n cs rest h.1)
     ]
 
-no_hashes : (n c : ℕ) (text ys : List ℕ) → IsRawText n (c ∷ text) → c ≡ 34 → (found : Option (List ℕ)) → after_hashes n (text ++ 34 ∷ ys) ≡ found → found ≡ None
+pub no_hashes : (n c : ℕ) (text ys : List ℕ) → IsRawText n (c ∷ text) → c ≡ 34 → (found : Option (List ℕ)) → after_hashes n (text ++ 34 ∷ ys) ≡ found → found ≡ None
 no_hashes n c text ys raw q None e = refl
 no_hashes n c text ys raw q (Some end) e =
     let within = hashes_within n text ys end e in

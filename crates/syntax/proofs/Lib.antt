@@ -3,7 +3,6 @@ mod Inner
 mod Types
 mod Fronts
 mod Sound
-mod Shortening
 mod Deep
 mod Complete
 mod Answered

@@ -6,7 +6,7 @@ ghost use Rattle.tokens.specs.Trees.{trees_view};
 ghost use Rattle.words.specs.Words.{words_of, words_view};
 ghost use Rattle.words.specs.Reading.{Gives};
 ghost use Rattle.type_grammar.specs.Reading.{type_at};
-ghost use Rattle.words.specs.Lists.{turn_at, list_of};
+ghost use Rattle.words.specs.Lists.{list_of};
 ghost use Rattle.attributes.specs.Attributes.{attribute_view};
 ghost use Rattle.syntax.specs.Items.{field_view, fields_view, declaration_view};
 ghost use Rattle.syntax.specs.ItemDepth.{most_levels};
@@ -20,115 +20,95 @@ use texts::List;
 use tokens::{Bracket, Group, TokenTree};
 use type_grammar::{MAX_LEVELS, type_at};
 use words::{
-    Keyword, Sign, Stop, after_comma, ident_of, keyword_at, name_at, optional_keyword, sign_at,
-    stop_at,
+    Keyword, ReadItem, Sign, Stop, ident_of, keyword_at, list_inside, name_at, optional_keyword,
+    sign_at, stop_at,
 };
 
-#[tactic(auto, unfolding(crate::specs::ItemReading::named_field_at))]
-fn named_field_at(alloc: Global, trees: &[TokenTree]) -> Result<(Field, &[TokenTree]), Stop>
-    ensures value { Gives (λ p. (field_view p.0, words_view p.1.now)) result (named_field_at (type_at most_levels) (words_view trees.now)) }
-    ensures shorter { IfOk result (λ p. length p.1.now < length trees.now) }
-{
-    let (attrs, start) = attributes_at(alloc, trees)?;
-    let (name, rest) = name_at(after_visibility(start, false))?;
-    let (_, rest) = sign_at(rest, Sign::Colon)?;
-    let (ty, rest) = type_at(alloc, rest, MAX_LEVELS)?;
-    let span = spanning(start, rest);
-    let ident = Some(ident_of(alloc, name)?);
-    Ok((
-        Field {
-            attrs,
-            ident,
-            ty,
-            span,
-        },
-        rest,
-    ))
-}
+/// How fields with names are read.
+struct NamedField;
 
-#[tactic(auto, unfolding(crate::specs::ItemReading::unnamed_field_at))]
-fn unnamed_field_at(alloc: Global, trees: &[TokenTree]) -> Result<(Field, &[TokenTree]), Stop>
-    ensures value { Gives (λ p. (field_view p.0, words_view p.1.now)) result (unnamed_field_at (type_at most_levels) (words_view trees.now)) }
-    ensures shorter { IfOk result (λ p. length p.1.now < length trees.now) }
-{
-    let (attrs, start) = attributes_at(alloc, trees)?;
-    let (ty, rest) = type_at(alloc, after_visibility(start, true), MAX_LEVELS)?;
-    let span = spanning(start, rest);
-    Ok((
-        Field {
-            attrs,
-            ident: None,
-            ty,
-            span,
-        },
-        rest,
-    ))
-}
+impl ReadItem for NamedField {
+    ghost use Rattle.type_grammar.specs.Reading.{type_at};
+    ghost use Rattle.syntax.specs.Items.{FieldItem, field_view};
+    ghost use Rattle.syntax.specs.ItemDepth.{most_levels};
+    ghost use Rattle.syntax.specs.ItemReading.{named_field_at};
 
-#[tactic(auto, unfolding(words::specs::Lists::turn_at))]
-fn named_turn(alloc: Global, trees: &[TokenTree]) -> Result<(Field, &[TokenTree]), Stop>
-    ensures value { Gives (λ p. (field_view p.0, words_view p.1.now)) result (turn_at (named_field_at (type_at most_levels)) (words_view trees.now)) }
-    ensures shorter { IfOk result (λ p. length p.1.now < length trees.now) }
-{
-    let (field, rest) = named_field_at(alloc, trees)?;
-    let rest = after_comma(rest)?;
-    Ok((field, rest))
-}
+    type Item = Field;
 
-#[tactic(auto, unfolding(words::specs::Lists::turn_at))]
-fn unnamed_turn(alloc: Global, trees: &[TokenTree]) -> Result<(Field, &[TokenTree]), Stop>
-    ensures value { Gives (λ p. (field_view p.0, words_view p.1.now)) result (turn_at (unnamed_field_at (type_at most_levels)) (words_view trees.now)) }
-    ensures shorter { IfOk result (λ p. length p.1.now < length trees.now) }
-{
-    let (field, rest) = unnamed_field_at(alloc, trees)?;
-    let rest = after_comma(rest)?;
-    Ok((field, rest))
-}
+    ghost Form = { FieldItem };
 
-fn named_fields(alloc: Global, trees: &[TokenTree]) -> Result<List<Field>, Stop>
-    ensures { Gives (λ fields. map field_view fields) result (list_of (named_field_at (type_at most_levels)) (words_view trees.now)) }
-{
-    let mut fields = List::new(alloc);
-    let mut rest = trees;
-    'fields: while !rest.is_empty() {
-        let (field, after) = named_turn(alloc, rest)?;
-        fields.push(field)?;
-        rest = after;
+    ghost form_of = { field_view };
+
+    ghost reader = { named_field_at (type_at most_levels) };
+
+    #[tactic(auto, unfolding(crate::specs::ItemReading::named_field_at))]
+    fn item_at(alloc: Global, trees: &[TokenTree]) -> Result<(Field, &[TokenTree]), Stop> {
+        let (attrs, start) = attributes_at(alloc, trees)?;
+        let (name, rest) = name_at(after_visibility(start, false))?;
+        let (_, rest) = sign_at(rest, Sign::Colon)?;
+        let (ty, rest) = type_at(alloc, rest, MAX_LEVELS)?;
+        let span = spanning(start, rest);
+        let ident = Some(ident_of(alloc, name)?);
+        Ok((
+            Field {
+                attrs,
+                ident,
+                ty,
+                span,
+            },
+            rest,
+        ))
     }
-    Ok(fields)
 }
 
-fn unnamed_fields(alloc: Global, trees: &[TokenTree]) -> Result<List<Field>, Stop>
-    ensures { Gives (λ fields. map field_view fields) result (list_of (unnamed_field_at (type_at most_levels)) (words_view trees.now)) }
-{
-    let mut fields = List::new(alloc);
-    let mut rest = trees;
-    'fields: while !rest.is_empty() {
-        let (field, after) = unnamed_turn(alloc, rest)?;
-        fields.push(field)?;
-        rest = after;
+/// How fields without names are read.
+struct UnnamedField;
+
+impl ReadItem for UnnamedField {
+    ghost use Rattle.type_grammar.specs.Reading.{type_at};
+    ghost use Rattle.syntax.specs.Items.{FieldItem, field_view};
+    ghost use Rattle.syntax.specs.ItemDepth.{most_levels};
+    ghost use Rattle.syntax.specs.ItemReading.{unnamed_field_at};
+
+    type Item = Field;
+
+    ghost Form = { FieldItem };
+
+    ghost form_of = { field_view };
+
+    ghost reader = { unnamed_field_at (type_at most_levels) };
+
+    #[tactic(auto, unfolding(crate::specs::ItemReading::unnamed_field_at))]
+    fn item_at(alloc: Global, trees: &[TokenTree]) -> Result<(Field, &[TokenTree]), Stop> {
+        let (attrs, start) = attributes_at(alloc, trees)?;
+        let (ty, rest) = type_at(alloc, after_visibility(start, true), MAX_LEVELS)?;
+        let span = spanning(start, rest);
+        Ok((
+            Field {
+                attrs,
+                ident: None,
+                ty,
+                span,
+            },
+            rest,
+        ))
     }
-    Ok(fields)
 }
 
-/// The fields inside of the group. Where its trees ended too soon, reading stopped at its closing bracket.
+/// The fields inside of the group.
 fn named_inside(alloc: Global, group: &Group) -> Result<List<Field>, Stop>
-    ensures { Gives (λ fields. map field_view fields) result (list_of (named_field_at (type_at most_levels)) (words_of (trees_view group.now.trees))) }
+    ensures { Gives (λ fields. map field_view fields) result
+        (list_of (named_field_at (type_at most_levels)) (words_of (trees_view group.now.trees))) }
 {
-    match named_fields(alloc, group.trees.as_slice()) {
-        Ok(fields) => Ok(fields),
-        Err(stop) => Err(stop.inside(group)),
-    }
+    list_inside::<NamedField>(alloc, group)
 }
 
-/// The fields inside of the group. Where its trees ended too soon, reading stopped at its closing bracket.
+/// The fields inside of the group.
 fn unnamed_inside(alloc: Global, group: &Group) -> Result<List<Field>, Stop>
-    ensures { Gives (λ fields. map field_view fields) result (list_of (unnamed_field_at (type_at most_levels)) (words_of (trees_view group.now.trees))) }
+    ensures { Gives (λ fields. map field_view fields) result
+        (list_of (unnamed_field_at (type_at most_levels)) (words_of (trees_view group.now.trees))) }
 {
-    match unnamed_fields(alloc, group.trees.as_slice()) {
-        Ok(fields) => Ok(fields),
-        Err(stop) => Err(stop.inside(group)),
-    }
+    list_inside::<UnnamedField>(alloc, group)
 }
 
 /// What follows the name of a struct.

@@ -10,7 +10,7 @@ use Rattle.words.specs.Reading.{Read, Fault, deep, wrong, ◌>>=◌, Fails, as_l
 use Rattle.type_grammar.specs.Starts.{span_of}
 use Rattle.type_grammar.specs.Reading.{TypeReader, after_sign, without, path_at, bound_from, Chain, segment_at, segments_after, segments_step, segments_at, segments_in, bound_at, bounds_after, bounds_at, bounds_in, with_segments}
 use Rattle.type_grammar.proofs.Firsts.{after_sign-shorter, taken-not}
-use Rattle.type_grammar.proofs.Lists.{Shortens}
+use Rattle.words.proofs.Many.{Shortens}
 
 front_front : (front : List Segment) (s : Segment) (r : Read Chain) → with_segments (front ++ s ∷ []) r ≡ with_segments front (r >>= λ p. Ok ((s ∷ p.0.0, p.0.1), p.1))
 front_front front s (Ok p) = ap (λ v. Ok ((v, p.0.1), p.1)) (append_assoc front (s ∷ []) p.0.0)

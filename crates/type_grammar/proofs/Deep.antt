@@ -1,5 +1,5 @@
 -- When reading stops at a type that nests too deep, and that it stops there.
-use Rattle.std.proofs.Common.{◌≡◌, ℕ, zero, suc, ◌⊎◌, inl, inr, List, [], ◌∷◌, length, refl, ap, sym, subst, ◌∙◌, cond, Bool, true, false, Option, Some, None, Ok, Err, Result}
+use Rattle.std.proofs.Common.{◌≡◌, ℕ, zero, suc, inl, inr, List, [], ◌∷◌, length, refl, ap, sym, subst, ◌∙◌, cond, Bool, true, false, Option, Some, None, Ok, Err, Result}
 use Rattle.texts.specs.declared.span.Span.{Span}
 use Rattle.tokens.specs.declared.token.Bracket.TheVariants.{Round, Square}
 use Rattle.tokens.specs.Trees.{Trees}
@@ -8,7 +8,7 @@ use Rattle.written_types.specs.Written.{path, reference, tuple, slice, trait_obj
 use Rattle.words.specs.declared.vocabulary.Keyword.TheVariants.{Mut, Dyn}
 use Rattle.words.specs.declared.vocabulary.Sign.TheVariants.{Less, Greater, Comma, Colons, Semicolon, Ampersand, Plus, Question}
 use Rattle.words.specs.Words.{Word, keyword, sign, group, words_of, cover, start_of}
-use Rattle.words.specs.Reading.{Read, Fault, deep, wrong, ◌>>=◌, taken, first_as, as_path_word, as_sign, as_keyword, as_lifetime, path_word_at, sign_at}
+use Rattle.words.specs.Reading.{Read, Fault, deep, wrong, ◌>>=◌, taken, as_path_word, as_sign, as_keyword, as_lifetime, path_word_at, sign_at}
 use Rattle.type_grammar.specs.declared.starts.Bounds.{Bounds}
 use Rattle.type_grammar.specs.declared.starts.Bounds.TheVariants.{One, Any}
 use Rattle.type_grammar.specs.Starts.{TypeStart, starts_path, starts_reference, starts_object, starts_round, starts_square, starts_no_type, type_start, begins_type, span_of}
@@ -16,6 +16,7 @@ use Rattle.type_grammar.specs.Grammar.{MayBeQuestion, IsTypeOf, IsSegment, IsArg
 use Rattle.type_grammar.specs.Opening.{OpensTypeOf, here, in_path, in_reference, in_round, in_several, in_square, in_first_bound, in_later_bound, OpensBounds, in_bound, behind_bound, OpensPath, in_segments, in_rooted, OpensSegments, in_segment, behind_segment, OpensSegment, in_arguments, in_colon_arguments, OpensArguments, in_argument, behind_argument, OpensTypes, in_type, behind_type}
 use Rattle.type_grammar.specs.Reading.{after_sign, without, is_end, all, ends_list, list_after, list_at, list_of, after_binding, first_bound, plain_argument, argument_or, argument_at, arguments_after, segment_after, segment_at, Chain, segments_after, segments_at, segments_in, path_from, path_at, bound_from, bound_at, bounds_after, bounds_at, bounds_in, more_bounds, object_at, reference_at, tuple_after, round_at, array_after, square_at, type_from, type_step, too_deep, type_in}
 use Rattle.type_grammar.proofs.Firsts.{first_as-is, as_sign-is, sign_at-is, after_sign-is}
+use Rattle.words.proofs.Read.{bind_err, first_shallow}
 use Rattle.type_grammar.proofs.Found.{either}
 use Rattle.type_grammar.proofs.Optional.{is_lifetime, is_mut, is_question, is_first, is_binding}
 use Rattle.type_grammar.proofs.Chains.{segments_in_step, bounds_turn}
@@ -169,18 +170,6 @@ opens_bound {n = n} {ws = ws} {us = us} q r =
     (then_deep (path_at true (type_in n) us) (λ q. Ok (span_of q.0, q.1)) (opens_path r))
 
 -- ---- where reading stops so, a part begins too deep
-pub bind_deep : {A B : Type 0} {f : A → Result B Fault} {at : Span} → (r : Result A Fault) → (r >>= f) ≡ Err (deep at) → (r ≡ Err (deep at)) ⊎ ((x : A) × (r ≡ Ok x) × (f x ≡ Err (deep at)))
-bind_deep (Ok x) e = inr (x, refl, e)
-bind_deep {at = at} (Err k) e = let same : k ≡ deep at = cc in inl (ap (λ v. Err v) same)
-
-taken_wrong : {A : Type 0} (o : Option A) (ws : List Word) (at : Span) → taken o ws ≡ Err (deep at) → ⊥
-taken_wrong None ws at e = cc
-taken_wrong (Some x) ws at e = cc
-
-first_wrong : {A : Type 0} (kind : Word → Option A) (ws : List Word) (at : Span) → first_as kind ws ≡ Err (deep at) → ⊥
-first_wrong kind [] at e = cc
-first_wrong kind (w ∷ ws) at e = taken_wrong (kind w) ws at e
-
 pub all_deep : {A : Type 0} (r : Read A) (at : Span) → all r ≡ Err (deep at) → r ≡ Err (deep at)
 all_deep (Err k) at e = let same : k ≡ deep at = cc in ap (λ v. Err v) same
 all_deep (Ok p) at e = elim (either (is_end p.1) e) [ inl h ↦ cc | inr h ↦ cc ]
@@ -191,7 +180,7 @@ module _ {A : Type 0} (R : List Word → A → List Word → Type 0) (O : List W
       → list_after again x us o ≡ Err (deep at) → O ws at
   deep_after again h ws x us at r None f e = cc
   deep_after again h ws x us at r (Some mid) f e =
-      elim (bind_deep (again mid) e) [
+      elim (bind_err (again mid) e) [
         | inl k ↦ let comma = after_sign-is Comma us mid f in later ws mid x comma.0 at (subst (λ v. R ws x v) comma.1 r) (h mid at k)
         | inr k ↦ cc (k.2)
       ]
@@ -202,7 +191,7 @@ module _ {A : Type 0} (R : List Word → A → List Word → Type 0) (O : List W
   list_deep (suc n) ws at e =
       elim (either (ends_list ws) e) [
         | inl h ↦ cc
-        | inr h ↦ elim (bind_deep (item ws) h.1) [
+        | inr h ↦ elim (bind_err (item ws) h.1) [
           | inl k ↦ first ws at k
           | inr k ↦ deep_after (list_at item n) (list_deep n) ws k.0.0 k.0.1 at (sound ws k.0.0 k.0.1 k.1) (after_sign Comma k.0.1) refl k.2
         ]
@@ -216,7 +205,7 @@ module _ (m : ℕ) (opens : (b : Bounds) (ws : List Word) (at : Span) → type_i
 
   argument_deep_or : (b : Bool) (ws : List Word) (at : Span) (o : Option (Argument × List Word)) → argument_or (type_in m) (after_binding b ws) o ≡ Err (deep at) → OpensArguments b m ws at
   argument_deep_or b ws at (Some p) e = cc
-  argument_deep_or b ws at None e = elim (bind_deep (type_in m Any (after_binding b ws)) e) [ inl k ↦ in_argument (opens Any (after_binding b ws) at k) | inr k ↦ cc (k.2) ]
+  argument_deep_or b ws at None e = elim (bind_err (type_in m Any (after_binding b ws)) e) [ inl k ↦ in_argument (opens Any (after_binding b ws) at k) | inr k ↦ cc (k.2) ]
 
   argument_deep : (b : Bool) (ws : List Word) (at : Span) → argument_at b (type_in m) ws ≡ Err (deep at) → OpensArguments b m ws at
   unfolding argument_at
@@ -230,19 +219,19 @@ module _ (m : ℕ) (opens : (b : Bounds) (ws : List Word) (at : Span) → type_i
   segment_deep_at : (b : Bool) (w : Word) (x : Ident) → as_path_word w ≡ Some x → (ws : List Word) (at : Span) (o : Option (List Word)) → arguments_after ws ≡ o → segment_after b (type_in m) x ws o ≡ Err (deep at) → OpensSegment b m (w ∷ ws) at
   segment_deep_at b w x k ws at None f e = cc
   segment_deep_at b w x k ws at (Some mid) f e =
-      elim (bind_deep (list_of (argument_at b (type_in m)) mid) e) [
+      elim (bind_err (list_of (argument_at b (type_in m)) mid) e) [
         | inl i ↦ elim (opened_by ws mid (after_sign Less ws) refl (after_sign Colons ws) refl f) [
           | inl h ↦ subst (λ v. OpensSegment b m (w ∷ v) at) (sym h.1) (in_arguments k (arguments_deep b mid at i))
           | inr h ↦ subst (λ v. OpensSegment b m (w ∷ v) at) (sym h.2) (in_colon_arguments k (arguments_deep b mid at i))
         ]
-        | inr i ↦ elim (bind_deep (sign_at Greater i.0.1) i.2) [ inl j ↦ absurd (first_wrong (as_sign Greater) i.0.1 at j) | inr j ↦ cc (j.2) ]
+        | inr i ↦ elim (bind_err (sign_at Greater i.0.1) i.2) [ inl j ↦ absurd (first_shallow (as_sign Greater) i.0.1 at j) | inr j ↦ cc (j.2) ]
       ]
 
   segment_deep : (b : Bool) (ws : List Word) (at : Span) → segment_at b (type_in m) ws ≡ Err (deep at) → OpensSegment b m ws at
   unfolding segment_at
   segment_deep b ws at e =
-      elim (bind_deep (path_word_at ws) e) [
-        | inl k ↦ absurd (first_wrong as_path_word ws at k)
+      elim (bind_err (path_word_at ws) e) [
+        | inl k ↦ absurd (first_shallow as_path_word ws at k)
         | inr k ↦ let first = first_as-is as_path_word ws k.0.1 k.0.0 k.1 in
             subst (λ v. OpensSegment b m v at) (sym first.1) (segment_deep_at b first.0 k.0.0 first.2 k.0.1 at (arguments_after k.0.1) refl k.2)
       ]
@@ -251,13 +240,13 @@ module _ (m : ℕ) (opens : (b : Bounds) (ws : List Word) (at : Span) → type_i
       → IsSegment b ws s last us → (o : Option (List Word)) → after_sign Colons us ≡ o → segments_after again (s, last) us o ≡ Err (deep at) → OpensSegments b m ws at
   segments_deep_after b again h ws s last us at r None f e = cc
   segments_deep_after b again h ws s last us at r (Some mid) f e =
-      elim (bind_deep (again mid) e) [ inl k ↦ behind_segment (subst (λ v. IsSegment b ws s last v) (after_sign-is Colons us mid f).1 r) (h mid at k) | inr k ↦ cc (k.2) ]
+      elim (bind_err (again mid) e) [ inl k ↦ behind_segment (subst (λ v. IsSegment b ws s last v) (after_sign-is Colons us mid f).1 r) (h mid at k) | inr k ↦ cc (k.2) ]
 
   segments_at_deep : (b : Bool) (n : ℕ) (ws : List Word) (at : Span) → segments_at b (type_in m) n ws ≡ Err (deep at) → OpensSegments b m ws at
   unfolding segments_at
   segments_at_deep b zero ws at e = cc
   segments_at_deep b (suc n) ws at e =
-      elim (bind_deep (segment_at b (type_in m) ws) e) [
+      elim (bind_err (segment_at b (type_in m) ws) e) [
         | inl k ↦ in_segment (segment_deep b ws at k)
         | inr k ↦ segments_deep_after b (segments_at b (type_in m) n) (segments_at_deep b n) ws k.0.0.0 k.0.0.1 k.0.1 at (segment_sound (type_in m) (type_sound m) b ws k.0.0.0 k.0.0.1 k.0.1 k.1) (after_sign Colons k.0.1) refl k.2
       ]
@@ -267,9 +256,9 @@ module _ (m : ℕ) (opens : (b : Bounds) (ws : List Word) (at : Span) → type_i
   segments_deep b ws at e = segments_at_deep b (suc (length ws)) ws at e
 
   path_deep_from : (b : Bool) (w : Word) (ws : List Word) (at : Span) (o : Option Span) → as_sign Colons w ≡ o → path_from b (type_in m) w ws o ≡ Err (deep at) → OpensPath b m (w ∷ ws) at
-  path_deep_from b w ws at None f e = elim (bind_deep (segments_in b (type_in m) (w ∷ ws)) e) [ inl k ↦ in_segments (segments_deep b (w ∷ ws) at k) | inr k ↦ cc (k.2) ]
+  path_deep_from b w ws at None f e = elim (bind_err (segments_in b (type_in m) (w ∷ ws)) e) [ inl k ↦ in_segments (segments_deep b (w ∷ ws) at k) | inr k ↦ cc (k.2) ]
   path_deep_from b w ws at (Some s) f e =
-      elim (bind_deep (segments_in b (type_in m) ws) e) [ inl k ↦ subst (λ v. OpensPath b m (v ∷ ws) at) (sym (as_sign-is Colons w s f)) (in_rooted (segments_deep b ws at k)) | inr k ↦ cc (k.2) ]
+      elim (bind_err (segments_in b (type_in m) ws) e) [ inl k ↦ subst (λ v. OpensPath b m (v ∷ ws) at) (sym (as_sign-is Colons w s f)) (in_rooted (segments_deep b ws at k)) | inr k ↦ cc (k.2) ]
 
   path_deep : (b : Bool) (ws : List Word) (at : Span) → path_at b (type_in m) ws ≡ Err (deep at) → OpensPath b m ws at
   unfolding path_at
@@ -280,7 +269,7 @@ module _ (m : ℕ) (opens : (b : Bounds) (ws : List Word) (at : Span) → type_i
   bound_deep_from w ws at (Some x) e = cc
   bound_deep_from w ws at None e =
       let us = without (as_sign Question) (w ∷ ws) in
-      elim (bind_deep (path_at true (type_in m) us) e) [ inl k ↦ (us, is_question (w ∷ ws), path_deep true us at k) | inr k ↦ cc (k.2) ]
+      elim (bind_err (path_at true (type_in m) us) e) [ inl k ↦ (us, is_question (w ∷ ws), path_deep true us at k) | inr k ↦ cc (k.2) ]
 
   pub bound_deep : (ws : List Word) (at : Span) → bound_at (type_in m) ws ≡ Err (deep at) → (us : List Word) × MayBeQuestion ws us × OpensPath true m us at
   unfolding bound_at
@@ -293,7 +282,7 @@ module _ (m : ℕ) (opens : (b : Bounds) (ws : List Word) (at : Span) → type_i
   bounds_deep_after again h last ws at (Some mid) f e =
       let plus = after_sign-is Plus ws mid f in
       subst (λ v. OpensBounds m v at) (sym plus.1)
-      (elim (bind_deep (bound_at (type_in m) mid) e) [
+      (elim (bind_err (bound_at (type_in m) mid) e) [
         | inl k ↦ let b = bound_deep mid at k in in_bound b.1 b.2
         | inr k ↦ behind_bound (bound_sound (type_in m) (type_sound m) mid k.0.0 k.0.1 k.1) (h k.0.0 k.0.1 at k.2)
       ])
@@ -315,9 +304,9 @@ module _ (m : ℕ) (opens : (b : Bounds) (ws : List Word) (at : Span) → type_i
   object_deep : (b : Bounds) (x : Ident) (ws : List Word) (at : Span) → object_at b (type_in m) x.span ws ≡ Err (deep at) → OpensTypeOf b (suc m) (keyword Dyn x ∷ ws) at
   unfolding object_at
   object_deep b x ws at e =
-      elim (bind_deep (path_at false (type_in m) (first_bound b ws)) e) [
+      elim (bind_err (path_at false (type_in m) (first_bound b ws)) e) [
         | inl k ↦ let before = is_first b ws in in_first_bound before.1 before.2 (path_deep false (first_bound b ws) at k)
-        | inr k ↦ elim (bind_deep (more_bounds b (type_in m) (span_of k.0.0) k.0.1) k.2) [ inl j ↦ later_deep b x ws k.0.0 k.0.1 at k.1 j | inr j ↦ cc (j.2) ]
+        | inr k ↦ elim (bind_err (more_bounds b (type_in m) (span_of k.0.0) k.0.1) k.2) [ inl j ↦ later_deep b x ws k.0.0 k.0.1 at k.1 j | inr j ↦ cc (j.2) ]
       ]
 
   reference_deep : (b : Bounds) (s : Span) (ws : List Word) (at : Span) → reference_at (type_in m) ws ≡ Err (deep at) → OpensTypeOf b (suc m) (sign Ampersand s ∷ ws) at
@@ -325,20 +314,20 @@ module _ (m : ℕ) (opens : (b : Bounds) (ws : List Word) (at : Span) → type_i
   reference_deep b s ws at e =
       let us = without as_lifetime ws in
       let vs = without (as_keyword Mut) us in
-      elim (bind_deep (type_in m One vs) e) [ inl k ↦ in_reference (is_lifetime ws) (is_mut us) (opens One vs at k) | inr k ↦ cc (k.2) ]
+      elim (bind_err (type_in m One vs) e) [ inl k ↦ in_reference (is_lifetime ws) (is_mut us) (opens One vs at k) | inr k ↦ cc (k.2) ]
 
   round_deep : (b : Bounds) (g : Trees) (s : Span) (rest : List Word) (at : Span) → round_at (type_in m) s (words_of g) ≡ Err (deep at) → OpensTypeOf b (suc m) (group Round g s ∷ rest) at
   unfolding round_at
   round_deep b g s rest at e =
       elim (either (is_end (words_of g)) e) [
         | inl h ↦ cc
-        | inr h ↦ elim (bind_deep (type_in m Any (words_of g)) h.1) [
+        | inr h ↦ elim (bind_err (type_in m Any (words_of g)) h.1) [
           | inl k ↦ in_round (opens Any (words_of g) at k)
           | inr k ↦ elim (either (is_end k.0.1) k.2) [
             | inl j ↦ cc
-            | inr j ↦ elim (bind_deep (sign_at Comma k.0.1) j.1) [
-              | inl i ↦ absurd (first_wrong (as_sign Comma) k.0.1 at i)
-              | inr i ↦ elim (bind_deep (all (list_of (type_in m Any) i.0.1)) i.2) [
+            | inr j ↦ elim (bind_err (sign_at Comma k.0.1) j.1) [
+              | inl i ↦ absurd (first_shallow (as_sign Comma) k.0.1 at i)
+              | inr i ↦ elim (bind_err (all (list_of (type_in m Any) i.0.1)) i.2) [
                 | inl z ↦ in_several (subst (λ v. IsTypeOf Any (words_of g) k.0.0 v) (sign_at-is Comma k.0.1 i.0.1 i.0.0 i.1) (type_sound m Any (words_of g) k.0.0 k.0.1 k.1)) (types_deep i.0.1 at (all_deep (list_of (type_in m Any) i.0.1) at z))
                 | inr z ↦ cc (z.2)
               ]
@@ -350,26 +339,26 @@ module _ (m : ℕ) (opens : (b : Bounds) (ws : List Word) (at : Span) → type_i
   square_deep : (b : Bounds) (g : Trees) (s : Span) (rest : List Word) (at : Span) → square_at (type_in m) s (words_of g) ≡ Err (deep at) → OpensTypeOf b (suc m) (group Square g s ∷ rest) at
   unfolding square_at
   square_deep b g s rest at e =
-      elim (bind_deep (type_in m Any (words_of g)) e) [
+      elim (bind_err (type_in m Any (words_of g)) e) [
         | inl k ↦ in_square (opens Any (words_of g) at k)
         | inr k ↦ elim (either (is_end k.0.1) k.2) [
           | inl j ↦ cc
-          | inr j ↦ elim (bind_deep (sign_at Semicolon k.0.1) j.1) [
-            | inl i ↦ absurd (first_wrong (as_sign Semicolon) k.0.1 at i)
+          | inr j ↦ elim (bind_err (sign_at Semicolon k.0.1) j.1) [
+            | inl i ↦ absurd (first_shallow (as_sign Semicolon) k.0.1 at i)
             | inr i ↦ elim (either (is_end i.0.1) i.2) [ inl z ↦ cc | inr z ↦ cc ]
           ]
         ]
       ]
 
   begun_deep : (b : Bounds) (w : Word) (ws : List Word) (at : Span) (s : TypeStart) → type_start w ≡ s → type_from b (type_in m) w ws s ≡ Err (deep at) → OpensTypeOf b (suc m) (w ∷ ws) at
-  begun_deep b w ws at starts_path f e = elim (bind_deep (path_at false (type_in m) (w ∷ ws)) e) [ inl k ↦ in_path (path_deep false (w ∷ ws) at k) | inr k ↦ cc (k.2) ]
+  begun_deep b w ws at starts_path f e = elim (bind_err (path_at false (type_in m) (w ∷ ws)) e) [ inl k ↦ in_path (path_deep false (w ∷ ws) at k) | inr k ↦ cc (k.2) ]
   begun_deep b w ws at starts_reference f e = let h = reference_begins w f in subst (λ v. OpensTypeOf b (suc m) (v ∷ ws) at) (sym h.1) (reference_deep b h.0 ws at e)
   begun_deep b w ws at (starts_object s) f e =
       let h = object_begins w s f in subst (λ v. OpensTypeOf b (suc m) (v ∷ ws) at) (sym h.1) (object_deep b h.0 ws at (ap (λ v. object_at b (type_in m) v ws) h.2 ∙ e))
   begun_deep b w ws at (starts_round g s) f e =
-      elim (bind_deep (round_at (type_in m) s (words_of g)) e) [ inl k ↦ subst (λ v. OpensTypeOf b (suc m) (v ∷ ws) at) (sym (round_begins w g s f)) (round_deep b g s ws at k) | inr k ↦ cc (k.2) ]
+      elim (bind_err (round_at (type_in m) s (words_of g)) e) [ inl k ↦ subst (λ v. OpensTypeOf b (suc m) (v ∷ ws) at) (sym (round_begins w g s f)) (round_deep b g s ws at k) | inr k ↦ cc (k.2) ]
   begun_deep b w ws at (starts_square g s) f e =
-      elim (bind_deep (square_at (type_in m) s (words_of g)) e) [ inl k ↦ subst (λ v. OpensTypeOf b (suc m) (v ∷ ws) at) (sym (square_begins w g s f)) (square_deep b g s ws at k) | inr k ↦ cc (k.2) ]
+      elim (bind_err (square_at (type_in m) s (words_of g)) e) [ inl k ↦ subst (λ v. OpensTypeOf b (suc m) (v ∷ ws) at) (sym (square_begins w g s f)) (square_deep b g s ws at k) | inr k ↦ cc (k.2) ]
   begun_deep b w ws at starts_no_type f e = cc
 
   step_deep : (b : Bounds) (ws : List Word) (at : Span) → type_step b (type_in m) ws ≡ Err (deep at) → OpensTypeOf b (suc m) ws at

@@ -1,12 +1,8 @@
 -- What a reading gave, taken apart.
 use Rattle.std.proofs.Common.{◌≡◌, ◌⊎◌, inl, inr, List, [], ◌∷◌, refl, ap, subst, ◌∙◌, cond, Bool, true, false, Option, Some, Ok, Err, Result}
 use Rattle.words.specs.Words.{Word}
-use Rattle.words.specs.Reading.{Read, Fault, ◌>>=◌}
+use Rattle.words.specs.Reading.{Read, Fault}
 use Rattle.type_grammar.specs.Reading.{is_end, all}
-
-pub bind_ok : {A B : Type 0} {f : A → Result B Fault} {y : B} → (r : Result A Fault) → (r >>= f) ≡ Ok y → (x : A) × (r ≡ Ok x) × (f x ≡ Ok y)
-bind_ok (Ok x) e = (x, refl, e)
-bind_ok (Err k) e = cc
 
 pub either : {A : Type 0} {x y z : A} → (b : Bool) → cond b x y ≡ z → ((b ≡ true) × (x ≡ z)) ⊎ ((b ≡ false) × (y ≡ z))
 either true e = inl (refl, e)

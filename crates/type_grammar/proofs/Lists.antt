@@ -6,11 +6,9 @@ use Rattle.words.specs.declared.stopping.Stop.{Stop}
 use Rattle.words.specs.declared.stopping.Stop.TheVariants as stop
 use Rattle.words.specs.Words.{Word}
 use Rattle.words.specs.Reading.{Read, deep, wrong, ◌>>=◌, Fails}
+use Rattle.words.proofs.Many.{Shortens}
 use Rattle.type_grammar.specs.Reading.{after_sign, ends_list, list_after, list_step, list_at, list_of, with_front}
 use Rattle.type_grammar.proofs.Firsts.{after_sign-shorter}
-
-abbrev pub Shortens : {A : Type 0} → (List Word → Read A) → Type 0
-Shortens {A} item = (ws : List Word) (x : A) (rest : List Word) → item ws ≡ Ok (x, rest) → length rest < length ws
 
 module _ {A : Type 0} (item : List Word → Read A) (shortens : Shortens item) where
   same_after : (again other : List Word → Read (List A)) (x : A) (us : List Word) (o : Option (List Word)) → ((mid : List Word) → o ≡ Some mid → again mid ≡ other mid) → list_after again x us o ≡ list_after other x us o

@@ -45,23 +45,57 @@ module _ {A B : Type 0} (keep : A → List B) (item : List Word → Read A) (sho
   many_more (w ∷ ws) h =
       same_turn (many_at keep item (suc (length ws))) (many_of keep item) (w ∷ ws) (item (w ∷ ws)) refl (λ mid less. enough (suc (length ws)) (suc (length mid)) mid (omega arith) (omega arith))
 
-  -- the turns of a loop
-  module _ (start : List Word) (front : List B) (ws : List Word) (so_far : with_front front (many_of keep item ws) ≡ many_of keep item start) where
-    pub many_done : length ws ≡ 0 → many_of keep item start ≡ Ok front
-    many_done e = sym so_far ∙ ap (with_front front) (many_none ws e) ∙ ap (λ v. Ok v) (append-nil front)
+-- a loop over items, turn by turn: what it has, and then what is read of the words that are left, is what is read of all
+pub record SoFar {A B : Type 0} (keep : A → List B) (item : List Word → Read A) (front : List B) (ws : List Word) (whole : Result (List B) Fault) : Type 0 where
+  pub bound : ℕ
+  pub fits : length ws < bound
+  pub reads : with_front front (many_at keep item bound ws) ≡ whole
 
-    turned : 0 < length ws → (r : Read A) → item ws ≡ r → many_of keep item start ≡ with_front front (r >>= λ p. many_of keep item p.1 >>= λ xs. Ok (keep p.0 ++ xs))
-    turned h r f = sym so_far ∙ ap (with_front front) (many_more ws h) ∙ ap (λ v. with_front front (v >>= λ p. many_of keep item p.1 >>= λ xs. Ok (keep p.0 ++ xs))) f
+module _ {A B : Type 0} (keep : A → List B) (item : List Word → Read A) where
+  abbrev behind : ℕ → Read A → Result (List B) Fault
+  behind n r = r >>= λ p. many_at keep item n p.1 >>= λ xs. Ok (keep p.0 ++ xs)
 
-    pub many_fails : (e : Stop) → 0 < length ws → Fails e (item ws) → Fails e (many_of keep item start)
-    many_fails stop.Memory h f = tt
-    many_fails stop.Ended h f = turned h (Err wrong) f
-    many_fails (stop.Unexpected s) h f = turned h (Err wrong) f
-    many_fails (stop.Deep s) h f = turned h (Err (deep s)) f
+  front_nothing : (r : Result (List B) Fault) → with_front [] r ≡ r
+  front_nothing (Ok xs) = refl
+  front_nothing (Err f) = refl
 
-    regroup : (ys : List B) (r : Result (List B) Fault) → with_front (front ++ ys) r ≡ with_front front (r >>= λ xs. Ok (ys ++ xs))
-    regroup ys (Err f) = refl
-    regroup ys (Ok xs) = ap (λ v. Ok v) (append_assoc front ys xs)
+  regroup : (front ys : List B) (r : Result (List B) Fault) → with_front (front ++ ys) r ≡ with_front front (r >>= λ xs. Ok (ys ++ xs))
+  regroup front ys (Ok xs) = ap (λ v. Ok v) (append_assoc front ys xs)
+  regroup front ys (Err f) = refl
 
-    pub many_turn : (x : A) (us : List Word) → 0 < length ws → item ws ≡ Ok (x, us) → with_front (front ++ keep x) (many_of keep item us) ≡ many_of keep item start
-    many_turn x us h f = regroup (keep x) (many_of keep item us) ∙ sym (turned h (Ok (x, us)) f)
+  pub many_start : (ws : List Word) → SoFar keep item [] ws (many_of keep item ws)
+  unfolding many_of
+  many_start ws = record { bound = suc (length ws); fits = omega arith; reads = front_nothing (many_at keep item (suc (length ws)) ws) }
+
+  module _ (front : List B) (ws : List Word) (whole : Result (List B) Fault) where
+    turned : (n : ℕ) (r : Read A) → length ws < n → 0 < length ws → item ws ≡ r → with_front front (many_at keep item n ws) ≡ whole → (m : ℕ) × (n ≡ suc m) × (with_front front (behind m r) ≡ whole)
+    unfolding many_at
+    turned n r l h f so = at n ws l h f so
+      where
+        at : (n : ℕ) (us : List Word) → length us < n → 0 < length us → item us ≡ r → with_front front (many_at keep item n us) ≡ whole → (m : ℕ) × (n ≡ suc m) × (with_front front (behind m r) ≡ whole)
+        at n [] l h f so = absurd (omega arith)
+        at zero (w ∷ us) l h f so = absurd (omega arith)
+        at (suc m) (w ∷ us) l h f so = (m, refl, ap (λ v. with_front front (behind m v)) (sym f) ∙ so)
+
+    pub many_done : SoFar keep item front ws whole → length ws ≡ 0 → whole ≡ Ok front
+    unfolding many_at
+    many_done so e = at so.bound ws so.fits e so.reads
+      where
+        at : (n : ℕ) (us : List Word) → length us < n → length us ≡ 0 → with_front front (many_at keep item n us) ≡ whole → whole ≡ Ok front
+        at zero us l e so = absurd (omega arith)
+        at (suc n) (w ∷ us) l e so = absurd (omega arith)
+        at (suc n) [] l e so = sym so ∙ ap (λ v. Ok v) (append-nil front)
+
+    failed : (f : Fault) → SoFar keep item front ws whole → 0 < length ws → item ws ≡ Err f → whole ≡ Err f
+    failed f so h e = sym (turned so.bound (Err f) so.fits h e so.reads).2
+
+    pub many_fails : (s : Stop) → SoFar keep item front ws whole → 0 < length ws → Fails s (item ws) → Fails s whole
+    many_fails stop.Memory so h e = tt
+    many_fails stop.Ended so h e = failed wrong so h e
+    many_fails (stop.Unexpected at) so h e = failed wrong so h e
+    many_fails (stop.Deep at) so h e = failed (deep at) so h e
+
+    pub many_turn : (x : A) (us : List Word) → SoFar keep item front ws whole → length us < length ws → item ws ≡ Ok (x, us) → SoFar keep item (front ++ keep x) us whole
+    many_turn x us so less e =
+        let r = turned so.bound (Ok (x, us)) so.fits (omega (arith, less)) e so.reads in
+        record { bound = r.0; fits = omega (arith, less, so.fits, r.1); reads = regroup front (keep x) (many_at keep item r.0 us) ∙ r.2 }

@@ -3,12 +3,14 @@
 
 mod comma;
 mod keywords;
+mod lists;
 mod readers;
 mod stopping;
 mod tree_word;
 mod vocabulary;
 
 pub use comma::after_comma;
+pub use lists::{ReadItem, list_inside};
 pub use readers::{
     group_at, keyword_at, lifetime_at, literal_at, name_at, optional_keyword, optional_lifetime,
     optional_sign, path_word_at, sign_at,
