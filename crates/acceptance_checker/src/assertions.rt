@@ -14,7 +14,9 @@ use serde_json::{Map, Value};
 
 /// Whether the member, whose value is `x`, holds of the value `v`.
 pub fn assertion_holds(assertion: Assertion, x: Layer<'_>, v: Layer<'_>) -> bool
-    ensures { (schema : Members) (r : Readings) → result ≡ keyword_holds (assertion_meant assertion) schema (json_of_layer x.entry) r (json_of_layer v.entry) }
+    ensures { (schema : Members) (r : Readings) → result
+        ≡ keyword_holds (assertion_meant assertion) schema (json_of_layer x.entry) r
+        (json_of_layer v.entry) }
 {
     match assertion {
         Assertion::Types => type_holds(x, v),
@@ -40,7 +42,8 @@ fn type_holds(x: Layer<'_>, v: Layer<'_>) -> bool
 
 // None where one of the words is no text
 fn has_listed_kind(words: &[Value], v: Layer<'_>) -> Option<bool>
-    ensures { result ≡ option_map (list_any (λ w. is_in w (kinds_of (json_of_layer v.entry)))) (texts_of (json_of_values words.now)) }
+    ensures { result ≡ option_map (list_any (λ w. is_in w (kinds_of (json_of_layer v.entry))))
+        (texts_of (json_of_values words.now)) }
 {
     let mut found = false;
     for word in words {
@@ -75,7 +78,9 @@ fn enum_holds(x: Layer<'_>, v: Layer<'_>) -> bool
 }
 
 fn number_holds(comparison: Comparison, x: Layer<'_>, v: Layer<'_>) -> bool
-    ensures { (schema : Members) (r : Readings) → result ≡ keyword_holds (comparison_meant comparison) schema (json_of_layer x.entry) r (json_of_layer v.entry) }
+    ensures { (schema : Members) (r : Readings) → result
+        ≡ keyword_holds (comparison_meant comparison) schema (json_of_layer x.entry) r
+        (json_of_layer v.entry) }
 {
     match x {
         Layer::Whole(n) => match v {
@@ -110,7 +115,9 @@ fn is_multiple(n: i128, m: i128) -> bool
 }
 
 fn length_holds(limit: Limit, x: Layer<'_>, v: Layer<'_>) -> bool
-    ensures { (schema : Members) (r : Readings) → result ≡ keyword_holds (limit_meant limit min_length max_length) schema (json_of_layer x.entry) r (json_of_layer v.entry) }
+    ensures { (schema : Members) (r : Readings) → result
+        ≡ keyword_holds (limit_meant limit min_length max_length) schema (json_of_layer x.entry)
+        r (json_of_layer v.entry) }
 {
     match x {
         Layer::Whole(n) => match v {
@@ -137,7 +144,9 @@ fn is_within(limit: Limit, n: i128, count: usize) -> bool
 }
 
 fn properties_hold(limit: Limit, x: Layer<'_>, v: Layer<'_>) -> bool
-    ensures { (schema : Members) (r : Readings) → result ≡ keyword_holds (limit_meant limit min_properties max_properties) schema (json_of_layer x.entry) r (json_of_layer v.entry) }
+    ensures { (schema : Members) (r : Readings) → result
+        ≡ keyword_holds (limit_meant limit min_properties max_properties) schema
+        (json_of_layer x.entry) r (json_of_layer v.entry) }
 {
     match x {
         Layer::Whole(n) => match v {
@@ -149,7 +158,9 @@ fn properties_hold(limit: Limit, x: Layer<'_>, v: Layer<'_>) -> bool
 }
 
 fn items_hold(limit: Limit, x: Layer<'_>, v: Layer<'_>) -> bool
-    ensures { (schema : Members) (r : Readings) → result ≡ keyword_holds (limit_meant limit min_items max_items) schema (json_of_layer x.entry) r (json_of_layer v.entry) }
+    ensures { (schema : Members) (r : Readings) → result
+        ≡ keyword_holds (limit_meant limit min_items max_items) schema (json_of_layer x.entry) r
+        (json_of_layer v.entry) }
 {
     match x {
         Layer::Whole(n) => match v {
@@ -174,7 +185,9 @@ fn required_holds(x: Layer<'_>, v: Layer<'_>) -> bool
 
 // None where one of the names is no text
 fn has_listed_names(names: &[Value], members: &Map<String, Value>) -> Option<bool>
-    ensures { result ≡ option_map (list_all (λ k. is_in k (names_in (entries (json_of_entries members.now.entries))))) (texts_of (json_of_values names.now)) }
+    ensures { result ≡ option_map
+        (list_all (λ k. is_in k (names_in (entries (json_of_entries members.now.entries)))))
+        (texts_of (json_of_values names.now)) }
 {
     let mut all = true;
     for name in names {

@@ -55,7 +55,8 @@ fn same_items(xs: &[Value], ys: &[Value]) -> bool
 // each member of the first has an equal one of its name in the second
 #[cycle(same)]
 fn same_members(ms: &Map<String, Value>, ns: &Map<String, Value>) -> bool
-    ensures { result ≡ same_members (json_of_entries ms.now.entries) (entries (json_of_entries ns.now.entries)) }
+    ensures { result ≡ same_members (json_of_entries ms.now.entries)
+        (entries (json_of_entries ns.now.entries)) }
 {
     for (name, x) in ms.iter() {
         match member_at(ns, name.as_str()) {
@@ -72,7 +73,8 @@ fn same_members(ms: &Map<String, Value>, ns: &Map<String, Value>) -> bool
 
 // the first has each name of the second
 fn has_each_name(ms: &Map<String, Value>, ns: &Map<String, Value>) -> bool
-    ensures { result ≡ list_all (λ k. is_in k (names (entries (json_of_entries ms.now.entries)))) (names (entries (json_of_entries ns.now.entries))) }
+    ensures { result ≡ list_all (λ k. is_in k (names (entries (json_of_entries ms.now.entries))))
+        (names (entries (json_of_entries ns.now.entries))) }
 {
     for (name, _value) in ns.iter() {
         if !has_member(ms, name.as_str()) {
@@ -84,7 +86,8 @@ fn has_each_name(ms: &Map<String, Value>, ns: &Map<String, Value>) -> bool
 
 /// Whether the value is equal to one of the items.
 pub fn is_among(value: Layer<'_>, items: &[Value]) -> bool
-    ensures { result ≡ list_any (same (json_of_layer value.entry)) (elements (json_of_values items.now)) }
+    ensures { result ≡ list_any (same (json_of_layer value.entry))
+        (elements (json_of_values items.now)) }
 {
     for item in items {
         if same(value, layer_of(item)) {

@@ -49,7 +49,8 @@ fn component_holds(document: &Value, depth: usize, name: &str, value: Layer<'_>)
 
 #[cycle(judge)]
 fn schema_accepts(document: &Value, depth: usize, schema: Layer<'_>, value: Layer<'_>) -> bool
-    ensures { result ≡ accepts_with (components_at document.now depth) (json_of_layer schema.entry) (json_of_layer value.entry) }
+    ensures { result ≡ accepts_with (components_at document.now depth) (json_of_layer schema.entry)
+        (json_of_layer value.entry) }
 {
     match schema {
         Layer::Boolean(verdict) => verdict,
@@ -65,7 +66,9 @@ fn members_hold(
     schema: &Map<String, Value>,
     value: Layer<'_>,
 ) -> bool
-    ensures { result ≡ members_hold (components_at document.now depth) (json_of_entries schema.now.entries) (json_of_entries schema.now.entries) (json_of_layer value.entry) }
+    ensures { result ≡ members_hold (components_at document.now depth)
+        (json_of_entries schema.now.entries) (json_of_entries schema.now.entries)
+        (json_of_layer value.entry) }
 {
     for (name, x) in schema.iter() {
         if !member_holds(document, depth, schema, name.as_str(), layer_of(x), value) {
@@ -84,7 +87,10 @@ fn member_holds(
     x: Layer<'_>,
     value: Layer<'_>,
 ) -> bool
-    ensures { result ≡ keyword_holds (keyword_of name.now) (json_of_entries schema.now.entries) (json_of_layer x.entry) (readings_of (components_at document.now depth) (json_of_layer x.entry)) (json_of_layer value.entry) }
+    ensures { result ≡ keyword_holds (keyword_of name.now) (json_of_entries schema.now.entries)
+        (json_of_layer x.entry)
+        (readings_of (components_at document.now depth) (json_of_layer x.entry))
+        (json_of_layer value.entry) }
 {
     match keyword_named(name) {
         Keyword::Assertion(assertion) => assertion_holds(assertion, x, value),
@@ -104,7 +110,10 @@ fn applicator_holds(
     x: Layer<'_>,
     value: Layer<'_>,
 ) -> bool
-    ensures { result ≡ keyword_holds (applicator_meant applicator) (json_of_entries schema.now.entries) (json_of_layer x.entry) (readings_of (components_at document.now depth) (json_of_layer x.entry)) (json_of_layer value.entry) }
+    ensures { result ≡ keyword_holds (applicator_meant applicator)
+        (json_of_entries schema.now.entries) (json_of_layer x.entry)
+        (readings_of (components_at document.now depth) (json_of_layer x.entry))
+        (json_of_layer value.entry) }
 {
     match applicator {
         Applicator::Properties => match x {
@@ -147,7 +156,8 @@ fn each_property(
     schemas: &Map<String, Value>,
     value: Layer<'_>,
 ) -> bool
-    ensures { result ≡ on_map (json_of_layer value.entry) (each_property (components_at document.now depth) (json_of_entries schemas.now.entries)) }
+    ensures { result ≡ on_map (json_of_layer value.entry)
+        (each_property (components_at document.now depth) (json_of_entries schemas.now.entries)) }
 {
     let Layer::Map(members) = value else {
         return true;
@@ -174,7 +184,9 @@ fn others_pass(
     x: Layer<'_>,
     value: Layer<'_>,
 ) -> bool
-    ensures { result ≡ on_map (json_of_layer value.entry) (others_pass (named (json_of_entries schema.now.entries)) (accepts_with (components_at document.now depth) (json_of_layer x.entry))) }
+    ensures { result ≡ on_map (json_of_layer value.entry)
+        (others_pass (named (json_of_entries schema.now.entries))
+        (accepts_with (components_at document.now depth) (json_of_layer x.entry))) }
 {
     let Layer::Map(members) = value else {
         return true;
@@ -192,7 +204,8 @@ fn others_pass(
 // `x` accepts the name of each member
 #[cycle(judge)]
 fn names_pass(document: &Value, depth: usize, x: Layer<'_>, value: Layer<'_>) -> bool
-    ensures { result ≡ on_map (json_of_layer value.entry) (names_pass (accepts_with (components_at document.now depth) (json_of_layer x.entry))) }
+    ensures { result ≡ on_map (json_of_layer value.entry)
+        (names_pass (accepts_with (components_at document.now depth) (json_of_layer x.entry))) }
 {
     let Layer::Map(members) = value else {
         return true;
@@ -208,7 +221,8 @@ fn names_pass(document: &Value, depth: usize, x: Layer<'_>, value: Layer<'_>) ->
 // the schemas accept the items by position, as far as both go
 #[cycle(judge)]
 fn in_order(document: &Value, depth: usize, schemas: &[Value], value: Layer<'_>) -> bool
-    ensures { result ≡ on_list (json_of_layer value.entry) (in_order (components_at document.now depth) (json_of_values schemas.now)) }
+    ensures { result ≡ on_list (json_of_layer value.entry)
+        (in_order (components_at document.now depth) (json_of_values schemas.now)) }
 {
     let Layer::List(items) = value else {
         return true;
@@ -226,7 +240,9 @@ fn in_order(document: &Value, depth: usize, schemas: &[Value], value: Layer<'_>)
 
 #[cycle(judge)]
 fn items_pass(document: &Value, depth: usize, x: Layer<'_>, items: &[Value]) -> bool
-    ensures { result ≡ list_all (accepts_with (components_at document.now depth) (json_of_layer x.entry)) (elements (json_of_values items.now)) }
+    ensures { result ≡ list_all
+        (accepts_with (components_at document.now depth) (json_of_layer x.entry))
+        (elements (json_of_values items.now)) }
 {
     for item in items {
         if !schema_accepts(document, depth, x, layer_of(item)) {
@@ -238,7 +254,8 @@ fn items_pass(document: &Value, depth: usize, x: Layer<'_>, items: &[Value]) -> 
 
 #[cycle(judge)]
 fn each_accepts(document: &Value, depth: usize, schemas: &[Value], value: Layer<'_>) -> bool
-    ensures { result ≡ each_accepts (components_at document.now depth) (json_of_values schemas.now) (json_of_layer value.entry) }
+    ensures { result ≡ each_accepts (components_at document.now depth) (json_of_values schemas.now)
+        (json_of_layer value.entry) }
 {
     for schema in schemas {
         if !schema_accepts(document, depth, layer_of(schema), value) {
@@ -250,7 +267,8 @@ fn each_accepts(document: &Value, depth: usize, schemas: &[Value], value: Layer<
 
 #[cycle(judge)]
 fn some_accepts(document: &Value, depth: usize, schemas: &[Value], value: Layer<'_>) -> bool
-    ensures { result ≡ some_accepts (components_at document.now depth) (json_of_values schemas.now) (json_of_layer value.entry) }
+    ensures { result ≡ some_accepts (components_at document.now depth) (json_of_values schemas.now)
+        (json_of_layer value.entry) }
 {
     for schema in schemas {
         if schema_accepts(document, depth, layer_of(schema), value) {

@@ -43,7 +43,8 @@ fn layer_of_number<'a>(number: &Number) -> Layer<'a>
 
 /// The member of the name.
 pub fn member_at<'a>(members: &'a Map<String, Value>, name: &str) -> Option<Layer<'a>>
-    ensures { option_map json_of_layer result ≡ look name.now (entries (json_of_entries members.now.entries)) }
+    ensures { option_map json_of_layer result
+        ≡ look name.now (entries (json_of_entries members.now.entries)) }
 {
     match members.get(name) {
         Some(value) => Some(layer_of(value)),

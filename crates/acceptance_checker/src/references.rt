@@ -15,7 +15,8 @@ pub fn target_of(reference: &str) -> Option<&str>
 
 /// The schema of the component of the name.
 pub fn component_schema<'a>(document: &'a Value, name: &str) -> Option<Layer<'a>>
-    ensures { option_map json_of_layer result ≡ component_schema (json_of_value document.now) name.now }
+    ensures { option_map json_of_layer result
+        ≡ component_schema (json_of_value document.now) name.now }
 {
     let components = member_of(layer_of(document), "components")?;
     let schemas = member_of(components, "schemas")?;

@@ -29,7 +29,9 @@ fn prefix_count(schema: &Map<String, Value>) -> usize
 
 /// The items past those that `prefixItems` of the schema speaks of.
 pub fn rest_items<'a>(schema: &Map<String, Value>, items: &'a [Value]) -> &'a [Value]
-    ensures { elements (json_of_values result.now) ≡ drop (prefix_count (json_of_entries schema.now.entries)) (elements (json_of_values items.now)) }
+    ensures { elements (json_of_values result.now)
+        ≡ drop (prefix_count (json_of_entries schema.now.entries))
+        (elements (json_of_values items.now)) }
 {
     let count = prefix_count(schema);
     if count < items.len() {

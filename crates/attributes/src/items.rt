@@ -37,7 +37,8 @@ fn text_at(alloc: Global, trees: &[TokenTree]) -> Result<(SerdeText, &[TokenTree
 /// The text behind `=`, where one stands, and what follows it, a group or nothing.
 #[tactic(auto, unfolding(crate::specs::AttributeReading::value_at))]
 fn value_at(alloc: Global, trees: &[TokenTree]) -> Result<(Option<SerdeText>, &[TokenTree]), Stop>
-    ensures value { Gives (λ p. (p.0, words_view p.1.now)) result (value_at (words_view trees.now)) }
+    ensures value { Gives (λ p. (p.0, words_view p.1.now)) result
+        (value_at (words_view trees.now)) }
     ensures shorter { IfOk result (λ p. length p.1.now ≤ length trees.now) }
 {
     if let [TokenTree::Group(_), rest @ ..] = trees {

@@ -10,8 +10,11 @@ ghost use Rattle.attributes.specs.AttributeReading.{begin_attributes, attributes
 /// What is read as attributes is of the grammar, and no less is read.
 #[tactic(auto, using(crate::proofs::Whole::attributes_sound, crate::proofs::Whole::attributes_complete))]
 pub fn attributes_are_read()
-    ensures sound { (ws : List Word) (xs : List AttributeItem) (rest : List Word) → attributes_at ws ≡ Ok (xs, rest) → IsAttributes ws xs rest }
-    ensures complete { (ws : List Word) (xs : List AttributeItem) (rest : List Word) → IsAttributes ws xs rest → begin_attributes rest ≡ false → attributes_at ws ≡ Ok (xs, rest) }
+    ensures sound { (ws : List Word) (xs : List AttributeItem) (rest : List Word) → attributes_at ws
+        ≡ Ok (xs, rest) → IsAttributes ws xs rest }
+    ensures complete { (ws : List Word) (xs : List AttributeItem) (rest : List Word)
+        → IsAttributes ws xs rest → begin_attributes rest ≡ false → attributes_at ws
+        ≡ Ok (xs, rest) }
 {}
 
 /// An attribute of the path `serde` has the items of the list behind it, and no others; other attributes have none.

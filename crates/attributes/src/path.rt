@@ -15,7 +15,8 @@ use written_types::{Ident, Path, PathSegment};
 
 /// An identifier, keywords and `_` too, and what follows it.
 pub(crate) fn ident_at(trees: &[TokenTree]) -> Result<(&Token, &[TokenTree]), Stop>
-    ensures value { Gives (λ p. (ident_of p.0.now, words_view p.1.now)) result (ident_at (words_view trees.now)) }
+    ensures value { Gives (λ p. (ident_of p.0.now, words_view p.1.now)) result
+        (ident_at (words_view trees.now)) }
     ensures shorter { IfOk result (λ p. length p.1.now < length trees.now) }
 {
     match trees {
@@ -31,7 +32,8 @@ pub(crate) fn ident_at(trees: &[TokenTree]) -> Result<(&Token, &[TokenTree]), St
 /// The identifiers of a path, with `::` between them, and what follows them.
 #[tactic(auto, unfolding(crate::specs::AttributeReading::idents_at))]
 fn idents_at(alloc: Global, trees: &[TokenTree]) -> Result<(List<Ident>, &[TokenTree]), Stop>
-    ensures value { Gives (λ p. (p.0, words_view p.1.now)) result (idents_at (words_view trees.now)) }
+    ensures value { Gives (λ p. (p.0, words_view p.1.now)) result
+        (idents_at (words_view trees.now)) }
     ensures shorter { IfOk result (λ p. length p.1.now < length trees.now) }
 {
     let (first, mut rest) = ident_at(trees)?;
@@ -77,7 +79,8 @@ fn path_of(alloc: Global, idents: &[Ident]) -> Result<Path, AllocError>
 
 /// A path of identifiers, and what follows it.
 pub(crate) fn path_at(alloc: Global, trees: &[TokenTree]) -> Result<(Path, &[TokenTree]), Stop>
-    ensures value { Gives (λ p. (path_view p.0, words_view p.1.now)) result (path_at (words_view trees.now)) }
+    ensures value { Gives (λ p. (path_view p.0, words_view p.1.now)) result
+        (path_at (words_view trees.now)) }
     ensures shorter { IfOk result (λ p. length p.1.now < length trees.now) }
 {
     let (idents, rest) = idents_at(alloc, trees)?;

@@ -81,7 +81,8 @@ fn attribute_at(
     alloc: Global,
     trees: &[TokenTree],
 ) -> Result<(Option<Attribute>, &[TokenTree]), Stop>
-    ensures value { Gives (λ p. (kept_view p.0, words_view p.1.now)) result (attribute_at (words_view trees.now)) }
+    ensures value { Gives (λ p. (kept_view p.0, words_view p.1.now)) result
+        (attribute_at (words_view trees.now)) }
     ensures shorter { IfOk result (λ p. length p.1.now < length trees.now) }
 {
     match trees {
@@ -107,7 +108,8 @@ pub fn attributes_at(
     alloc: Global,
     trees: &[TokenTree],
 ) -> Result<(List<Attribute>, &[TokenTree]), Stop>
-    ensures value { Gives (λ p. (map attribute_view p.0, words_view p.1.now)) result (attributes_at (words_view trees.now)) }
+    ensures value { Gives (λ p. (map attribute_view p.0, words_view p.1.now)) result
+        (attributes_at (words_view trees.now)) }
     ensures shorter { IfOk result (λ p. length p.1.now ≤ length trees.now) }
 {
     let mut attributes = List::new(alloc);

@@ -95,7 +95,11 @@ fn of_props(
 }
 
 /// What the schema of a place of the row's type is.
-fn of_place(alloc: Global, container: &Container<'_>, given: &Value) -> Result<String, DeriveError> {
+fn of_place(
+    alloc: Global,
+    container: &Container<'_>,
+    given: &Value,
+) -> Result<String, DeriveError> {
     let written = given.get("type").and_then(Value::as_str).unwrap_or("");
     let written = parse_type(alloc, written)?;
     let tree = TypeTree::from_type(alloc, &written)?;
@@ -122,10 +126,8 @@ fn of_first(
     places: &BTreeMap<String, usize>,
     given: &Value,
 ) -> Result<String, DeriveError>
-    requires places {
-        (name : Items ℕ)
-            → get_by_text places.now name ≡ place_among (declarations_view declarations.now) name
-    }
+    requires places { (name : Items ℕ)
+        → get_by_text places.now name ≡ place_among (declarations_view declarations.now) name }
     requires named { AreNamed (declarations_view declarations.now) }
 {
     let [first, ..] = declarations.items.as_slice() else {

@@ -28,7 +28,8 @@ pub(crate) struct Closing<'s, D> {
 
 /// The name of the component of the declaration at a place; past the end, an empty one.
 fn name_at<D: Declared>(alloc: Global, declared: &[D], place: usize) -> Result<Text, AllocError>
-    ensures { IfOk result (λ name. name ≡ (declaration_at (map D.declaration declared.now) place).name) }
+    ensures { IfOk result
+        (λ name. name ≡ (declaration_at (map D.declaration declared.now) place).name) }
 {
     if place < declared.len() {
         declared[place].name().copy(alloc)
@@ -39,7 +40,8 @@ fn name_at<D: Declared>(alloc: Global, declared: &[D], place: usize) -> Result<T
 
 /// The name of the component of the type's declaration; of another type, an empty one.
 fn name_of<D: Declared>(alloc: Global, declared: &[D], ty: &OpenType) -> Result<Text, AllocError>
-    ensures { IfOk result (λ name. name ≡ name_of (map D.declaration declared.now) (open_view ty.now)) }
+    ensures { IfOk result
+        (λ name. name ≡ name_of (map D.declaration declared.now) (open_view ty.now)) }
 {
     match ty {
         OpenType::Named(place, _) => name_at(alloc, declared, *place),
@@ -68,7 +70,8 @@ fn schema_at(alloc: Global, made: &[Schema], place: usize) -> Result<Schema, All
 
 /// The schema of the type's declaration; of another type, one that says nothing.
 fn schema_of(alloc: Global, made: &[Schema], ty: &OpenType) -> Result<Schema, AllocError>
-    ensures { IfOk result (λ s. schema_view s ≡ schema_of (schema_in (map schema_view made.now)) (open_view ty.now)) }
+    ensures { IfOk result (λ s. schema_view s
+        ≡ schema_of (schema_in (map schema_view made.now)) (open_view ty.now)) }
 {
     match ty {
         OpenType::Named(place, _) => schema_at(alloc, made, *place),
@@ -83,7 +86,11 @@ fn reference_to<D: Declared>(
     ty: &OpenType,
     notes: &Notes,
 ) -> Result<Schema, AllocError>
-    ensures { IfOk result (λ s. schema_view s ≡ leaf (record { name = name_of (map D.declaration declared.now) (open_view ty.now); notes = notes.now })) }
+    ensures { IfOk result (λ s. schema_view s
+        ≡ leaf (record {
+          name = name_of (map D.declaration declared.now) (open_view ty.now);
+          notes = notes.now;
+        })) }
 {
     Ok(Tree::Leaf(RefLeaf {
         name: name_of(alloc, declared, ty)?,
@@ -145,11 +152,14 @@ pub(crate) fn closed<D: Declared>(
     order: &[usize],
 ) -> Result<Vec<Schema>, AllocError>
     requires terms { map term_view terms.now ≡ map (λ s. term (D.declaration s)) declared.now }
-    requires within { AreWithin (length (map D.declaration declared.now)) (map D.declaration declared.now) }
+    requires within { AreWithin (length (map D.declaration declared.now))
+        (map D.declaration declared.now) }
     requires depth { IsAtMost most_inlined (inlining_of (map D.declaration declared.now)) }
     requires order { IsOrder (inlining_of (map D.declaration declared.now)) order.now }
     ensures many { IfOk result (λ made. length made.items ≡ length declared.now) }
-    ensures schemas { IfOk result (λ made. (d : ℕ) → d < length declared.now → schema_in (map schema_view made.items) d ≡ declared_schema (map D.declaration declared.now) d) }
+    ensures schemas { IfOk result (λ made. (d : ℕ) → d < length declared.now
+        → schema_in (map schema_view made.items) d
+        ≡ declared_schema (map D.declaration declared.now) d) }
 {
     inlining::orders_stand();
     let mut made = none_made(alloc, declared.len())?;

@@ -24,11 +24,13 @@ pub fn components_of<D: Declared>(
     order: &[usize],
 ) -> Result<Components, AllocError>
     requires terms { map term_view terms.now ≡ map (λ s. term (D.declaration s)) declared.now }
-    requires within { AreWithin (length (map D.declaration declared.now)) (map D.declaration declared.now) }
+    requires within { AreWithin (length (map D.declaration declared.now))
+        (map D.declaration declared.now) }
     requires depth { IsAtMost most_inlined (inlining_of (map D.declaration declared.now)) }
     requires order { IsOrder (inlining_of (map D.declaration declared.now)) order.now }
     requires distinct { IsDistinct (declaration_names (map D.declaration declared.now)) }
-    ensures { IfOk result (λ components. AreComponents (map D.declaration declared.now) components) }
+    ensures { IfOk result
+        (λ components. AreComponents (map D.declaration declared.now) components) }
 {
     let mut made = closed(alloc, declared, terms, order)?;
     let mut components = Components::new(alloc);

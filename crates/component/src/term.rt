@@ -1,4 +1,5 @@
-ghost use Rattle.std.specs.Prelude.{◌≡◌, ◌⊎◌, IfOk, IfErr};
+ghost use Rattle.std.specs.Prelude.{◌≡◌, IfOk};
+ghost use Rattle.diag.specs.Refusal.{Refuses};
 ghost use Rattle.schema_core.specs.Schema.{SchemaOf};
 ghost use Rattle.diag.specs.declared.error.DeriveError.{DeriveError as AnyError};
 ghost use Rattle.diag.specs.declared.error.DeriveError.TheVariants.{Memory};
@@ -41,7 +42,7 @@ pub trait ToTerm {
     fn to_term(&self, alloc: Global) -> Result<Term, DeriveError>
         requires { is_ready self.now }
         ensures term { IfOk result (λ t. has_term self.now (term_view t)) }
-        ensures refused { IfErr result (λ e. (e ≡ Memory) ⊎ is_refused self.now e) };
+        ensures refused { Refuses result (is_refused self.now) };
 }
 
 impl CopyLeaf for TermLeaf {

@@ -90,10 +90,8 @@ fn first_among(declarations: &[Declaration]) -> Option<Span>
 
 /// Refuses declarations that have an attribute from which nothing is derived, at the first one.
 pub(crate) fn only_derivable(alloc: Global, declarations: &Declarations) -> Result<(), DeriveError>
-    ensures derivable {
-        IfOk result (λ _. (span : AnySpan)
-            → ¬ IsAttributed (declarations_view declarations.now) span)
-    }
+    ensures derivable { IfOk result (λ _. (span : AnySpan)
+        → ¬ IsAttributed (declarations_view declarations.now) span) }
     ensures refused { Refuses result (IsUnderivable (declarations_view declarations.now)) }
 {
     match first_among(declarations.items.as_slice()) {

@@ -24,9 +24,8 @@ const MOST_INLINED: usize = 32;
 
 /// The refusal of more instances than may be reachable, at the name of one.
 fn too_many_instances(alloc: Global, span: Span, limit: usize) -> Result<DeriveError, AllocError>
-    ensures {
-        IfOk result (IsErrorFor (IsRefusal Kind.TooManyInstances span (crowded_message limit)))
-    }
+    ensures { IfOk result
+        (IsErrorFor (IsRefusal Kind.TooManyInstances span (crowded_message limit))) }
 {
     let message = format!(in alloc; "more than {} instances are reachable", limit)?;
     let kind = Kind::TooManyInstances;
@@ -40,9 +39,8 @@ fn few_instances(
     config: &Config,
 ) -> Result<(), DeriveError>
     ensures few { IfOk result (λ _. length declarations.now ≤ config.now.limit) }
-    ensures refused {
-        Refuses result (IsCrowded config.now (map declaration_view declarations.now))
-    }
+    ensures refused { Refuses result
+        (IsCrowded config.now (map declaration_view declarations.now)) }
 {
     let limit = config.limit();
     if declarations.len() <= limit {
@@ -59,10 +57,8 @@ fn inline_depth(
     path: &[usize],
 ) -> Result<DeriveError, AllocError>
     requires { IsPath (inlining_of (map resolved_view resolved.now)) path.now }
-    ensures {
-        IfOk result (IsRefusalOf Kind.InlineDepth span deep_message
-            (names_along (map resolved_view resolved.now) path.now))
-    }
+    ensures { IfOk result (IsRefusalOf Kind.InlineDepth span deep_message
+        (names_along (map resolved_view resolved.now) path.now)) }
 {
     let message = "types are inlined deeper than 32";
     let mut diagnostics = Diagnostics::with_span(alloc, Kind::InlineDepth, span, message)?;
@@ -79,18 +75,14 @@ fn shallow_order(
     resolved: &[Resolved],
     targets: &[List<usize>],
 ) -> Result<List<usize>, DeriveError>
-    requires names {
-        declaration_names (map resolved_view resolved.now)
-            ≡ declared_names (map declaration_view declarations.now)
-    }
+    requires names { declaration_names (map resolved_view resolved.now)
+        ≡ declared_names (map declaration_view declarations.now) }
     requires targets { targets.now ≡ inlining_of (map resolved_view resolved.now) }
     requires declared { AreTargets targets.now }
     ensures shallow { IfOk result (λ _. IsAtMost most_inlined targets.now) }
     ensures order { IfOk result (λ order. IsOrder targets.now order) }
-    ensures refused {
-        Refuses result
-            (IsDeep (map declaration_view declarations.now) (map resolved_view resolved.now))
-    }
+    ensures refused { Refuses result
+        (IsDeep (map declaration_view declarations.now) (map resolved_view resolved.now)) }
 {
     match inline_order(alloc, targets, MOST_INLINED)? {
         Depth::Within(order) => Ok(order),
@@ -104,9 +96,8 @@ fn shallow_order(
 
 /// The refusal of more copies than may be inlined.
 fn too_many_copies(alloc: Global, copies: usize) -> Result<DeriveError, AllocError>
-    ensures {
-        IfOk result (IsErrorFor (IsRefusal Kind.TooManyCopies no_span (copied_message copies)))
-    }
+    ensures { IfOk result
+        (IsErrorFor (IsRefusal Kind.TooManyCopies no_span (copied_message copies))) }
 {
     let message = format!(in alloc; "more than {} copies are inlined", copies)?;
     let kind = Kind::TooManyCopies;
@@ -123,10 +114,8 @@ fn few_copies(
     requires shallow { IsAtMost most_inlined targets.now }
     requires order { IsOrder targets.now order.now }
     ensures few { IfOk result (λ _. all_copies targets.now most_inlined ≤ config.now.copies) }
-    ensures refused {
-        Refuses result (λ e. (config.now.copies < all_copies targets.now most_inlined)
-            × IsRefusal Kind.TooManyCopies no_span (copied_message config.now.copies) e)
-    }
+    ensures refused { Refuses result (λ e. (config.now.copies < all_copies targets.now most_inlined)
+        × IsRefusal Kind.TooManyCopies no_span (copied_message config.now.copies) e) }
 {
     let copies = config.copies();
     if are_more_copies(alloc, targets, order, MOST_INLINED, copies)? {
@@ -149,21 +138,16 @@ pub fn inline_order_of(
     targets: &[List<usize>],
     config: &Config,
 ) -> Result<List<usize>, DeriveError>
-    requires names {
-        declaration_names (map resolved_view resolved.now)
-            ≡ declared_names (map declaration_view declarations.now)
-    }
+    requires names { declaration_names (map resolved_view resolved.now)
+        ≡ declared_names (map declaration_view declarations.now) }
     requires targets { targets.now ≡ inlining_of (map resolved_view resolved.now) }
     requires declared { AreTargets targets.now }
-    ensures bounded {
-        IfOk result (λ _. AreBounded config.now (map declaration_view declarations.now)
-            (map resolved_view resolved.now))
-    }
+    ensures bounded { IfOk result
+        (λ _. AreBounded config.now (map declaration_view declarations.now)
+        (map resolved_view resolved.now)) }
     ensures order { IfOk result (IsOrder (inlining_of (map resolved_view resolved.now))) }
-    ensures refused {
-        Refuses result (IsUnbounded config.now (map declaration_view declarations.now)
-            (map resolved_view resolved.now))
-    }
+    ensures refused { Refuses result (IsUnbounded config.now (map declaration_view declarations.now)
+        (map resolved_view resolved.now)) }
 {
     few_instances(alloc, declarations, config)?;
     let order = shallow_order(alloc, declarations, resolved, targets)?;

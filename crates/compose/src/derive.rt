@@ -54,17 +54,13 @@ fn settle(
     config: &Config,
 ) -> Result<Settled, DeriveError>
     requires { AreNamed (declarations_view declarations.now) }
-    ensures settled {
-        IfOk result (λ s. IsSettled config.now.renames (declarations_view declarations.now)
-            (map resolved_view s.resolved))
-    }
-    ensures places {
-        IfOk result (λ s. (name : Items ℕ)
-            → get_by_text s.places name ≡ place_among (declarations_view declarations.now) name)
-    }
-    ensures refused {
-        Refuses result (AreAtFault config.now.renames (declarations_view declarations.now))
-    }
+    ensures settled { IfOk result
+        (λ s. IsSettled config.now.renames (declarations_view declarations.now)
+        (map resolved_view s.resolved)) }
+    ensures places { IfOk result (λ s. (name : Items ℕ)
+        → get_by_text s.places name ≡ place_among (declarations_view declarations.now) name) }
+    ensures refused { Refuses result
+        (AreAtFault config.now.renames (declarations_view declarations.now)) }
 {
     only_derivable(alloc, declarations)?;
     let places = declared_places(alloc, declarations)?;
@@ -79,19 +75,14 @@ fn bounded_components(
     resolved: &[Resolved],
     config: &Config,
 ) -> Result<Components, DeriveError>
-    requires {
-        IsSettled config.now.renames (map declaration_view declarations.now)
-            (map resolved_view resolved.now)
-    }
-    ensures bounded {
-        IfOk result (λ _. AreBounded config.now (map declaration_view declarations.now)
-            (map resolved_view resolved.now))
-    }
+    requires { IsSettled config.now.renames (map declaration_view declarations.now)
+        (map resolved_view resolved.now) }
+    ensures bounded { IfOk result
+        (λ _. AreBounded config.now (map declaration_view declarations.now)
+        (map resolved_view resolved.now)) }
     ensures components { IfOk result (AreComponents (map resolved_view resolved.now)) }
-    ensures refused {
-        Refuses result (IsUnbounded config.now (map declaration_view declarations.now)
-            (map resolved_view resolved.now))
-    }
+    ensures refused { Refuses result (IsUnbounded config.now (map declaration_view declarations.now)
+        (map resolved_view resolved.now)) }
 {
     closing::targets_are_declared();
     let terms = terms_of(alloc, resolved)?;
@@ -117,14 +108,10 @@ pub fn derive_components(
     ensures derived { IfOk result (λ d. IsDerived config.now source.now d.components) }
     ensures refused { Refuses result (IsRefused config.now source.now) }
     // The document of the components describes the declarations of the source.
-    ensures describes {
-        IfOk result (λ d. (made : IsDerived config.now source.now d.components)
-            × Describes made.resolved (document d.components))
-    }
-    ensures types {
-        IfOk result (λ d. (made : IsDerived config.now source.now d.components)
-            × AreTypesOf made.resolved (names_of d.components) (map open_view d.types))
-    }
+    ensures describes { IfOk result (λ d. (made : IsDerived config.now source.now d.components)
+        × Describes made.resolved (document d.components)) }
+    ensures types { IfOk result (λ d. (made : IsDerived config.now source.now d.components)
+        × AreTypesOf made.resolved (names_of d.components) (map open_view d.types)) }
 {
     let declarations = parse_declarations(alloc, source)?;
     syntax::read_fields_are_named();

@@ -1,4 +1,5 @@
-ghost use Rattle.std.specs.Prelude.{◌≡◌, ◌≤◌, ◌⊎◌, ◌↔◌, IsTrue, IfOk, IfErr, MatchOption};
+ghost use Rattle.std.specs.Prelude.{◌≡◌, ◌≤◌, ◌⊎◌, ◌↔◌, IsTrue, IfOk, MatchOption};
+ghost use Rattle.diag.specs.Refusal.{Refuses};
 ghost use Rattle.serde_json.specs.View.{view as view_of};
 ghost use Rattle.configuration.specs.Configuration.{empty_configuration, Configuration};
 ghost use Rattle.configuration.specs.Form.{KeepsEmpty, IsConfiguration, IsConfigurationText, IsBadConfig};
@@ -63,8 +64,9 @@ impl Config {
     /// The configuration that the JSON value says. A value that says none is refused with the kind `BadConfig`.
     pub fn from_value(alloc: Global, value: &Value) -> Result<Config, DeriveError>
         ensures configured { IfOk result (IsConfiguration (view_of value.now)) }
-        ensures refused { IfErr result (λ e. (e ≡ DeriveError.Memory)
-            ⊎ (IsBadConfig e × ((c : Configuration) → ¬ IsConfiguration (view_of value.now) c))) }
+        ensures refused { Refuses result
+            (λ e. (IsBadConfig e
+            × ((c : Configuration) → ¬ IsConfiguration (view_of value.now) c))) }
     {
         match configured(alloc, value)? {
             Some(config) => Ok(config),
@@ -76,8 +78,8 @@ impl Config {
     /// with the kind `BadConfig`.
     pub fn from_slice(alloc: Global, bytes: &[u8]) -> Result<Config, DeriveError>
         ensures configured { IfOk result (IsConfigurationText bytes.now) }
-        ensures refused { IfErr result (λ e. (e ≡ DeriveError.Memory)
-            ⊎ (IsBadConfig e × ((c : Configuration) → ¬ IsConfigurationText bytes.now c))) }
+        ensures refused { Refuses result
+            (λ e. (IsBadConfig e × ((c : Configuration) → ¬ IsConfigurationText bytes.now c))) }
     {
         if bytes.len() > MAX_BYTES {
             return Err(bad_config(alloc));
@@ -129,7 +131,8 @@ impl Config {
 
 /// The configuration that the value says, where it says one.
 fn configured(alloc: Global, value: &Value) -> Result<Option<Config>, AllocError>
-    ensures { IfOk result (λ found. MatchOption found ((c : Configuration) → ¬ IsConfiguration (view_of value.now) c) (IsConfiguration (view_of value.now))) }
+    ensures { IfOk result (λ found. MatchOption found ((c : Configuration)
+        → ¬ IsConfiguration (view_of value.now) c) (IsConfiguration (view_of value.now))) }
 {
     if !is_object_of(value, &MEMBERS) || !keeps_empty(value) {
         return Ok(None);

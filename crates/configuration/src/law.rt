@@ -7,8 +7,10 @@ use diag::rules_have_own_names;
 
 /// A JSON value says at most one configuration, and so does a text.
 pub fn configurations_are_one()
-    ensures of_value { (value : Data) (c d : Configuration) → IsConfiguration value c → IsConfiguration value d → c ≡ d }
-    ensures of_text { (bytes : List ℕ) (c d : Configuration) → IsConfigurationText bytes c → IsConfigurationText bytes d → c ≡ d }
+    ensures of_value { (value : Data) (c d : Configuration) → IsConfiguration value c
+        → IsConfiguration value d → c ≡ d }
+    ensures of_text { (bytes : List ℕ) (c d : Configuration) → IsConfigurationText bytes c
+        → IsConfigurationText bytes d → c ≡ d }
 {
     rules_have_own_names();
 }

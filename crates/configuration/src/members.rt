@@ -26,7 +26,9 @@ fn is_among(name: &str, names: &[&str]) -> bool
 
 /// Whether the members all have names among these.
 fn are_among(members: &Map<String, Value>, names: &[&str]) -> bool
-    ensures { result ≡ list_all (λ name. list_any (bytes_eq name) (map (λ known. known.now) names.now)) (names_of (members_view members.now.entries)) }
+    ensures { result ≡ list_all
+        (λ name. list_any (bytes_eq name) (map (λ known. known.now) names.now))
+        (names_of (members_view members.now.entries)) }
 {
     for (name, _value) in members.iter() {
         if !is_among(name.as_str(), names) {
@@ -48,8 +50,9 @@ pub fn is_object_of(value: &Value, names: &[&str]) -> bool
 
 /// The text of the member, where it is a text.
 pub fn text_at<'a>(value: &'a Value, name: &str) -> Option<&'a str>
-    ensures { MatchOption result ((text : List ℕ) → get name.now (view value.now) ≢ Some (string text))
-        (λ text. get name.now (view value.now) ≡ Some (string text.now)) }
+    ensures { MatchOption result ((text : List ℕ)
+        → get name.now (view value.now) ≢ Some (string text)) (λ text. get name.now (view value.now)
+        ≡ Some (string text.now)) }
 {
     match value.get(name) {
         Some(member) => member.as_str(),
@@ -59,7 +62,8 @@ pub fn text_at<'a>(value: &'a Value, name: &str) -> Option<&'a str>
 
 /// The whole number that the value is, where it is one from the least to the most.
 fn whole_of(value: &Value, least: usize, most: usize) -> Option<usize>
-    ensures { MatchOption result ((n : ℕ) → ¬ IsWhole least most (view value.now) n) (IsWhole least most (view value.now)) }
+    ensures { MatchOption result ((n : ℕ) → ¬ IsWhole least most (view value.now) n)
+        (IsWhole least most (view value.now)) }
 {
     match value.as_u64() {
         Some(number) => {
@@ -82,7 +86,8 @@ pub fn whole_at(
     most: usize,
     standard: usize,
 ) -> Option<usize>
-    ensures { MatchOption result ((n : ℕ) → ¬ IsGiven (IsWhole least most) standard (get name.now (view value.now)) n)
+    ensures { MatchOption result
+        ((n : ℕ) → ¬ IsGiven (IsWhole least most) standard (get name.now (view value.now)) n)
         (IsGiven (IsWhole least most) standard (get name.now (view value.now))) }
 {
     match value.get(name) {
@@ -93,7 +98,8 @@ pub fn whole_at(
 
 /// What the value says of which instances get a component, where it says so.
 fn collect_of(value: &Value) -> Option<SchemaCollect>
-    ensures { MatchOption result ((collect : AnyCollect) → ¬ IsCollect (view value.now) collect) (IsCollect (view value.now)) }
+    ensures { MatchOption result ((collect : AnyCollect) → ¬ IsCollect (view value.now) collect)
+        (IsCollect (view value.now)) }
 {
     match value.as_str() {
         Some("NonInlined") => Some(SchemaCollect::NonInlined),
@@ -104,7 +110,8 @@ fn collect_of(value: &Value) -> Option<SchemaCollect>
 
 /// Which instances get a component, or without the member those that references reach.
 pub fn collect_at(value: &Value, name: &str) -> Option<SchemaCollect>
-    ensures { MatchOption result ((collect : AnyCollect) → ¬ IsGiven IsCollect NonInlined (get name.now (view value.now)) collect)
+    ensures { MatchOption result ((collect : AnyCollect)
+        → ¬ IsGiven IsCollect NonInlined (get name.now (view value.now)) collect)
         (IsGiven IsCollect NonInlined (get name.now (view value.now))) }
 {
     match value.get(name) {
@@ -135,7 +142,8 @@ fn is_empty_list(value: &Value) -> bool
 
 /// Whether the member is the empty object, or is absent.
 pub fn is_empty_object_at(value: &Value, name: &str) -> bool
-    ensures { IsTrue result ↔ IfSome (get name.now (view value.now)) (λ given. given ≡ object no_members) }
+    ensures { IsTrue result
+        ↔ IfSome (get name.now (view value.now)) (λ given. given ≡ object no_members) }
 {
     match value.get(name) {
         Some(member) => is_empty_object(member),
@@ -145,7 +153,8 @@ pub fn is_empty_object_at(value: &Value, name: &str) -> bool
 
 /// Whether the member is the empty list, or is absent.
 pub fn is_empty_list_at(value: &Value, name: &str) -> bool
-    ensures { IsTrue result ↔ IfSome (get name.now (view value.now)) (λ given. given ≡ array no_items) }
+    ensures { IsTrue result
+        ↔ IfSome (get name.now (view value.now)) (λ given. given ≡ array no_items) }
 {
     match value.get(name) {
         Some(member) => is_empty_list(member),

@@ -22,7 +22,8 @@ const ROW_MEMBERS: [&str; 4] = ["rule", "place", "from", "to"];
 
 /// The rule of a row, where the row names one.
 fn rule_at(value: &Value) -> Option<RenameRule>
-    ensures { MatchOption result ((rule : AnyRule) → get (codes "rule") (view value.now) ≢ Some (string (name_of rule)))
+    ensures { MatchOption result ((rule : AnyRule)
+        → get (codes "rule") (view value.now) ≢ Some (string (name_of rule)))
         (λ rule. get (codes "rule") (view value.now) ≡ Some (string (name_of rule))) }
 {
     match text_at(value, "rule") {
@@ -36,7 +37,8 @@ fn rule_at(value: &Value) -> Option<RenameRule>
 
 /// The place of a row, where the row names one.
 fn place_at(value: &Value) -> Option<RenamePlace>
-    ensures { MatchOption result ((place : AnyPlace) → get (codes "place") (view value.now) ≢ Some (string (place_name place)))
+    ensures { MatchOption result ((place : AnyPlace)
+        → get (codes "place") (view value.now) ≢ Some (string (place_name place)))
         (λ place. get (codes "place") (view value.now) ≡ Some (string (place_name place))) }
 {
     match text_at(value, "place") {
@@ -48,7 +50,9 @@ fn place_at(value: &Value) -> Option<RenamePlace>
 
 /// The row that the value says, where it says one.
 fn row_of(alloc: Global, value: &Value) -> Result<Option<RenameRow>, AllocError>
-    ensures { IfOk result (λ found. MatchOption found ((row : AnyRow) → ¬ IsRow (view value.now) row) (IsRow (view value.now))) }
+    ensures { IfOk result
+        (λ found. MatchOption found ((row : AnyRow) → ¬ IsRow (view value.now) row)
+        (IsRow (view value.now))) }
 {
     if !is_object_of(value, &ROW_MEMBERS) {
         return Ok(None);
@@ -77,7 +81,8 @@ fn row_of(alloc: Global, value: &Value) -> Result<Option<RenameRow>, AllocError>
 
 /// The table of the rows that the items say, where each says one.
 fn table_of(alloc: Global, items: &[Value]) -> Result<Option<RenameTable>, AllocError>
-    ensures { IfOk result (λ found. MatchOption found ((rows : List AnyRow) → ¬ AreRows (items_view items.now) rows) (AreRows (items_view items.now))) }
+    ensures { IfOk result (λ found. MatchOption found ((rows : List AnyRow)
+        → ¬ AreRows (items_view items.now) rows) (AreRows (items_view items.now))) }
 {
     let mut table = RenameTable::new(alloc);
     for item in items {
@@ -91,7 +96,8 @@ fn table_of(alloc: Global, items: &[Value]) -> Result<Option<RenameTable>, Alloc
 
 /// The table that the value says, where it is a list of rows.
 fn renames_of(alloc: Global, value: &Value) -> Result<Option<RenameTable>, AllocError>
-    ensures { IfOk result (λ found. MatchOption found ((rows : List AnyRow) → ¬ IsRenames (view value.now) rows) (IsRenames (view value.now))) }
+    ensures { IfOk result (λ found. MatchOption found ((rows : List AnyRow)
+        → ¬ IsRenames (view value.now) rows) (IsRenames (view value.now))) }
 {
     match value.as_array() {
         Some(items) => table_of(alloc, items),
@@ -105,7 +111,8 @@ pub fn renames_at(
     value: &Value,
     name: &str,
 ) -> Result<Option<RenameTable>, AllocError>
-    ensures { IfOk result (λ found. MatchOption found ((rows : List AnyRow) → ¬ IsGiven IsRenames [] (get name.now (view value.now)) rows)
+    ensures { IfOk result (λ found. MatchOption found ((rows : List AnyRow)
+        → ¬ IsGiven IsRenames [] (get name.now (view value.now)) rows)
         (IsGiven IsRenames [] (get name.now (view value.now)))) }
 {
     match value.get(name) {

@@ -130,7 +130,8 @@ fn kept_member(
     ensures member { IfOk result (λ m.
         member_of (known container.now) (rules_view rules.now) (field_view field.now)
         ≡ Some (member_view m)) }
-    ensures ident { IfOk result (λ m. written_ident container.now.config.now.renames rules.now.rename_all
+    ensures ident { IfOk result
+        (λ m. written_ident container.now.config.now.renames rules.now.rename_all
         (field_view field.now) ≡ Some m.ident) }
     ensures faultless { IfOk result (λ _. RefusesNone
         (IsFaultyMember (known container.now) (rules_view rules.now) (field_view field.now))) }
@@ -153,9 +154,11 @@ pub(crate) fn resolve_member(
     field: &Field,
 ) -> Result<Option<Member>, DeriveError>
     requires { HasName (field_view field.now) }
-    ensures member { IfOk result (λ m. all_of (member_of (known container.now) (rules_view rules.now))
+    ensures member { IfOk result
+        (λ m. all_of (member_of (known container.now) (rules_view rules.now))
         (kept (field_view field.now ∷ [])) ≡ Some (map member_view (cons_option m []))) }
-    ensures ident { IfOk result (λ m. written_idents container.now.config.now.renames rules.now.rename_all
+    ensures ident { IfOk result
+        (λ m. written_idents container.now.config.now.renames rules.now.rename_all
         (kept (field_view field.now ∷ [])) ≡ map (λ n. n.ident) (cons_option m [])) }
     ensures faultless { IfOk result (λ _. AllByRecursion
         (λ f. RefusesNone (IsFaultyMember (known container.now) (rules_view rules.now) f))

@@ -57,9 +57,11 @@ fn resolve_members(
     fields: &[Field],
 ) -> Result<List<Member>, DeriveError>
     requires { AllByRecursion HasName (map field_view fields.now) }
-    ensures members { IfOk result (λ ms. all_of (member_of (known container.now) (rules_view rules.now))
+    ensures members { IfOk result
+        (λ ms. all_of (member_of (known container.now) (rules_view rules.now))
         (kept (map field_view fields.now)) ≡ Some (map member_view ms)) }
-    ensures idents { IfOk result (λ ms. written_idents container.now.config.now.renames rules.now.rename_all
+    ensures idents { IfOk result
+        (λ ms. written_idents container.now.config.now.renames rules.now.rename_all
         (kept (map field_view fields.now)) ≡ map (λ m. m.ident) ms) }
     ensures faultless { IfOk result (λ _. AllByRecursion
         (λ f. RefusesNone (IsFaultyMember (known container.now) (rules_view rules.now) f))
@@ -84,7 +86,8 @@ fn distinct_members(
     fields: &[Field],
 ) -> Result<List<Member>, DeriveError>
     requires { AllByRecursion HasName (map field_view fields.now) }
-    ensures members { IfOk result (λ ms. all_of (member_of (known container.now) (rules_view rules.now))
+    ensures members { IfOk result
+        (λ ms. all_of (member_of (known container.now) (rules_view rules.now))
         (kept (map field_view fields.now)) ≡ Some (map member_view ms)) }
     ensures distinct { IfOk result (λ ms. IsDistinct (member_names (map member_view ms))) }
     ensures faultless { IfOk result (λ _. RefusesNone (AreFaultyMembers (known container.now)
@@ -113,10 +116,13 @@ impl NamedStructSchema {
             (field_rules (items_of root.now)) (named (map field_view fields.now))
             ≡ Some (named_view s)) }
         ensures remarks { IfOk result (λ s. s.remarks ≡ remarks_of (attributes_of root.now)) }
-        ensures distinct { IfOk result (λ s. IsDistinct (member_names (map member_view s.members))) }
-        ensures faultless { IfOk result (λ _. RefusesNone (AreFaultyNamed (known root.now.container.now)
-            (items_of root.now) (map field_view fields.now))) }
-        ensures refused { Refuses result (AreFaultyNamed (known root.now.container.now) (items_of root.now)
+        ensures distinct { IfOk result
+            (λ s. IsDistinct (member_names (map member_view s.members))) }
+        ensures faultless { IfOk result (λ _. RefusesNone
+            (AreFaultyNamed (known root.now.container.now) (items_of root.now)
+            (map field_view fields.now))) }
+        ensures refused { Refuses result
+            (AreFaultyNamed (known root.now.container.now) (items_of root.now)
             (map field_view fields.now)) }
     {
         let rules = parse_container(alloc, root.attributes)?;
@@ -200,7 +206,8 @@ fn object_of(
 impl NamedStructSchema {
     /// The schema of the struct.
     pub(crate) fn term(&self, alloc: Global) -> Result<Term, AllocError>
-        ensures { IfOk result (λ t. term_view t ≡ form_term self.now.remarks (named_view self.now)) }
+        ensures { IfOk result (λ t. term_view t
+            ≡ form_term self.now.remarks (named_view self.now)) }
     {
         let members = self.members.as_slice();
         let notes = noted(alloc, self.remarks.deprecated, &self.remarks.description)?;

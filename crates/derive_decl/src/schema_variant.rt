@@ -33,7 +33,8 @@ pub enum SchemaVariant {
 /// The struct with these fields.
 fn of_fields(alloc: Global, root: &Root<'_>, fields: &Fields) -> Result<SchemaVariant, DeriveError>
     requires { HaveNames (fields_view fields.now) }
-    ensures form { IfOk result (λ v. form_of (known root.now.container.now) (field_rules (items_of root.now))
+    ensures form { IfOk result
+        (λ v. form_of (known root.now.container.now) (field_rules (items_of root.now))
         (fields_view fields.now) ≡ Some (variant_view v)) }
     ensures remarks { IfOk result (λ v. variant_remarks v ≡ remarks_of (attributes_of root.now)) }
     ensures distinct { IfOk result (λ v. IsDistinct (names_of (variant_view v))) }
@@ -63,12 +64,15 @@ impl SchemaVariant {
         requires { IsNamedBody (body_view body.now) }
         ensures form { IfOk result (λ v. body_form (known root.now.container.now)
             (field_rules (items_of root.now)) (body_view body.now) ≡ Some (variant_view v)) }
-        ensures remarks { IfOk result (λ v. variant_remarks v ≡ remarks_of (attributes_of root.now)) }
+        ensures remarks { IfOk result (λ v. variant_remarks v
+            ≡ remarks_of (attributes_of root.now)) }
         ensures distinct { IfOk result (λ v. IsDistinct (names_of (variant_view v))) }
-        ensures faultless { IfOk result (λ _. RefusesNone (IsFaultyBody (known root.now.container.now)
-            (items_of root.now) root.now.ident.now (body_view body.now))) }
-        ensures refused { Refuses result (IsFaultyBody (known root.now.container.now) (items_of root.now)
-            root.now.ident.now (body_view body.now)) }
+        ensures faultless { IfOk result (λ _. RefusesNone
+            (IsFaultyBody (known root.now.container.now) (items_of root.now) root.now.ident.now
+            (body_view body.now))) }
+        ensures refused { Refuses result
+            (IsFaultyBody (known root.now.container.now) (items_of root.now) root.now.ident.now
+            (body_view body.now)) }
     {
         match body {
             Body::Struct(fields) => of_fields(alloc, root, fields),

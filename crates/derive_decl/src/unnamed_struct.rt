@@ -75,9 +75,11 @@ impl UnnamedStructSchema {
             → form_of (known root.now.container.now) rules (unnamed (map field_view fields.now))
             ≡ Some (unnamed_view s)) }
         ensures remarks { IfOk result (λ s. s.remarks ≡ remarks_of (attributes_of root.now)) }
-        ensures faultless { IfOk result (λ _. RefusesNone (AreFaultyTypes (known root.now.container.now)
-            root.now.ident.now (map field_view fields.now))) }
-        ensures refused { Refuses result (AreFaultyTypes (known root.now.container.now) root.now.ident.now
+        ensures faultless { IfOk result (λ _. RefusesNone
+            (AreFaultyTypes (known root.now.container.now) root.now.ident.now
+            (map field_view fields.now))) }
+        ensures refused { Refuses result
+            (AreFaultyTypes (known root.now.container.now) root.now.ident.now
             (map field_view fields.now)) }
     {
         if fields.is_empty() {
@@ -126,7 +128,8 @@ fn list_of_length(
 impl UnnamedStructSchema {
     /// The schema of the struct.
     pub(crate) fn term(&self, alloc: Global) -> Result<Term, AllocError>
-        ensures { IfOk result (λ t. term_view t ≡ form_term self.now.remarks (unnamed_view self.now)) }
+        ensures { IfOk result (λ t. term_view t
+            ≡ form_term self.now.remarks (unnamed_view self.now)) }
     {
         unnamed_term(alloc, &self.remarks, self.types.as_slice())
     }

@@ -30,12 +30,14 @@ fn resolved_of(
     declaration: &Declaration,
 ) -> Result<Resolved, DeriveError>
     requires { IsNamedBody (declaration_view declaration.now).body }
-    ensures resolved { IfOk result (λ s. resolved_of (known container.now) (declaration_view declaration.now)
+    ensures resolved { IfOk result
+        (λ s. resolved_of (known container.now) (declaration_view declaration.now)
         ≡ Some (resolved_view s)) }
     ensures distinct { IfOk result (λ s. IsDistinct (names_of (resolved_view s).form)) }
     ensures faultless { IfOk result (λ _. RefusesNone
         (IsFaultyItem (known container.now) (declaration_view declaration.now))) }
-    ensures refused { Refuses result (IsFaultyItem (known container.now) (declaration_view declaration.now)) }
+    ensures refused { Refuses result
+        (IsFaultyItem (known container.now) (declaration_view declaration.now)) }
 {
     let schema = Schema::new(
         &declaration.body,
@@ -65,10 +67,12 @@ pub fn resolved_declarations(
     ensures names { IfOk result (λ ss. declaration_names (map resolved_view ss)
         ≡ declared_names (declarations_view declarations.now)) }
     ensures distinct { IfOk result (λ ss. MembersDiffer (map resolved_view ss)) }
-    ensures within { IfOk result (λ ss. AreWithin (length (map resolved_view ss)) (map resolved_view ss)) }
+    ensures within { IfOk result
+        (λ ss. AreWithin (length (map resolved_view ss)) (map resolved_view ss)) }
     ensures faultless { IfOk result (λ _. RefusesNone
         (AreFaultyItems config.now.renames (declarations_view declarations.now))) }
-    ensures refused { Refuses result (AreFaultyItems config.now.renames (declarations_view declarations.now)) }
+    ensures refused { Refuses result
+        (AreFaultyItems config.now.renames (declarations_view declarations.now)) }
 {
     resolving::resolved_are_within();
     let mut resolved = List::new(alloc);

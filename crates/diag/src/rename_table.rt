@@ -128,8 +128,8 @@ fn place_of(index: &Index, rule: RenameRule, place: RenamePlace, value: &str) ->
 
 /// The slots of the text that the row is from, with the row's place in its slot where that is free.
 fn slots_with(index: &Index, row: &RenameRow, at: usize) -> Slots
-    ensures { let slots = slots_of (get_by_text index.now row.now.from) in let slot = slot_of row.now.rule row.now.place in
-        result ≡ put_place (get_or slots slot None) slot at slots }
+    ensures { let slots = slots_of (get_by_text index.now row.now.from) in let slot = slot_of
+        row.now.rule row.now.place in result ≡ put_place (get_or slots slot None) slot at slots }
 {
     let mut slots = match index.get(row.from.as_str()) {
         Some(slots) => *slots,

@@ -26,17 +26,20 @@ pub trait Files {
     /// answer leaves the count and the path of the last fault. No call changes a file.
     fn read_file(&mut self, alloc: Global, path: &str, most: usize) -> Result<FileBytes, FileAnswer>
         requires { most + 1 < 2 ^ 64 }
-        ensures bytes { IfOk result (λ bytes. IsHeld (tells self.old) (held self.old path.now) bytes) }
+        ensures bytes { IfOk result (λ bytes.
+            IsHeld (tells self.old) (held self.old path.now) bytes) }
         ensures short { IfOk result (λ bytes. length bytes ≤ most) }
         ensures longer { result ≡ Err FileAnswer.Longer →
-            (text : List ℕ) × IsHeld (tells self.old) (held self.old path.now) text × (most < length text) }
+            (text : List ℕ) × IsHeld (tells self.old) (held self.old path.now) text
+            × (most < length text) }
         ensures missing { IsMissing (tells self.old) (held self.old path.now) →
             (result ≡ Err FileAnswer.Failed) ⊎ (result ≡ Err FileAnswer.Memory) }
         ensures tells_on { tells self.new ≡ tells self.old }
         ensures same { (other : List ℕ) → held self.new other ≡ held self.old other }
         ensures later { faults self.old ≤ faults self.new }
         ensures kept { result ≢ Err FileAnswer.Failed → faults self.new ≡ faults self.old }
-        ensures counted { result ≡ Err FileAnswer.Failed → CountsFault (faults self.old) (faults self.new) }
+        ensures counted { result ≡ Err FileAnswer.Failed →
+            CountsFault (faults self.old) (faults self.new) }
         ensures path_kept { result ≢ Err FileAnswer.Failed → failed self.new ≡ failed self.old }
         ensures path { result ≡ Err FileAnswer.Failed → failed self.new ≡ Some path.now };
 }

@@ -34,7 +34,8 @@ impl HonestFiles {
     /// These files, each at its path. Of equal paths the first counts.
     pub fn new(files: Vec<(String, Vec<u8>)>) -> HonestFiles
         ensures tells { IsTrue (⟦<HonestFiles as Files>⟧.tells result) }
-        ensures held { (path : List ℕ) → ⟦<HonestFiles as Files>⟧.held result path ≡ first_at files.items path }
+        ensures held { (path : List ℕ) →
+            ⟦<HonestFiles as Files>⟧.held result path ≡ first_at files.items path }
         ensures failed { ⟦<HonestFiles as Files>⟧.failed result ≡ None }
         ensures faults { ⟦<HonestFiles as Files>⟧.faults result ≡ 0 }
     {
@@ -67,9 +68,12 @@ impl Files for HonestFiles {
             (result ≡ Err FileAnswer.Failed) ⊎ (result ≡ Err FileAnswer.Memory) }
         ensures same { (other : List ℕ) → honest_held self.new other ≡ honest_held self.old other }
         ensures later { honest_faults self.old ≤ honest_faults self.new }
-        ensures kept { result ≢ Err FileAnswer.Failed → honest_faults self.new ≡ honest_faults self.old }
-        ensures counted { result ≡ Err FileAnswer.Failed → CountsFault (honest_faults self.old) (honest_faults self.new) }
-        ensures path_kept { result ≢ Err FileAnswer.Failed → honest_failed self.new ≡ honest_failed self.old }
+        ensures kept { result ≢ Err FileAnswer.Failed →
+            honest_faults self.new ≡ honest_faults self.old }
+        ensures counted { result ≡ Err FileAnswer.Failed →
+            CountsFault (honest_faults self.old) (honest_faults self.new) }
+        ensures path_kept { result ≢ Err FileAnswer.Failed →
+            honest_failed self.new ≡ honest_failed self.old }
         ensures path { result ≡ Err FileAnswer.Failed → honest_failed self.new ≡ Some path.now }
 
         // a call fails only where no file is held at the path
@@ -98,7 +102,8 @@ impl MemoryFiles {
     /// fail, and so do those at a path that holds no file.
     pub fn new(files: Vec<(String, Vec<u8>)>, fails: Vec<usize>) -> MemoryFiles
         ensures tells { IsTrue (⟦<MemoryFiles as Files>⟧.tells result) }
-        ensures held { (path : List ℕ) → ⟦<MemoryFiles as Files>⟧.held result path ≡ first_at files.items path }
+        ensures held { (path : List ℕ) →
+            ⟦<MemoryFiles as Files>⟧.held result path ≡ first_at files.items path }
         ensures failed { ⟦<MemoryFiles as Files>⟧.failed result ≡ None }
         ensures faults { ⟦<MemoryFiles as Files>⟧.faults result ≡ 0 }
         ensures fails { memory_fails result ≡ fails.items }
@@ -134,16 +139,20 @@ impl Files for MemoryFiles {
             (result ≡ Err FileAnswer.Failed) ⊎ (result ≡ Err FileAnswer.Memory) }
         ensures same { (other : List ℕ) → memory_held self.new other ≡ memory_held self.old other }
         ensures later { memory_faults self.old ≤ memory_faults self.new }
-        ensures kept { result ≢ Err FileAnswer.Failed → memory_faults self.new ≡ memory_faults self.old }
-        ensures counted { result ≡ Err FileAnswer.Failed → CountsFault (memory_faults self.old) (memory_faults self.new) }
-        ensures path_kept { result ≢ Err FileAnswer.Failed → memory_failed self.new ≡ memory_failed self.old }
+        ensures kept { result ≢ Err FileAnswer.Failed →
+            memory_faults self.new ≡ memory_faults self.old }
+        ensures counted { result ≡ Err FileAnswer.Failed →
+            CountsFault (memory_faults self.old) (memory_faults self.new) }
+        ensures path_kept { result ≢ Err FileAnswer.Failed →
+            memory_failed self.new ≡ memory_failed self.old }
         ensures path { result ≡ Err FileAnswer.Failed → memory_failed self.new ≡ Some path.now }
 
         // a call fails where its number is among those or no file is held at the path, and nowhere else
         ensures to_fail { Contains (memory_fails self.old) (memory_calls self.old) →
             (result ≡ Err FileAnswer.Failed) ⊎ (result ≡ Err FileAnswer.Memory) }
         ensures failing { result ≡ Err FileAnswer.Failed →
-            Contains (memory_fails self.old) (memory_calls self.old) ⊎ (memory_held self.old path.now ≡ None) }
+            Contains (memory_fails self.old) (memory_calls self.old)
+            ⊎ (memory_held self.old path.now ≡ None) }
         ensures call { MemoryCounts self.old self.new }
     {
         let call = self.calls;

@@ -20,7 +20,8 @@ pub enum Depth {
 /// The first of the targets that is not marked.
 fn unmarked_target(targets: &[usize], marks: &[bool]) -> Option<usize>
     requires { (t : ℕ) → IsAmong t targets.now → t < length marks.now }
-    ensures { MatchOption result (IsTrue (are_marked marks.now targets.now)) (λ t. IsAmong t targets.now × (mark marks.now t ≡ false)) }
+    ensures { MatchOption result (IsTrue (are_marked marks.now targets.now))
+        (λ t. IsAmong t targets.now × (mark marks.now t ≡ false)) }
 {
     for target in targets {
         if !marks[*target] {
@@ -32,7 +33,9 @@ fn unmarked_target(targets: &[usize], marks: &[bool]) -> Option<usize>
 
 /// The first declaration that is not marked.
 fn unmarked(marks: &[bool]) -> Option<usize>
-    ensures { MatchOption result ((d : ℕ) → d < length marks.now → IsTrue (mark marks.now d)) (λ d. (d < length marks.now) × (mark marks.now d ≡ false)) }
+    ensures { MatchOption result
+        ((d : ℕ) → d < length marks.now → IsTrue (mark marks.now d))
+        (λ d. (d < length marks.now) × (mark marks.now d ≡ false)) }
 {
     for (place, mark) in marks.iter().enumerate() {
         if !*mark {
@@ -73,7 +76,8 @@ fn next_marks(
 /// Adds the declarations that are marked and were not before.
 fn push_marked(order: &mut List<usize>, before: &[bool], marks: &[bool]) -> Result<(), AllocError>
     requires { length before.now ≡ length marks.now }
-    ensures { OnOk result (order.new ≡ order.old ++ new_marks before.now marks.now (length marks.now)) }
+    ensures { OnOk result
+        (order.new ≡ order.old ++ new_marks before.now marks.now (length marks.now)) }
 {
     for place in 0..marks.len() {
         if marks[place] && !before[place] {

@@ -41,7 +41,8 @@ impl Leaf {
     #[tactic(auto, using(crate::proofs::Names::exact_of))]
     pub fn named(name: &str) -> Option<Leaf>
         ensures found { result ≡ leaf_of name.now }
-        ensures exact { MatchOption result ((leaf : Leaf) → name_of leaf ≢ name.now) (λ leaf. name_of leaf ≡ name.now) }
+        ensures exact { MatchOption result ((leaf : Leaf) → name_of leaf ≢ name.now)
+            (λ leaf. name_of leaf ≡ name.now) }
     {
         leaf_among(name)
     }

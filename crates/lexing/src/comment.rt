@@ -24,7 +24,9 @@ pub enum Mark {
 
 /// The mark at the front, and what follows it.
 fn first_mark(text: &str) -> Option<(Mark, &str)>
-    ensures { MatchOption result (chars text.now ≡ []) (λ p. IsMark p.0 (chars text.now) (chars p.1.now) × (length p.1.now < length text.now) × IsUtf8 p.1.now) }
+    ensures { MatchOption result (chars text.now ≡ [])
+        (λ p. IsMark p.0 (chars text.now) (chars p.1.now) × (length p.1.now < length text.now)
+        × IsUtf8 p.1.now) }
 {
     match after_two('/', '*', text) {
         Some(rest) => Some((Mark::Opens, rest)),

@@ -12,5 +12,6 @@ pub fn one_cut()
 
 /// Where a bracket of a source opens too deep, the token trees nest deeper than brackets may.
 pub fn deep_brackets_nest_deep()
-    ensures { (source : List ℕ) (trees : Trees) (span : Span) → IsCut source trees → OpensTooDeep source span → most_open < depth trees }
+    ensures { (source : List ℕ) (trees : Trees) (span : Span) → IsCut source trees
+        → OpensTooDeep source span → most_open < depth trees }
 {}

@@ -1,6 +1,7 @@
 //! From a source to its token trees.
 
 ghost use Rattle.std.specs.Prelude.{◌≡◌, ◌≤◌, ◌⊎◌, IfOk, IfErr};
+ghost use Rattle.diag.specs.Refusal.{Refuses};
 ghost use Rattle.tokens.specs.Trees.{trees_view, depth};
 ghost use Rattle.lexing.specs.Cut.{most_open, IsCut, IsDepthError, IsSyntaxError, IsUnread};
 
@@ -21,7 +22,7 @@ use tokens::TokenTree;
 pub fn lex(alloc: Global, source: &str) -> Result<List<TokenTree>, DeriveError>
     ensures found { IfOk result (λ trees. IsCut source.now (trees_view trees)) }
     ensures shallow { IfOk result (λ trees. depth (trees_view trees) ≤ most_open) }
-    ensures refused { IfErr result (λ e. (e ≡ DeriveError.Memory) ⊎ IsDepthError source.now e ⊎ IsSyntaxError source.now e) }
+    ensures refused { Refuses result (λ e. IsDepthError source.now e ⊎ IsSyntaxError source.now e) }
 {
     match token_trees(alloc, source) {
         Ok(trees) => Ok(trees),

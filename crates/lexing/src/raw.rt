@@ -15,7 +15,8 @@ pub const MORE_HASHES: usize = 256;
 
 /// How many signs `#` stand before a quote at the front.
 fn hashes(text: &str) -> Option<usize>
-    ensures { MatchOption result (hashes_at 0 (chars text.now) ≡ None) (λ count. (body : List ℕ) × (hashes_at 0 (chars text.now) ≡ Some (count, body))) }
+    ensures { MatchOption result (hashes_at 0 (chars text.now) ≡ None) (λ count. (body : List ℕ)
+        × (hashes_at 0 (chars text.now) ≡ Some (count, body))) }
 {
     let mut rest = text;
     let mut count: usize = 0;
@@ -31,7 +32,8 @@ fn hashes(text: &str) -> Option<usize>
 
 /// How many signs `#` stand before a quote, after an `r` at the front.
 fn hashes_after_letter(text: &str) -> Option<usize>
-    ensures { MatchOption result (after_letter (chars text.now) ≡ None) (λ count. (body : List ℕ) × (after_letter (chars text.now) ≡ Some (count, body))) }
+    ensures { MatchOption result (after_letter (chars text.now) ≡ None) (λ count. (body : List ℕ)
+        × (after_letter (chars text.now) ≡ Some (count, body))) }
 {
     match split_first_char(text) {
         Some((c, rest)) if c == 'r' => hashes(rest),
@@ -41,7 +43,8 @@ fn hashes_after_letter(text: &str) -> Option<usize>
 
 /// How many signs `#` the raw string has that opens at the front.
 fn opening_hashes(text: &str) -> Option<usize>
-    ensures { MatchOption result (opening_at (chars text.now) ≡ None) (λ count. (body : List ℕ) × (opening_at (chars text.now) ≡ Some (count, body))) }
+    ensures { MatchOption result (opening_at (chars text.now) ≡ None) (λ count. (body : List ℕ)
+        × (opening_at (chars text.now) ≡ Some (count, body))) }
 {
     match split_first_char(text) {
         Some((c, rest)) if c == 'r' => hashes(rest),

@@ -107,7 +107,8 @@ fn after_colon(text: &str) -> &str
 
 /// The comment or the sign whose first slash stands before the text, and what follows it.
 fn after_slash(text: &str) -> (PieceKind, &str)
-    ensures value { or_sign (chars text.now) (comment_at (chars text.now)) ≡ Some (result.0, chars result.1.now) }
+    ensures value { or_sign (chars text.now) (comment_at (chars text.now))
+        ≡ Some (result.0, chars result.1.now) }
     ensures shorter { length result.1.now ≤ length text.now }
     ensures utf8 { IsUtf8 result.1.now }
 {

@@ -39,7 +39,9 @@ pub fn begins_with(first: char, text: &str) -> bool
 
 /// What follows the two characters, where the text begins with them.
 pub fn after_two(first: char, second: char, text: &str) -> Option<&str>
-    ensures { MatchOption result (begins_with_two first second (chars text.now) ≡ false) (λ rest. (chars text.now ≡ first ∷ second ∷ chars rest.now) × (length rest.now < length text.now) × IsUtf8 rest.now) }
+    ensures { MatchOption result (begins_with_two first second (chars text.now) ≡ false)
+        (λ rest. (chars text.now ≡ first ∷ second ∷ chars rest.now)
+        × (length rest.now < length text.now) × IsUtf8 rest.now) }
 {
     match split_first_char(text) {
         Some((c, rest)) if c == first => match split_first_char(rest) {

@@ -11,5 +11,6 @@ ghost use Rattle.literal_values.specs.Strings.{IsPlainString, IsTextOf};
 pub fn texts_are_said()
     ensures said { (t : Token) (text : List ℕ) → text_value t ≡ Some text → IsTextOf t text }
     ensures read { (t : Token) (text : List ℕ) → IsTextOf t text → text_value t ≡ Some text }
-    ensures all { (t : Token) → t.kind ≡ Literal → IsPlainString (chars t.text) → IsSome (text_value t) }
+    ensures all { (t : Token) → t.kind ≡ Literal → IsPlainString (chars t.text)
+        → IsSome (text_value t) }
 {}

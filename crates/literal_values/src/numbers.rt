@@ -91,7 +91,9 @@ fn number_in(base: u32, text: &[u8]) -> Option<u64>
 fn with_digit(base: u32, number: u64, byte: u8) -> Option<u64>
     requires least { 2 ≤ base }
     requires most { base ≤ 36 }
-    ensures { SomeIff result ((digit_value byte < base) × (number * base + digit_value byte < 2 ^ 64)) (number * base + digit_value byte) }
+    ensures { SomeIff result
+        ((digit_value byte < base) × (number * base + digit_value byte < 2 ^ 64))
+        (number * base + digit_value byte) }
 {
     let digit = char::from(byte).to_digit(base)?;
     number

@@ -13,7 +13,9 @@ const MAX_HASHES: usize = 255;
 
 /// How many signs `#` follow the `r`, and what follows the quote after them.
 pub fn opened_raw(text: &str) -> Option<(usize, &str)>
-    ensures { MatchOption result (raw_string 0 (chars text.now) ≡ None) (λ o. (raw_string 0 (chars text.now) ≡ raw_text o.0 (chars o.1.now)) × IsUtf8 o.1.now) }
+    ensures { MatchOption result (raw_string 0 (chars text.now) ≡ None)
+        (λ o. (raw_string 0 (chars text.now) ≡ raw_text o.0 (chars o.1.now))
+        × IsUtf8 o.1.now) }
 {
     let mut rest = text;
     let mut hashes = 0;

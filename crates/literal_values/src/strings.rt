@@ -42,7 +42,8 @@ fn piece_at(quoting: Quoting, text: &str) -> Option<Piece<'_>>
 
 /// The last piece, where nothing follows it.
 pub fn last_piece(rest: &str) -> Option<Piece<'_>>
-    ensures { MatchOption result (ended (chars rest.now) ≡ None) (λ piece. (piece ≡ Piece.End) × (ended (chars rest.now) ≡ Some [])) }
+    ensures { MatchOption result (ended (chars rest.now) ≡ None)
+        (λ piece. (piece ≡ Piece.End) × (ended (chars rest.now) ≡ Some [])) }
 {
     match split_first_char(rest) {
         Some(_) => None,
@@ -52,7 +53,9 @@ pub fn last_piece(rest: &str) -> Option<Piece<'_>>
 
 /// How the string is written, and what follows its first quote; `None` where no string begins.
 fn opened(text: &str) -> Option<(Quoting, &str)>
-    ensures { MatchOption result (string_value (chars text.now) ≡ None) (λ o. (string_value (chars text.now) ≡ quoted o.0 (chars o.1.now)) × IsUtf8 o.1.now) }
+    ensures { MatchOption result (string_value (chars text.now) ≡ None)
+        (λ o. (string_value (chars text.now) ≡ quoted o.0 (chars o.1.now))
+        × IsUtf8 o.1.now) }
 {
     match split_first_char(text)? {
         ('"', rest) => Some((Quoting::Escaped, rest)),

@@ -49,7 +49,9 @@ fn after_first(first: char, text: &str) -> Option<&str>
 
 /// What follows the literal at the front, where its suffix would begin.
 fn after_form(text: &str) -> Option<&str>
-    ensures { MatchOption result (form_at (chars text.now) ≡ None) (λ rest. (form_at (chars text.now) ≡ Some (chars rest.now)) × (length rest.now < length text.now) × IsUtf8 rest.now) }
+    ensures { MatchOption result (form_at (chars text.now) ≡ None)
+        (λ rest. (form_at (chars text.now) ≡ Some (chars rest.now))
+        × (length rest.now < length text.now) × IsUtf8 rest.now) }
 {
     let (first, rest) = split_first_char(text)?;
     if is_digit(first) {
@@ -74,7 +76,9 @@ fn after_suffix(text: &str) -> &str
 /// What follows the longest literal at the front of the text, with its suffix; `None` where no
 /// literal begins there.
 pub fn after_literal(text: &str) -> Option<&str>
-    ensures { MatchOption result (literal_at (chars text.now) ≡ None) (λ rest. (literal_at (chars text.now) ≡ Some (chars rest.now)) × (length rest.now < length text.now) × IsUtf8 rest.now) }
+    ensures { MatchOption result (literal_at (chars text.now) ≡ None)
+        (λ rest. (literal_at (chars text.now) ≡ Some (chars rest.now))
+        × (length rest.now < length text.now) × IsUtf8 rest.now) }
 {
     let rest = after_form(text)?;
     Some(after_suffix(rest))

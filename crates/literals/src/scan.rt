@@ -35,7 +35,9 @@ impl Run for LiteralRun {
 
 /// The first character, and what follows it; `None` where the text is empty.
 pub fn split_first_char(text: &str) -> Option<(char, &str)>
-    ensures { MatchOption result (chars text.now ≡ []) (λ p. (chars text.now ≡ p.0 ∷ chars p.1.now) × (length p.1.now < length text.now) × IsUtf8 p.1.now) }
+    ensures { MatchOption result (chars text.now ≡ [])
+        (λ p. (chars text.now ≡ p.0 ∷ chars p.1.now)
+        × (length p.1.now < length text.now) × IsUtf8 p.1.now) }
 {
     let mut chars = text.chars();
     match chars.next() {

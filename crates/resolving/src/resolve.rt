@@ -1,7 +1,8 @@
 //! Written types resolved.
 
-ghost use Rattle.std.specs.Prelude.{◌≡◌, ◌≤◌, ◌∷◌, ◌⊎◌, IfOk, IfErr, Some};
+ghost use Rattle.std.specs.Prelude.{◌≡◌, ◌≤◌, ◌∷◌, IfOk, Some};
 ghost use Rattle.std.specs.BTreeMap.{get_by_text};
+ghost use Rattle.diag.specs.Refusal.{Refuses};
 ghost use Rattle.open_types.specs.declared.open_type.ListHead.TheVariants as lists;
 ghost use Rattle.open_types.specs.Open.{open_view, opens_view, items};
 ghost use Rattle.written_types.specs.Written.{written_view, path_view, segment_view, arguments_view, writtens_view};
@@ -33,9 +34,12 @@ pub fn resolve_type(
     places: &BTreeMap<String, usize>,
     ty: &WrittenType,
 ) -> Result<OpenType, DeriveError>
-    ensures resolved { IfOk result (λ t. type_of (get_by_text places.now) (written_view ty.now) ≡ Some (open_view t)) }
+    ensures resolved { IfOk result (λ t. type_of (get_by_text places.now) (written_view ty.now)
+        ≡ Some (open_view t)) }
     ensures small { IfOk result (λ _. size (written_view ty.now) ≤ 256) }
-    ensures refused { IfErr result (λ e. (e ≡ DeriveError.Memory) ⊎ ((fault : AnyFault) × IsFault (get_by_text places.now) (written_view ty.now) fault × IsRefusedFor fault e)) }
+    ensures refused { Refuses result
+        (λ e. ((fault : AnyFault) × IsFault (get_by_text places.now) (written_view ty.now) fault
+        × IsRefusedFor fault e)) }
 {
     match left_after(ty, MAX_NAMES) {
         None => Err(type_size(alloc, span_of(ty))),
@@ -49,8 +53,10 @@ fn resolve_whole(
     places: &BTreeMap<String, usize>,
     ty: &WrittenType,
 ) -> Result<OpenType, DeriveError>
-    ensures resolved { IfOk result (λ t. type_of (get_by_text places.now) (written_view ty.now) ≡ Some (open_view t)) }
-    ensures refused { IfErr result (λ e. (e ≡ DeriveError.Memory) ⊎ AreAtFault (get_by_text places.now) (names_in (written_view ty.now)) e) }
+    ensures resolved { IfOk result (λ t. type_of (get_by_text places.now) (written_view ty.now)
+        ≡ Some (open_view t)) }
+    ensures refused { Refuses result
+        (AreAtFault (get_by_text places.now) (names_in (written_view ty.now))) }
 {
     match ty {
         WrittenType::Path(path) | WrittenType::TraitObject(path, _) => {
@@ -91,8 +97,10 @@ fn resolve_path(
     places: &BTreeMap<String, usize>,
     path: &Path,
 ) -> Result<OpenType, DeriveError>
-    ensures resolved { IfOk result (λ t. path_type (get_by_text places.now) (path_view path.now) ≡ Some (open_view t)) }
-    ensures refused { IfErr result (λ e. (e ≡ DeriveError.Memory) ⊎ AreAtFault (get_by_text places.now) (names_in_path (path_view path.now)) e) }
+    ensures resolved { IfOk result (λ t. path_type (get_by_text places.now) (path_view path.now)
+        ≡ Some (open_view t)) }
+    ensures refused { Refuses result
+        (AreAtFault (get_by_text places.now) (names_in_path (path_view path.now))) }
 {
     match path.segments.as_slice() {
         [.., segment] => resolve_segment(alloc, places, segment),
@@ -106,8 +114,9 @@ fn resolve_nameless(
     places: &BTreeMap<String, usize>,
     span: Span,
 ) -> Result<OpenType, DeriveError>
-    ensures resolved { IfOk result (λ t. segment_type (get_by_text places.now) (nameless span) ≡ Some (open_view t)) }
-    ensures refused { IfErr result (λ e. (e ≡ DeriveError.Memory) ⊎ IsAtFault (get_by_text places.now) (nameless span) e) }
+    ensures resolved { IfOk result (λ t. segment_type (get_by_text places.now) (nameless span)
+        ≡ Some (open_view t)) }
+    ensures refused { Refuses result (IsAtFault (get_by_text places.now) (nameless span)) }
 {
     let segment = PathSegment {
         ident: Ident {
@@ -126,8 +135,12 @@ fn resolve_segment(
     places: &BTreeMap<String, usize>,
     segment: &PathSegment,
 ) -> Result<OpenType, DeriveError>
-    ensures resolved { IfOk result (λ t. segment_type (get_by_text places.now) (segment_view segment.now) ≡ Some (open_view t)) }
-    ensures refused { IfErr result (λ e. (e ≡ DeriveError.Memory) ⊎ AreAtFault (get_by_text places.now) (segment_view segment.now ∷ names_in_segment (segment_view segment.now)) e) }
+    ensures resolved { IfOk result
+        (λ t. segment_type (get_by_text places.now) (segment_view segment.now)
+        ≡ Some (open_view t)) }
+    ensures refused { Refuses result
+        (AreAtFault (get_by_text places.now)
+        (segment_view segment.now ∷ names_in_segment (segment_view segment.now))) }
 {
     let arguments = match &segment.arguments {
         None => List::new(alloc),
@@ -143,9 +156,13 @@ fn resolve_name(
     segment: &PathSegment,
     arguments: List<OpenType>,
 ) -> Result<OpenType, DeriveError>
-    requires { segment_arguments (get_by_text places.now) (segment_view segment.now) ≡ Some (opens_view arguments) }
-    ensures resolved { IfOk result (λ t. segment_type (get_by_text places.now) (segment_view segment.now) ≡ Some (open_view t)) }
-    ensures refused { IfErr result (λ e. (e ≡ DeriveError.Memory) ⊎ IsAtFault (get_by_text places.now) (segment_view segment.now) e) }
+    requires { segment_arguments (get_by_text places.now) (segment_view segment.now)
+        ≡ Some (opens_view arguments) }
+    ensures resolved { IfOk result
+        (λ t. segment_type (get_by_text places.now) (segment_view segment.now)
+        ≡ Some (open_view t)) }
+    ensures refused { Refuses result
+        (IsAtFault (get_by_text places.now) (segment_view segment.now)) }
 {
     let meaning = segment_meaning(places, segment);
     match meant(alloc, meaning, arguments)? {
@@ -164,8 +181,12 @@ fn resolve_arguments(
     places: &BTreeMap<String, usize>,
     arguments: &[GenericArgument],
 ) -> Result<List<OpenType>, DeriveError>
-    ensures resolved { IfOk result (λ ts. argument_types (get_by_text places.now) (arguments_view arguments.now) ≡ Some (opens_view ts)) }
-    ensures refused { IfErr result (λ e. (e ≡ DeriveError.Memory) ⊎ AreAtFault (get_by_text places.now) (names_in_arguments (arguments_view arguments.now)) e) }
+    ensures resolved { IfOk result
+        (λ ts. argument_types (get_by_text places.now) (arguments_view arguments.now)
+        ≡ Some (opens_view ts)) }
+    ensures refused { Refuses result
+        (AreAtFault (get_by_text places.now)
+        (names_in_arguments (arguments_view arguments.now))) }
 {
     let mut types = List::new(alloc);
     for argument in arguments {
@@ -184,8 +205,11 @@ fn resolve_types(
     places: &BTreeMap<String, usize>,
     types: &[WrittenType],
 ) -> Result<List<OpenType>, DeriveError>
-    ensures resolved { IfOk result (λ ts. all_types (get_by_text places.now) (writtens_view types.now) ≡ Some (opens_view ts)) }
-    ensures refused { IfErr result (λ e. (e ≡ DeriveError.Memory) ⊎ AreAtFault (get_by_text places.now) (names_in_types (writtens_view types.now)) e) }
+    ensures resolved { IfOk result
+        (λ ts. all_types (get_by_text places.now) (writtens_view types.now)
+        ≡ Some (opens_view ts)) }
+    ensures refused { Refuses result
+        (AreAtFault (get_by_text places.now) (names_in_types (writtens_view types.now))) }
 {
     let mut resolved = List::new(alloc);
     for ty in types {

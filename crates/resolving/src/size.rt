@@ -24,7 +24,8 @@ pub(crate) fn span_of(ty: &WrittenType) -> Span
 /// How many of `left` names are left after those of the type; nothing where it has more.
 #[cycle(size)]
 pub(crate) fn left_after(ty: &WrittenType, left: usize) -> Option<usize>
-    ensures { MatchOption result (left < size (written_view ty.now)) (λ rest. rest + size (written_view ty.now) ≡ left) }
+    ensures { MatchOption result (left < size (written_view ty.now))
+        (λ rest. rest + size (written_view ty.now) ≡ left) }
 {
     match ty {
         WrittenType::Path(path) | WrittenType::TraitObject(path, _) => left_after_path(path, left),
@@ -38,7 +39,8 @@ pub(crate) fn left_after(ty: &WrittenType, left: usize) -> Option<usize>
 
 #[cycle(size)]
 fn left_after_path(path: &Path, left: usize) -> Option<usize>
-    ensures { MatchOption result (left < path_size (path_view path.now)) (λ rest. rest + path_size (path_view path.now) ≡ left) }
+    ensures { MatchOption result (left < path_size (path_view path.now))
+        (λ rest. rest + path_size (path_view path.now) ≡ left) }
 {
     let left = left.checked_sub(1)?;
     match path.segments.as_slice() {
@@ -49,7 +51,8 @@ fn left_after_path(path: &Path, left: usize) -> Option<usize>
 
 #[cycle(size)]
 fn left_after_segment(segment: &PathSegment, left: usize) -> Option<usize>
-    ensures { MatchOption result (left < segment_size (segment_view segment.now)) (λ rest. rest + segment_size (segment_view segment.now) ≡ left) }
+    ensures { MatchOption result (left < segment_size (segment_view segment.now))
+        (λ rest. rest + segment_size (segment_view segment.now) ≡ left) }
 {
     match &segment.arguments {
         None => Some(left),
@@ -59,7 +62,8 @@ fn left_after_segment(segment: &PathSegment, left: usize) -> Option<usize>
 
 #[cycle(size)]
 fn left_after_arguments(arguments: &[GenericArgument], left: usize) -> Option<usize>
-    ensures { MatchOption result (left < arguments_size (arguments_view arguments.now)) (λ rest. rest + arguments_size (arguments_view arguments.now) ≡ left) }
+    ensures { MatchOption result (left < arguments_size (arguments_view arguments.now))
+        (λ rest. rest + arguments_size (arguments_view arguments.now) ≡ left) }
 {
     let mut rest = left;
     for argument in arguments {
@@ -72,7 +76,8 @@ fn left_after_arguments(arguments: &[GenericArgument], left: usize) -> Option<us
 
 #[cycle(size)]
 fn left_after_types(types: &[WrittenType], left: usize) -> Option<usize>
-    ensures { MatchOption result (left < sizes (writtens_view types.now)) (λ rest. rest + sizes (writtens_view types.now) ≡ left) }
+    ensures { MatchOption result (left < sizes (writtens_view types.now))
+        (λ rest. rest + sizes (writtens_view types.now) ≡ left) }
 {
     let mut rest = left;
     for ty in types {

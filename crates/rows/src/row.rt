@@ -24,7 +24,8 @@ pub struct Row {
 
 /// The text of an answer: a text stands for itself, any other JSON for its compact text.
 fn answer_text(alloc: Global, answer: &Value) -> Result<String, AllocError>
-    ensures { IfOk result (λ text. has_float (view answer.now) ≡ false → string_bytes text ≡ answer_text (view answer.now)) }
+    ensures { IfOk result (λ text. has_float (view answer.now) ≡ false → string_bytes text
+        ≡ answer_text (view answer.now)) }
 {
     match answer {
         Value::String(text) => text.clone(),
@@ -34,7 +35,8 @@ fn answer_text(alloc: Global, answer: &Value) -> Result<String, AllocError>
 
 /// The row of a list's parts, where they are those of one.
 fn row_of(alloc: Global, parts: &[Value]) -> Result<Option<Row>, AllocError>
-    ensures { IfOk result (λ found. MatchOption found (AreOfNone (items_view parts.now)) (AreOf (items_view parts.now))) }
+    ensures { IfOk result (λ found. MatchOption found (AreOfNone (items_view parts.now))
+        (AreOf (items_view parts.now))) }
 {
     if parts.len() != PARTS {
         return Ok(None);
@@ -79,7 +81,8 @@ impl Row {
     /// The row of a line, in JSON the list of the call's name, what it is given and its answer. An empty line, and one
     /// that begins with `#`, has none. Any other line that is no such list is refused.
     pub fn from_line(alloc: Global, line: &str) -> Result<Option<Row>, RowError>
-        ensures row { IfOk result (λ found. MatchOption found (is_remark line.now ≡ true) (IsLineOf line.now)) }
+        ensures row { IfOk result
+            (λ found. MatchOption found (is_remark line.now ≡ true) (IsLineOf line.now)) }
         ensures refused { IfErr result (IsRefused line.now) }
     {
         if is_remark(line) {

@@ -50,8 +50,10 @@ fn place_of(names: &[Text], name: &str) -> Result<usize, usize>
     requires { IsInOrder names.now }
     ensures bound { MatchResult result (λ at. at < length names.now) (λ at. at ≤ length names.now) }
     ensures found { IfOk result (λ at. get_or names.now at [] ≡ name.now) }
-    ensures before { (i at : ℕ) → result ≡ Err at → i < at → slice_cmp nat_cmp (get_or names.now i []) name.now ≡ Less }
-    ensures after { (i at : ℕ) → result ≡ Err at → at ≤ i → i < length names.now → slice_cmp nat_cmp (get_or names.now i []) name.now ≡ Greater }
+    ensures before { (i at : ℕ) → result ≡ Err at → i < at
+        → slice_cmp nat_cmp (get_or names.now i []) name.now ≡ Less }
+    ensures after { (i at : ℕ) → result ≡ Err at → at ≤ i → i < length names.now
+        → slice_cmp nat_cmp (get_or names.now i []) name.now ≡ Greater }
 {
     names.binary_search_by(
         |other: &Text| -> Ordering
@@ -99,7 +101,8 @@ impl Components {
     /// changes where memory is wanted.
     pub fn insert(&mut self, name: Text, schema: Schema) -> Result<bool, AllocError>
         ensures new { IfOk result (λ added. IsTrue added ↔ (find name self.old ≡ None)) }
-        ensures entries { IfOk result (λ added. self.new ≡ (if added then with_entry name (schema_view schema) self.old else self.old)) }
+        ensures entries { IfOk result (λ added. self.new
+            ≡ (if added then with_entry name (schema_view schema) self.old else self.old)) }
         ensures err { OnErr result (self.new ≡ self.old) }
     {
         match place_of(self.names.as_slice(), name.as_str()) {
@@ -131,7 +134,8 @@ impl Components {
 
     /// The forms of the schemas under their names.
     fn schemas(&self, alloc: Global) -> Result<Map<String, Value>, AllocError>
-        ensures { IfOk result (λ m. members_view m.entries ≡ members_data (put_all (map_list entry_form self.now) no_members)) }
+        ensures { IfOk result (λ m. members_view m.entries
+            ≡ members_data (put_all (map_list entry_form self.now) no_members)) }
     {
         schema_values(alloc, self.names.as_slice(), self.schemas.as_slice())
     }
@@ -162,7 +166,10 @@ fn schema_values(
     schemas: &[Schema],
 ) -> Result<Map<String, Value>, AllocError>
     requires { length names.now ≡ length schemas.now }
-    ensures { IfOk result (λ m. members_view m.entries ≡ members_data (put_all (map_list entry_form (entries_of names.now (map_list schema_view schemas.now))) no_members)) }
+    ensures { IfOk result (λ m. members_view m.entries
+        ≡ members_data
+        (put_all (map_list entry_form (entries_of names.now (map_list schema_view schemas.now)))
+        no_members)) }
 {
     let mut values = Map::new(alloc);
     for i in 0..names.len() {

@@ -67,7 +67,8 @@ fn text_values(alloc: Global, texts: &[Text]) -> Result<Vec<Value>, AllocError>
 
 /// The value of `required`, where a name is required.
 fn required_value(alloc: Global, required: &[Text]) -> Result<Option<Value>, AllocError>
-    ensures { IfOk result (λ value. option_map view value ≡ option_map data_of (required_form required.now)) }
+    ensures { IfOk result (λ value. option_map view value
+        ≡ option_map data_of (required_form required.now)) }
 {
     if required.is_empty() {
         return Ok(None);
@@ -88,7 +89,8 @@ fn json_values(alloc: Global, jsons: &[Json]) -> Result<Vec<Value>, AllocError>
 
 /// The list of the values, where there is one.
 fn jsons_value(alloc: Global, jsons: &Option<List<Json>>) -> Result<Option<Value>, AllocError>
-    ensures { IfOk result (λ value. option_map view value ≡ option_map data_of (values_form jsons.now)) }
+    ensures { IfOk result (λ value. option_map view value
+        ≡ option_map data_of (values_form jsons.now)) }
 {
     match jsons {
         None => Ok(None),
@@ -113,7 +115,8 @@ fn put_notes(
     members: &mut Map<String, Value>,
     notes: &Notes,
 ) -> Result<(), AllocError>
-    ensures { OnOk result (Puts (note_fields notes.now) (members_view members.old.entries) (members_view members.new.entries)) }
+    ensures { OnOk result (Puts (note_fields notes.now) (members_view members.old.entries)
+        (members_view members.new.entries)) }
 {
     put_text(alloc, members, "title", &notes.title)?;
     put_text(alloc, members, "description", &notes.description)?;
@@ -200,7 +203,9 @@ fn properties_value(
     alloc: Global,
     properties: &[(Text, Schema)],
 ) -> Result<Option<Value>, AllocError>
-    ensures { IfOk result (λ value. option_map view value ≡ option_map data_of (entries_form (property_forms (named_views (λ l. l) properties.now)))) }
+    ensures { IfOk result (λ value. option_map view value
+        ≡ option_map data_of
+        (entries_form (property_forms (named_views (λ l. l) properties.now)))) }
 {
     if properties.is_empty() {
         return Ok(None);
@@ -214,7 +219,9 @@ fn property_values(
     alloc: Global,
     properties: &[(Text, Schema)],
 ) -> Result<Map<String, Value>, AllocError>
-    ensures { IfOk result (λ values. members_view values.entries ≡ members_data (put_all (property_forms (named_views (λ l. l) properties.now)) no_members)) }
+    ensures { IfOk result (λ values. members_view values.entries
+        ≡ members_data
+        (put_all (property_forms (named_views (λ l. l) properties.now)) no_members)) }
 {
     let mut values = Map::new(alloc);
     for property in properties {
@@ -230,7 +237,8 @@ fn additional_value(
     alloc: Global,
     additional: &Additional<RefLeaf>,
 ) -> Result<Option<Value>, AllocError>
-    ensures { IfOk result (λ value. option_map view value ≡ option_map data_of (part_form (additional_view (λ l. l) additional.now))) }
+    ensures { IfOk result (λ value. option_map view value
+        ≡ option_map data_of (part_form (additional_view (λ l. l) additional.now))) }
 {
     match additional {
         Additional::Absent => Ok(None),
@@ -242,7 +250,8 @@ fn additional_value(
 /// The value of a schema that may be left out.
 #[cycle(value)]
 fn optional_value(alloc: Global, schema: &Option<Schema>) -> Result<Option<Value>, AllocError>
-    ensures { IfOk result (λ value. option_map view value ≡ option_map data_of (part_form (optional_view (λ l. l) schema.now))) }
+    ensures { IfOk result (λ value. option_map view value
+        ≡ option_map data_of (part_form (optional_view (λ l. l) schema.now))) }
 {
     match schema {
         None => Ok(None),
@@ -253,7 +262,8 @@ fn optional_value(alloc: Global, schema: &Option<Schema>) -> Result<Option<Value
 /// The value of `items`.
 #[cycle(value)]
 fn items_value(alloc: Global, items: &ArrayItems<RefLeaf>) -> Result<Value, AllocError>
-    ensures { IfOk result (λ value. Some (view value) ≡ option_map data_of (part_form (array_items_view (λ l. l) items.now))) }
+    ensures { IfOk result (λ value. Some (view value)
+        ≡ option_map data_of (part_form (array_items_view (λ l. l) items.now))) }
 {
     match items {
         ArrayItems::False => Ok(Value::Bool(false)),
@@ -264,7 +274,8 @@ fn items_value(alloc: Global, items: &ArrayItems<RefLeaf>) -> Result<Value, Allo
 /// The value of `prefixItems`, where there is a schema.
 #[cycle(value)]
 fn front_value(alloc: Global, schemas: &[Schema]) -> Result<Option<Value>, AllocError>
-    ensures { IfOk result (λ value. option_map view value ≡ option_map data_of (schemas_form (schema_forms (tree_views (λ l. l) schemas.now)))) }
+    ensures { IfOk result (λ value. option_map view value
+        ≡ option_map data_of (schemas_form (schema_forms (tree_views (λ l. l) schemas.now)))) }
 {
     if schemas.is_empty() {
         return Ok(None);
@@ -314,7 +325,8 @@ fn all_of_value(alloc: Global, all_of: &AllOfSchema<RefLeaf>) -> Result<Value, A
 
 #[cycle(value)]
 fn schema_values(alloc: Global, schemas: &[Schema]) -> Result<Vec<Value>, AllocError>
-    ensures { IfOk result (λ values. items_view values.items ≡ items_data (schema_forms (tree_views (λ l. l) schemas.now))) }
+    ensures { IfOk result (λ values. items_view values.items
+        ≡ items_data (schema_forms (tree_views (λ l. l) schemas.now))) }
 {
     let mut values = Vec::new(alloc);
     for schema in schemas {

@@ -34,7 +34,8 @@ impl Model for Json {
 impl Json {
     /// The value, or the value back, exactly where it holds a float at any depth. It takes no memory.
     pub fn new(value: Value) -> Result<Json, Value>
-        ensures { MatchResult result (λ json. view value ≡ data_of json) (λ back. (back ≡ value) × (has_float (view value) ≡ true)) }
+        ensures { MatchResult result (λ json. view value ≡ data_of json) (λ back. (back ≡ value)
+            × (has_float (view value) ≡ true)) }
     {
         if holds_float(&value) {
             return Err(value);

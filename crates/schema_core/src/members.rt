@@ -29,7 +29,8 @@ pub(crate) fn put(
     name: &str,
     value: Value,
 ) -> Result<(), AllocError>
-    ensures { OnOk result (members_view members.new.entries ≡ put_data name.now (view value) (members_view members.old.entries)) }
+    ensures { OnOk result (members_view members.new.entries
+        ≡ put_data name.now (view value) (members_view members.old.entries)) }
 {
     members.insert(String::from_str(alloc, name)?, value)?;
     Ok(())
@@ -42,7 +43,9 @@ pub(crate) fn put_given(
     name: &str,
     value: Option<Value>,
 ) -> Result<(), AllocError>
-    ensures { OnOk result ((given : Option Meant) → option_map view value ≡ option_map data_of given → Puts ((name.now, given) ∷ []) (members_view members.old.entries) (members_view members.new.entries)) }
+    ensures { OnOk result ((given : Option Meant) → option_map view value ≡ option_map data_of given
+        → Puts ((name.now, given) ∷ []) (members_view members.old.entries)
+        (members_view members.new.entries)) }
 {
     match value {
         Some(value) => {
@@ -60,7 +63,8 @@ pub(crate) fn put_text(
     name: &str,
     text: &Option<Text>,
 ) -> Result<(), AllocError>
-    ensures { OnOk result (Puts ((name.now, option_map json_text text.now) ∷ []) (members_view members.old.entries) (members_view members.new.entries)) }
+    ensures { OnOk result (Puts ((name.now, option_map json_text text.now) ∷ [])
+        (members_view members.old.entries) (members_view members.new.entries)) }
 {
     let value = match text {
         Some(text) => Some(text_value(alloc, text.as_str())?),
@@ -76,7 +80,8 @@ pub(crate) fn put_json(
     name: &str,
     json: &Option<Json>,
 ) -> Result<(), AllocError>
-    ensures { OnOk result (Puts ((name.now, json.now) ∷ []) (members_view members.old.entries) (members_view members.new.entries)) }
+    ensures { OnOk result (Puts ((name.now, json.now) ∷ []) (members_view members.old.entries)
+        (members_view members.new.entries)) }
 {
     let value = match json {
         Some(json) => Some(json.value().clone()?),
@@ -92,7 +97,8 @@ pub(crate) fn put_truth(
     name: &str,
     truth: Option<bool>,
 ) -> Result<(), AllocError>
-    ensures { OnOk result (Puts ((name.now, option_map boolean truth) ∷ []) (members_view members.old.entries) (members_view members.new.entries)) }
+    ensures { OnOk result (Puts ((name.now, option_map boolean truth) ∷ [])
+        (members_view members.old.entries) (members_view members.new.entries)) }
 {
     let value = match truth {
         Some(truth) => Some(Value::Bool(truth)),
@@ -108,7 +114,9 @@ pub(crate) fn put_true(
     name: &str,
     holds: bool,
 ) -> Result<(), AllocError>
-    ensures { OnOk result (Puts ((name.now, true_form holds) ∷ []) (members_view members.old.entries) (members_view members.new.entries)) }
+    ensures { OnOk result
+        (Puts ((name.now, true_form holds) ∷ []) (members_view members.old.entries)
+        (members_view members.new.entries)) }
 {
     if holds {
         put_truth(alloc, members, name, Some(true))?;
@@ -123,7 +131,8 @@ pub(crate) fn put_bound(
     name: &str,
     bound: &Option<Bound>,
 ) -> Result<(), AllocError>
-    ensures { OnOk result (Puts ((name.now, option_map number bound.now) ∷ []) (members_view members.old.entries) (members_view members.new.entries)) }
+    ensures { OnOk result (Puts ((name.now, option_map number bound.now) ∷ [])
+        (members_view members.old.entries) (members_view members.new.entries)) }
 {
     let value = match bound {
         Some(bound) => Some(Value::Number(bound.number())),
@@ -135,7 +144,8 @@ pub(crate) fn put_bound(
 /// The object of one member.
 #[tactic(auto, using(crate::proofs::Puts::data_put, crate::proofs::Puts::object_is))]
 pub(crate) fn object_of(alloc: Global, name: &str, value: Value) -> Result<Value, AllocError>
-    ensures { IfOk result (λ object. (j : Meant) → view value ≡ data_of j → view object ≡ data_of (map_of ((name.now, j) ∷ []))) }
+    ensures { IfOk result (λ object. (j : Meant) → view value ≡ data_of j → view object
+        ≡ data_of (map_of ((name.now, j) ∷ []))) }
 {
     let mut members = Map::new(alloc);
     put(alloc, &mut members, name, value)?;

@@ -1,7 +1,8 @@
 //! A run up to its ending: it reads the file that the words name and the input, and derives.
 
-ghost use Rattle.std.specs.Prelude.{◌≡◌, ◌≢◌, ◌≤◌, ◌<◌, ◌⊎◌, ℕ, List as Items, length, IfOk, IfErr, OnOk};
+ghost use Rattle.std.specs.Prelude.{◌≡◌, ◌≢◌, ◌≤◌, ◌<◌, ℕ, List as Items, length, IfOk, IfErr, OnOk};
 ghost use Rattle.std.specs.Io.KnownBytes.{IsAtEnd};
+ghost use Rattle.diag.specs.Refusal.{Refuses};
 ghost use Rattle.streams.specs.Faults.{CountsFault};
 ghost use Rattle.streams.specs.Told.{IsAll};
 ghost use Rattle.configuration.specs.Configuration.{Configuration};
@@ -48,8 +49,7 @@ fn refused(alloc: Global, refusal: &Diagnostics) -> Ending
 fn document_text(alloc: Global, config: &Config, bytes: &[u8]) -> Result<Text, DeriveError>
     requires { length bytes.now ≤ most_bytes }
     ensures made { IfOk result (λ text. IsDocumentOf config.now bytes.now text) }
-    ensures refused { IfErr result (λ e.
-        (e ≡ DeriveError.Memory) ⊎ IsRefusedSource config.now bytes.now e) }
+    ensures refused { Refuses result (IsRefusedSource config.now bytes.now) }
 {
     let source = source_text(alloc, bytes)?;
     let derived = derive_components(alloc, source, config)?;

@@ -1,8 +1,8 @@
 //! Refusals of a file and of bytes that are no text of a source, and the report of any refusal.
 
-ghost use Rattle.std.specs.Prelude.{◌≡◌, ◌≤◌, ◌⊎◌, [], ◌∷◌, length, codes, IfOk, IfErr};
+ghost use Rattle.std.specs.Prelude.{◌≡◌, ◌≤◌, ◌⊎◌, [], ◌∷◌, length, codes, IfOk};
 ghost use Rattle.std.specs.Str.{IsUtf8, IsValidUpTo, IsErrorLen, valid_up_to, error_len};
-ghost use Rattle.diag.specs.Refusal.{IsRefusal};
+ghost use Rattle.diag.specs.Refusal.{IsRefusal, Refuses};
 ghost use Rattle.texts.specs.Span.{no_span};
 ghost use Rattle.schema_gen.specs.Refusals.{most_bytes, IsBroken, IsNoText, refusal_line};
 
@@ -46,7 +46,7 @@ fn broken_span(bytes: &[u8], fault: &Utf8Error) -> Span
 pub(crate) fn source_text(alloc: Global, bytes: &[u8]) -> Result<&str, DeriveError>
     requires { length bytes.now ≤ most_bytes }
     ensures text { IfOk result (λ text. (text.now ≡ bytes.now) × IsUtf8 bytes.now) }
-    ensures refused { IfErr result (λ e. (e ≡ DeriveError.Memory) ⊎ IsNoText bytes.now e) }
+    ensures refused { Refuses result (IsNoText bytes.now) }
 {
     let fault = match str::from_utf8(bytes) {
         Ok(text) => return Ok(text),

@@ -26,7 +26,8 @@ pub fn resolve(
     ty: &WrittenType,
     _config: &Config,
 ) -> Result<OpenType, DeriveError>
-    ensures resolved { IfOk result (λ t. type_of (place_among (declared_in scope.now)) (written_view ty.now)
+    ensures resolved { IfOk result
+        (λ t. type_of (place_among (declared_in scope.now)) (written_view ty.now)
         ≡ Some (open_view t)) }
     ensures faultless { IfOk result (λ _. (fault : AnyFault)
         → ¬ IsFault (place_among (declared_in scope.now)) (written_view ty.now) fault) }

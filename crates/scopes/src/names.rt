@@ -69,10 +69,12 @@ pub fn declared_places(
 ) -> Result<BTreeMap<String, usize>, DeriveError>
     ensures places { IfOk result (λ places. (name : List ℕ)
         → get_by_text places name ≡ place_among (declarations_view declarations.now) name) }
-    ensures distinct { IfOk result (λ _. IsDistinct (declared_names (declarations_view declarations.now))) }
+    ensures distinct { IfOk result
+        (λ _. IsDistinct (declared_names (declarations_view declarations.now))) }
     ensures once { IfOk result (λ _. RefusesNone
         (IsGivenTwice (declared_idents (declarations_view declarations.now)))) }
-    ensures refused { Refuses result (IsGivenTwice (declared_idents (declarations_view declarations.now))) }
+    ensures refused { Refuses result
+        (IsGivenTwice (declared_idents (declarations_view declarations.now))) }
 {
     places_of(alloc, declarations.items.as_slice())
 }

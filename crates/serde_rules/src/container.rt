@@ -1,6 +1,7 @@
 //! What serde's items say of a struct or an enum.
 
 ghost use Rattle.std.specs.Prelude.{◌≡◌, ◌⊎◌, List, [], ◌∷◌, ◌++◌, map, IfOk, OnOk, IfErr, MatchOption, IsSome, codes};
+ghost use Rattle.diag.specs.Refusal.{Refuses};
 ghost use Rattle.attributes.specs.Attributes.{attribute_view, serde_items};
 ghost use Rattle.attributes.specs.declared.serde_item.SerdeItem.{SerdeItem as AnyItem};
 ghost use Rattle.diag.specs.declared.error.DeriveError.{DeriveError as AnyError};
@@ -45,9 +46,10 @@ fn later_rule(
     so_far: Option<RenameRule>,
     item: &SerdeItem,
 ) -> Result<Option<RenameRule>, DeriveError>
-    ensures rule { IfOk result (λ rule. MatchOption (text_for (codes "rename_all") item.now) (rule ≡ so_far)
+    ensures rule { IfOk result
+        (λ rule. MatchOption (text_for (codes "rename_all") item.now) (rule ≡ so_far)
         (λ text. (rule_named text ≡ rule) × IsSome rule)) }
-    ensures refused { IfErr result (λ e. (e ≡ DeriveError.Memory) ⊎ IsRuleRefusal item.now e) }
+    ensures refused { Refuses result (IsRuleRefusal item.now) }
 {
     let Some(literal) = literal_for(item, "rename_all") else {
         return Ok(so_far);
@@ -64,8 +66,10 @@ fn read_item(
     so_far: SerdeContainer,
     item: &SerdeItem,
 ) -> Result<SerdeContainer, DeriveError>
-    ensures read { IfOk result (λ rules. (before : List AnyItem) → AreContainerRules before so_far → AreContainerRules (before ++ item.now ∷ []) rules) }
-    ensures refused { IfErr result (λ e. (e ≡ DeriveError.Memory) ⊎ IsTagRefusal (with_item item.now so_far.enum_repr) e ⊎ IsRuleRefusal item.now e) }
+    ensures read { IfOk result (λ rules. (before : List AnyItem) → AreContainerRules before so_far
+        → AreContainerRules (before ++ item.now ∷ []) rules) }
+    ensures refused { Refuses result (λ e. IsTagRefusal (with_item item.now so_far.enum_repr) e
+        ⊎ IsRuleRefusal item.now e) }
 {
     Ok(SerdeContainer {
         rename_all: later_rule(alloc, so_far.rename_all, item)?,
@@ -100,10 +104,12 @@ pub fn parse_container(
     alloc: Global,
     attributes: &[Attribute],
 ) -> Result<SerdeContainer, DeriveError>
-    ensures read { IfOk result (AreContainerRules (serde_items (map attribute_view attributes.now))) }
-    ensures allowed { OnOk result ((e : AnyError) → ¬ IsContainerRefusal (serde_items (map attribute_view attributes.now)) e) }
-    ensures refused { IfErr result (λ e. (e ≡ DeriveError.Memory)
-        ⊎ IsContainerRefusal (serde_items (map attribute_view attributes.now)) e) }
+    ensures read { IfOk result
+        (AreContainerRules (serde_items (map attribute_view attributes.now))) }
+    ensures allowed { OnOk result ((e : AnyError)
+        → ¬ IsContainerRefusal (serde_items (map attribute_view attributes.now)) e) }
+    ensures refused { Refuses result
+        (IsContainerRefusal (serde_items (map attribute_view attributes.now))) }
 {
     let mut rules = SerdeContainer::default();
     for attribute in attributes {

@@ -1,7 +1,7 @@
 //! How enums are represented.
 
-ghost use Rattle.std.specs.Prelude.{◌≡◌, ◌⊎◌, codes, IfOk, IfErr};
-ghost use Rattle.diag.specs.Refusal.{IsRefusal};
+ghost use Rattle.std.specs.Prelude.{◌≡◌, ◌⊎◌, codes, IfOk};
+ghost use Rattle.diag.specs.Refusal.{IsRefusal, Refuses};
 ghost use Rattle.serde_rules.specs.Container.{with_tag, with_content, with_item, IsTagRefusal};
 
 use crate::items::{is_named, literal_for};
@@ -65,7 +65,7 @@ fn with_tag(
     literal: &SerdeText,
 ) -> Result<SerdeEnumRepr, DeriveError>
     ensures next { IfOk result (λ next. with_tag literal.now repr ≡ Ok next) }
-    ensures refused { IfErr result (λ e. (e ≡ DeriveError.Memory) ⊎ IsTagRefusal (with_tag literal.now repr) e) }
+    ensures refused { Refuses result (IsTagRefusal (with_tag literal.now repr)) }
 {
     let message = match repr {
         SerdeEnumRepr::ExternallyTagged => {
@@ -91,7 +91,7 @@ fn with_content(
     literal: &SerdeText,
 ) -> Result<SerdeEnumRepr, DeriveError>
     ensures next { IfOk result (λ next. with_content literal.now repr ≡ Ok next) }
-    ensures refused { IfErr result (λ e. (e ≡ DeriveError.Memory) ⊎ IsTagRefusal (with_content literal.now repr) e) }
+    ensures refused { Refuses result (IsTagRefusal (with_content literal.now repr)) }
 {
     let message = match repr {
         SerdeEnumRepr::ExternallyTagged => {
@@ -116,7 +116,7 @@ pub fn with_item(
     item: &SerdeItem,
 ) -> Result<SerdeEnumRepr, DeriveError>
     ensures next { IfOk result (λ next. with_item item.now repr ≡ Ok next) }
-    ensures refused { IfErr result (λ e. (e ≡ DeriveError.Memory) ⊎ IsTagRefusal (with_item item.now repr) e) }
+    ensures refused { Refuses result (IsTagRefusal (with_item item.now repr)) }
 {
     if is_named(item, "untagged") {
         return Ok(SerdeEnumRepr::Untagged);

@@ -305,12 +305,12 @@ impl Sink for HonestSink {
     fn write(&mut self, piece: &[u8]) -> Result<usize, Failed>
         ensures bound { WritesAtMost result piece.now }
         ensures some { IfOk result (λ count. 0 < length piece.now → 0 < count) }
-        ensures bytes { WriteAppends (Some (honest_written self.old)) (Some (honest_written self.new))
-            result piece.now }
+        ensures bytes { WriteAppends
+            (Some (honest_written self.old)) (Some (honest_written self.new)) result piece.now }
         ensures cause { HasCause (honest_faults self.old) (honest_faults self.new) result }
         ensures full { OnErr result (length (honest_written self.old) ≡ honest_room self.old) }
-        ensures count { IfOk result (λ count.
-            count ≡ min (length piece.now) (honest_room self.old - length (honest_written self.old))) }
+        ensures count { IfOk result (λ count. count ≡ min (length piece.now)
+            (honest_room self.old - length (honest_written self.old))) }
         ensures room { honest_room self.new ≡ honest_room self.old }
     {
         let count = put(&mut self.bytes, self.room, piece, usize::MAX);

@@ -22,7 +22,8 @@ fn is_square(tree: &TokenTree) -> bool
 
 /// What follows `#!` and its group in square brackets.
 fn after_inner_attribute(trees: &[TokenTree]) -> Option<&[TokenTree]>
-    ensures value { MatchOption result (after_inner_attribute (words_view trees.now) ≡ Err wrong) (λ rest. after_inner_attribute (words_view trees.now) ≡ Ok (words_view rest.now)) }
+    ensures value { MatchOption result (after_inner_attribute (words_view trees.now) ≡ Err wrong)
+        (λ rest. after_inner_attribute (words_view trees.now) ≡ Ok (words_view rest.now)) }
     ensures shorter { IfSome result (λ rest. length rest.now < length trees.now) }
 {
     let (_, rest) = optional_sign(trees, Sign::Hash)?;
@@ -35,7 +36,8 @@ fn after_inner_attribute(trees: &[TokenTree]) -> Option<&[TokenTree]>
 
 /// What follows an inner doc comment or attribute, if the trees begin with one.
 fn inner_at(trees: &[TokenTree]) -> Option<&[TokenTree]>
-    ensures value { MatchOption result (inner_at (words_view trees.now) ≡ Err wrong) (λ rest. inner_at (words_view trees.now) ≡ Ok (words_view rest.now)) }
+    ensures value { MatchOption result (inner_at (words_view trees.now) ≡ Err wrong)
+        (λ rest. inner_at (words_view trees.now) ≡ Ok (words_view rest.now)) }
     ensures shorter { IfSome result (λ rest. length rest.now < length trees.now) }
 {
     match trees {

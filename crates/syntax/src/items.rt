@@ -114,7 +114,8 @@ fn unnamed_inside(alloc: Global, group: &Group) -> Result<List<Field>, Stop>
 /// What follows the name of a struct.
 #[tactic(auto, unfolding(crate::specs::ItemReading::fields_at))]
 fn fields_at(alloc: Global, trees: &[TokenTree]) -> Result<(Fields, &[TokenTree]), Stop>
-    ensures value { Gives (λ p. (fields_view p.0, words_view p.1.now)) result (fields_at (type_at most_levels) (words_view trees.now)) }
+    ensures value { Gives (λ p. (fields_view p.0, words_view p.1.now)) result
+        (fields_at (type_at most_levels) (words_view trees.now)) }
     ensures shorter { IfOk result (λ p. length p.1.now < length trees.now) }
 {
     match trees {
@@ -143,7 +144,9 @@ fn struct_at<'t>(
     trees: &'t [TokenTree],
 ) -> Result<(Declaration, &'t [TokenTree]), Stop>
     requires { length trees.now ≤ length start.now }
-    ensures value { Gives (λ p. (declaration_view p.0, words_view p.1.now)) result (struct_at (type_at most_levels) (map attribute_view attrs) (words_view start.now) (words_view trees.now)) }
+    ensures value { Gives (λ p. (declaration_view p.0, words_view p.1.now)) result
+        (struct_at (type_at most_levels) (map attribute_view attrs) (words_view start.now)
+        (words_view trees.now)) }
     ensures shorter { IfOk result (λ p. length p.1.now < length start.now) }
 {
     let (_, rest) = keyword_at(trees, Keyword::Struct)?;
@@ -165,7 +168,8 @@ fn struct_at<'t>(
 /// A `use` line, of which nothing is kept, or a struct.
 #[tactic(auto, unfolding(crate::specs::ItemReading::item_at))]
 fn item_at(alloc: Global, trees: &[TokenTree]) -> Result<(Option<Declaration>, &[TokenTree]), Stop>
-    ensures value { Gives (λ p. (option_map declaration_view p.0, words_view p.1.now)) result (item_at (type_at most_levels) (words_view trees.now)) }
+    ensures value { Gives (λ p. (option_map declaration_view p.0, words_view p.1.now)) result
+        (item_at (type_at most_levels) (words_view trees.now)) }
     ensures shorter { IfOk result (λ p. length p.1.now < length trees.now) }
 {
     let (attrs, start) = attributes_at(alloc, trees)?;
@@ -184,7 +188,8 @@ fn item_at(alloc: Global, trees: &[TokenTree]) -> Result<(Option<Declaration>, &
 
 /// All of the trees, as items.
 pub(crate) fn items_of(alloc: Global, trees: &[TokenTree]) -> Result<List<Declaration>, Stop>
-    ensures { Gives (λ items. map declaration_view items) result (items_at (type_at most_levels) (words_view trees.now)) }
+    ensures { Gives (λ items. map declaration_view items) result
+        (items_at (type_at most_levels) (words_view trees.now)) }
 {
     let mut items = List::new(alloc);
     let mut rest = trees;

@@ -1,6 +1,7 @@
 //! From a source to its declarations, and from a text to a type.
 
-ghost use Rattle.std.specs.Prelude.{◌≡◌, ◌≤◌, ◌⊎◌, map, IfOk, IfErr};
+ghost use Rattle.std.specs.Prelude.{◌≡◌, ◌≤◌, ◌⊎◌, map, IfOk};
+ghost use Rattle.diag.specs.Refusal.{Refuses};
 ghost use Rattle.texts.specs.declared.span.Span.{Span};
 ghost use Rattle.written_types.specs.Written.{written_view};
 ghost use Rattle.words.specs.Words.{words_view};
@@ -54,7 +55,8 @@ fn refusal(alloc: Global, stop: Stop, bytes: usize) -> DeriveError
 /// All of the trees, as a source.
 #[tactic(auto, unfolding(crate::specs::ItemReading::source_at))]
 fn source_of(alloc: Global, trees: &[TokenTree]) -> Result<List<Declaration>, Stop>
-    ensures { Gives (λ items. map declaration_view items) result (source_at (type_at most_levels) (words_view trees.now)) }
+    ensures { Gives (λ items. map declaration_view items) result
+        (source_at (type_at most_levels) (words_view trees.now)) }
 {
     items_of(alloc, after_inner(trees))
 }
@@ -68,7 +70,7 @@ fn source_of(alloc: Global, trees: &[TokenTree]) -> Result<List<Declaration>, St
 pub fn parse_declarations(alloc: Global, source: &str) -> Result<Declarations, DeriveError>
     ensures found { IfOk result (λ ds. Reads source.now (declarations_view ds)) }
     ensures shallow { IfOk result (λ _. (span : Span) → ¬ (NestsTooDeep source.now span)) }
-    ensures refused { IfErr result (λ e. (e ≡ DeriveError.Memory) ⊎ IsTooDeep source.now e ⊎ IsUnreadable source.now e) }
+    ensures refused { Refuses result (λ e. IsTooDeep source.now e ⊎ IsUnreadable source.now e) }
 {
     let trees = lex(alloc, source)?;
     // The source has no other trees, so what cannot be read of these cannot be read at all.
@@ -84,7 +86,7 @@ pub fn parse_declarations(alloc: Global, source: &str) -> Result<Declarations, D
 pub fn parse_type(alloc: Global, text: &str) -> Result<WrittenType, DeriveError>
     ensures found { IfOk result (λ t. ReadsType text.now (written_view t)) }
     ensures shallow { IfOk result (λ _. (span : Span) → ¬ (TypeNestsTooDeep text.now span)) }
-    ensures refused { IfErr result (λ e. (e ≡ DeriveError.Memory) ⊎ IsDeepType text.now e ⊎ IsNoType text.now e) }
+    ensures refused { Refuses result (λ e. IsDeepType text.now e ⊎ IsNoType text.now e) }
 {
     let trees = lex(alloc, text)?;
     // The text has no other trees.

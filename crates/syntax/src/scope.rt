@@ -27,7 +27,8 @@ fn is_comma(tree: &TokenTree) -> bool
 
 /// What follows the first `;`.
 pub(crate) fn after_semicolon(trees: &[TokenTree]) -> Option<&[TokenTree]>
-    ensures value { option_map (λ rest. words_view rest.now) result ≡ after_semicolon (words_view trees.now) }
+    ensures value { option_map (λ rest. words_view rest.now) result
+        ≡ after_semicolon (words_view trees.now) }
     ensures shorter { IfSome result (λ rest. length rest.now < length trees.now) }
 {
     let mut rest = trees;

@@ -12,7 +12,13 @@ use crate::token::{Group, Token, TokenTree};
 
 /// Tokens, groups and token trees are equal exactly where they are the same without their spans.
 pub fn trees_are_equal_by_text()
-    ensures token { (t u : Token) → Decides (⟦<Token as PartialEq>⟧.eq t u) (token_without_span t ≡ token_without_span u) }
-    ensures group { (g h : Group) → Decides (⟦<Group as PartialEq>⟧.eq g h) (tree_without_spans (group_view g) ≡ tree_without_spans (group_view h)) }
-    ensures tree { (t u : TokenTree) → Decides (⟦<TokenTree as PartialEq>⟧.eq t u) (tree_without_spans (tree_view t) ≡ tree_without_spans (tree_view u)) }
+    ensures token { (t u : Token)
+        → Decides (⟦<Token as PartialEq>⟧.eq t u)
+        (token_without_span t ≡ token_without_span u) }
+    ensures group { (g h : Group)
+        → Decides (⟦<Group as PartialEq>⟧.eq g h)
+        (tree_without_spans (group_view g) ≡ tree_without_spans (group_view h)) }
+    ensures tree { (t u : TokenTree)
+        → Decides (⟦<TokenTree as PartialEq>⟧.eq t u)
+        (tree_without_spans (tree_view t) ≡ tree_without_spans (tree_view u)) }
 {}

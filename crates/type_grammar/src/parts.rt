@@ -15,7 +15,8 @@ use words::{Keyword, Sign, Word, optional_keyword, optional_lifetime, optional_s
 /// What follows the sign, where the trees begin with it.
 #[tactic(auto, using(crate::proofs::Firsts::sign_found, crate::proofs::Firsts::sign_missed))]
 pub(crate) fn after_sign(trees: &[TokenTree], sign: Sign) -> Option<&[TokenTree]>
-    ensures value { MatchOption result (after_sign sign (words_view trees.now) ≡ None) (λ rest. after_sign sign (words_view trees.now) ≡ Some (words_view rest.now)) }
+    ensures value { MatchOption result (after_sign sign (words_view trees.now) ≡ None)
+        (λ rest. after_sign sign (words_view trees.now) ≡ Some (words_view rest.now)) }
     ensures shorter { IfSome result (λ rest. length rest.now < length trees.now) }
 {
     match optional_sign(trees, sign) {
@@ -84,7 +85,9 @@ pub(crate) fn after_question(trees: &[TokenTree]) -> &[TokenTree]
 /// What follows a lifetime and `+`.
 #[tactic(auto, using(crate::proofs::Firsts::lifetime_skipped, crate::proofs::Firsts::no_lifetime_skipped, crate::proofs::Firsts::no_plus_skipped))]
 fn after_lifetime_bound(trees: &[TokenTree]) -> Option<&[TokenTree]>
-    ensures value { MatchOption result (after_lifetimes (words_view trees.now) ≡ words_view trees.now) (λ rest. after_lifetimes (words_view trees.now) ≡ after_lifetimes (words_view rest.now)) }
+    ensures value { MatchOption result (after_lifetimes (words_view trees.now)
+        ≡ words_view trees.now) (λ rest. after_lifetimes (words_view trees.now)
+        ≡ after_lifetimes (words_view rest.now)) }
     ensures shorter { IfSome result (λ rest. length rest.now < length trees.now) }
 {
     match optional_lifetime(trees) {
@@ -142,7 +145,8 @@ pub(crate) fn after_binding(trees: &[TokenTree], bindings: bool) -> &[TokenTree]
 
 /// What follows the sign that opens a list of arguments.
 pub(crate) fn arguments_after(trees: &[TokenTree]) -> Option<&[TokenTree]>
-    ensures value { MatchOption result (arguments_after (words_view trees.now) ≡ None) (λ rest. arguments_after (words_view trees.now) ≡ Some (words_view rest.now)) }
+    ensures value { MatchOption result (arguments_after (words_view trees.now) ≡ None)
+        (λ rest. arguments_after (words_view trees.now) ≡ Some (words_view rest.now)) }
     ensures shorter { IfSome result (λ rest. length rest.now < length trees.now) }
 {
     match after_sign(trees, Sign::Less) {

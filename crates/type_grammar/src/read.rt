@@ -41,7 +41,8 @@ pub fn read_type(alloc: Global, trees: &[TokenTree]) -> Result<WrittenType, Stop
     ensures shallow { IfOk result (λ _. (at : Bytes) → ¬ (OpensType 64 (words_view trees.now) at)) }
     // When each error comes.
     ensures deep { (at : Bytes) → result ≡ Err (Deep at) → OpensType 64 (words_view trees.now) at }
-    ensures wrong { (stop : Reason) → result ≡ Err stop → IsWrong stop → (t : Written) → ¬ (IsType (words_view trees.now) t []) }
+    ensures wrong { (stop : Reason) → result ≡ Err stop → IsWrong stop → (t : Written)
+        → ¬ (IsType (words_view trees.now) t []) }
 {
     whole_type(alloc, trees)
 }
@@ -49,35 +50,50 @@ pub fn read_type(alloc: Global, trees: &[TokenTree]) -> Result<WrittenType, Stop
 /// What `type_at` reads is a type of the grammar; a type that nothing goes on is read, unless a part of it begins too deep;
 /// and reading stops for depth exactly where a part begins too deep.
 pub fn types_are_read()
-    ensures found { (n : ℕ) (ws rest : List Word) (t : Written) → type_at n ws ≡ Ok (t, rest) → IsType ws t rest }
-    ensures shorter { (n : ℕ) (ws rest : List Word) (t : Written) → type_at n ws ≡ Ok (t, rest) → length rest < length ws }
-    ensures complete { (n : ℕ) (ws rest : List Word) (t : Written) → IsType ws t rest → Stops rest → (type_at n ws ≡ Ok (t, rest)) ⊎ ((at : Bytes) × (type_at n ws ≡ Err (deep at))) }
-    ensures deep { (n : ℕ) (ws : List Word) (at : Bytes) → type_at n ws ≡ Err (deep at) → OpensType n ws at }
-    ensures opens { (n : ℕ) (ws : List Word) (at : Bytes) → OpensType n ws at → (start : Bytes) × (type_at n ws ≡ Err (deep start)) }
+    ensures found { (n : ℕ) (ws rest : List Word) (t : Written) → type_at n ws ≡ Ok (t, rest)
+        → IsType ws t rest }
+    ensures shorter { (n : ℕ) (ws rest : List Word) (t : Written) → type_at n ws ≡ Ok (t, rest)
+        → length rest < length ws }
+    ensures complete { (n : ℕ) (ws rest : List Word) (t : Written) → IsType ws t rest → Stops rest
+        → (type_at n ws ≡ Ok (t, rest)) ⊎ ((at : Bytes) × (type_at n ws ≡ Err (deep at))) }
+    ensures deep { (n : ℕ) (ws : List Word) (at : Bytes) → type_at n ws ≡ Err (deep at)
+        → OpensType n ws at }
+    ensures opens { (n : ℕ) (ws : List Word) (at : Bytes) → OpensType n ws at → (start : Bytes)
+        × (type_at n ws ≡ Err (deep start)) }
 {}
 
 /// A type begins with a word that may begin one, and so does one of which a part begins too deep.
 pub fn types_begin()
-    ensures found { (ws rest : List Word) (t : Written) → IsType ws t rest → (w : Word) × (us : List Word) × (ws ≡ w ∷ us) × (begins_type w ≡ true) }
-    ensures opens { (n : ℕ) (ws : List Word) (at : Bytes) → OpensType n ws at → (w : Word) × (us : List Word) × (ws ≡ w ∷ us) × (begins_type w ≡ true) }
+    ensures found { (ws rest : List Word) (t : Written) → IsType ws t rest → (w : Word)
+        × (us : List Word) × (ws ≡ w ∷ us) × (begins_type w ≡ true) }
+    ensures opens { (n : ℕ) (ws : List Word) (at : Bytes) → OpensType n ws at → (w : Word)
+        × (us : List Word) × (ws ≡ w ∷ us) × (begins_type w ≡ true) }
 {}
 
 /// Words begin with at most one type that nothing goes on.
 pub fn one_type()
-    ensures { (ws rest other : List Word) (t u : Written) → IsType ws t rest → Stops rest → IsType ws u other → Stops other → (t ≡ u) × (rest ≡ other) }
+    ensures { (ws rest other : List Word) (t u : Written) → IsType ws t rest → Stops rest
+        → IsType ws u other → Stops other → (t ≡ u) × (rest ≡ other) }
 {}
 
 /// What `bound_at` reads is a bound of the grammar; a bound whose path nothing goes on is read, unless a part of its
 /// arguments begins too deep; and reading stops for depth exactly where a part begins too deep.
 pub fn bounds_are_read()
-    ensures found { (n : ℕ) (ws rest : List Word) (at : Bytes) → bound_at (type_in n) ws ≡ Ok (at, rest) → IsBound ws at rest }
-    ensures shorter { (n : ℕ) (ws rest : List Word) (at : Bytes) → bound_at (type_in n) ws ≡ Ok (at, rest) → length rest < length ws }
-    ensures complete { (n : ℕ) (ws rest : List Word) (at : Bytes) → IsBound ws at rest → StopsPath rest → (bound_at (type_in n) ws ≡ Ok (at, rest)) ⊎ ((start : Bytes) × (bound_at (type_in n) ws ≡ Err (deep start))) }
-    ensures deep { (n : ℕ) (ws : List Word) (at : Bytes) → bound_at (type_in n) ws ≡ Err (deep at) → OpensBound n ws at }
-    ensures opens { (n : ℕ) (ws : List Word) (at : Bytes) → OpensBound n ws at → (start : Bytes) × (bound_at (type_in n) ws ≡ Err (deep start)) }
+    ensures found { (n : ℕ) (ws rest : List Word) (at : Bytes) → bound_at (type_in n) ws
+        ≡ Ok (at, rest) → IsBound ws at rest }
+    ensures shorter { (n : ℕ) (ws rest : List Word) (at : Bytes) → bound_at (type_in n) ws
+        ≡ Ok (at, rest) → length rest < length ws }
+    ensures complete { (n : ℕ) (ws rest : List Word) (at : Bytes) → IsBound ws at rest
+        → StopsPath rest → (bound_at (type_in n) ws ≡ Ok (at, rest))
+        ⊎ ((start : Bytes) × (bound_at (type_in n) ws ≡ Err (deep start))) }
+    ensures deep { (n : ℕ) (ws : List Word) (at : Bytes) → bound_at (type_in n) ws ≡ Err (deep at)
+        → OpensBound n ws at }
+    ensures opens { (n : ℕ) (ws : List Word) (at : Bytes) → OpensBound n ws at → (start : Bytes)
+        × (bound_at (type_in n) ws ≡ Err (deep start)) }
 {}
 
 /// Words begin with at most one bound whose path nothing goes on.
 pub fn one_bound()
-    ensures { (ws rest other : List Word) (at to : Bytes) → IsBound ws at rest → StopsPath rest → IsBound ws to other → StopsPath other → (at ≡ to) × (rest ≡ other) }
+    ensures { (ws rest other : List Word) (at to : Bytes) → IsBound ws at rest → StopsPath rest
+        → IsBound ws to other → StopsPath other → (at ≡ to) × (rest ≡ other) }
 {}

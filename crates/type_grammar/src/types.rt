@@ -30,7 +30,8 @@ pub fn type_at(
     trees: &[TokenTree],
     left: usize,
 ) -> Result<(WrittenType, &[TokenTree]), Stop>
-    ensures value { Gives (λ p. (written_view p.0, words_view p.1.now)) result (type_at left (words_view trees.now)) }
+    ensures value { Gives (λ p. (written_view p.0, words_view p.1.now)) result
+        (type_at left (words_view trees.now)) }
     ensures shorter { IfOk result (λ p. length p.1.now < length trees.now) }
 {
     type_in(alloc, trees, Bounds::Any, left)
@@ -44,7 +45,8 @@ fn span_of(path: &Path) -> Span
 
 /// No level is left for a type.
 fn too_deep(trees: &[TokenTree]) -> Result<(WrittenType, &[TokenTree]), Stop>
-    ensures value { Gives (λ p. (written_view p.0, words_view p.1.now)) result (too_deep (words_view trees.now)) }
+    ensures value { Gives (λ p. (written_view p.0, words_view p.1.now)) result
+        (too_deep (words_view trees.now)) }
     ensures shorter { IfOk result (λ p. length p.1.now < length trees.now) }
 {
     match trees {
@@ -65,7 +67,8 @@ fn type_in(
     bounds: Bounds,
     left: usize,
 ) -> Result<(WrittenType, &[TokenTree]), Stop>
-    ensures value { Gives (λ p. (written_view p.0, words_view p.1.now)) result (type_in left bounds (words_view trees.now)) }
+    ensures value { Gives (λ p. (written_view p.0, words_view p.1.now)) result
+        (type_in left bounds (words_view trees.now)) }
     ensures shorter { IfOk result (λ p. length p.1.now < length trees.now) }
 {
     if left > 0 {
@@ -83,7 +86,8 @@ fn type_step(
     bounds: Bounds,
     left: usize,
 ) -> Result<(WrittenType, &[TokenTree]), Stop>
-    ensures value { Gives (λ p. (written_view p.0, words_view p.1.now)) result (type_step bounds (type_in left) (words_view trees.now)) }
+    ensures value { Gives (λ p. (written_view p.0, words_view p.1.now)) result
+        (type_step bounds (type_in left) (words_view trees.now)) }
     ensures shorter { IfOk result (λ p. length p.1.now < length trees.now) }
 {
     match trees {
@@ -111,7 +115,8 @@ fn path_at(
     bindings: bool,
     left: usize,
 ) -> Result<(Path, &[TokenTree]), Stop>
-    ensures value { Gives (λ p. (path_view p.0, words_view p.1.now)) result (path_at bindings (type_in left) (words_view trees.now)) }
+    ensures value { Gives (λ p. (path_view p.0, words_view p.1.now)) result
+        (path_at bindings (type_in left) (words_view trees.now)) }
     ensures shorter { IfOk result (λ p. length p.1.now < length trees.now) }
 {
     match trees {
@@ -153,7 +158,8 @@ fn segments_at(
     bindings: bool,
     left: usize,
 ) -> Result<(List<PathSegment>, Span, &[TokenTree]), Stop>
-    ensures value { Gives (λ p. ((map segment_view p.0, p.1), words_view p.2.now)) result (segments_in bindings (type_in left) (words_view trees.now)) }
+    ensures value { Gives (λ p. ((map segment_view p.0, p.1), words_view p.2.now)) result
+        (segments_in bindings (type_in left) (words_view trees.now)) }
     ensures shorter { IfOk result (λ p. length p.2.now < length trees.now) }
 {
     let mut segments = List::new(alloc);
@@ -177,7 +183,8 @@ fn segment_at(
     bindings: bool,
     left: usize,
 ) -> Result<(PathSegment, Span, &[TokenTree]), Stop>
-    ensures value { Gives (λ p. ((segment_view p.0, p.1), words_view p.2.now)) result (segment_at bindings (type_in left) (words_view trees.now)) }
+    ensures value { Gives (λ p. ((segment_view p.0, p.1), words_view p.2.now)) result
+        (segment_at bindings (type_in left) (words_view trees.now)) }
     ensures shorter { IfOk result (λ p. length p.2.now < length trees.now) }
 {
     let (word, rest) = path_word_at(trees)?;
@@ -193,7 +200,9 @@ fn segment_after<'t>(
     bindings: bool,
     left: usize,
 ) -> Result<(PathSegment, Span, &'t [TokenTree]), Stop>
-    ensures value { Gives (λ p. ((segment_view p.0, p.1), words_view p.2.now)) result (segment_after bindings (type_in left) (ident_of word.now) (words_view trees.now) (arguments_after (words_view trees.now))) }
+    ensures value { Gives (λ p. ((segment_view p.0, p.1), words_view p.2.now)) result
+        (segment_after bindings (type_in left) (ident_of word.now) (words_view trees.now)
+        (arguments_after (words_view trees.now))) }
     ensures shorter { IfOk result (λ p. length p.2.now ≤ length trees.now) }
 {
     match arguments_after(trees) {
@@ -226,7 +235,8 @@ fn arguments_at(
     bindings: bool,
     left: usize,
 ) -> Result<(List<GenericArgument>, &[TokenTree]), Stop>
-    ensures value { Gives (λ p. (map argument_view p.0, words_view p.1.now)) result (list_of (argument_at bindings (type_in left)) (words_view trees.now)) }
+    ensures value { Gives (λ p. (map argument_view p.0, words_view p.1.now)) result
+        (list_of (argument_at bindings (type_in left)) (words_view trees.now)) }
     ensures shorter { IfOk result (λ p. length p.1.now ≤ length trees.now) }
 {
     let mut arguments = List::new(alloc);
@@ -251,7 +261,8 @@ fn argument_at(
     bindings: bool,
     left: usize,
 ) -> Result<(GenericArgument, &[TokenTree]), Stop>
-    ensures value { Gives (λ p. (argument_view p.0, words_view p.1.now)) result (argument_at bindings (type_in left) (words_view trees.now)) }
+    ensures value { Gives (λ p. (argument_view p.0, words_view p.1.now)) result
+        (argument_at bindings (type_in left) (words_view trees.now)) }
     ensures shorter { IfOk result (λ p. length p.1.now < length trees.now) }
 {
     match plain_argument(alloc, trees)? {
@@ -272,7 +283,8 @@ fn reference_at(
     trees: &[TokenTree],
     left: usize,
 ) -> Result<(WrittenType, &[TokenTree]), Stop>
-    ensures value { Gives (λ p. (written_view p.0, words_view p.1.now)) result (reference_at (type_in left) (words_view trees.now)) }
+    ensures value { Gives (λ p. (written_view p.0, words_view p.1.now)) result
+        (reference_at (type_in left) (words_view trees.now)) }
     ensures shorter { IfOk result (λ p. length p.1.now < length trees.now) }
 {
     let inside = after_mut(after_lifetime(trees));
@@ -290,7 +302,8 @@ fn object_at(
     bounds: Bounds,
     left: usize,
 ) -> Result<(WrittenType, &[TokenTree]), Stop>
-    ensures value { Gives (λ p. (written_view p.0, words_view p.1.now)) result (object_at bounds (type_in left) start (words_view trees.now)) }
+    ensures value { Gives (λ p. (written_view p.0, words_view p.1.now)) result
+        (object_at bounds (type_in left) start (words_view trees.now)) }
     ensures shorter { IfOk result (λ p. length p.1.now < length trees.now) }
 {
     let (path, after) = path_at(alloc, first_bound(trees, bounds), false, left)?;
@@ -307,7 +320,8 @@ fn more_bounds(
     bounds: Bounds,
     left: usize,
 ) -> Result<(Span, &[TokenTree]), Stop>
-    ensures value { Gives (λ p. (p.0, words_view p.1.now)) result (more_bounds bounds (type_in left) first (words_view trees.now)) }
+    ensures value { Gives (λ p. (p.0, words_view p.1.now)) result
+        (more_bounds bounds (type_in left) first (words_view trees.now)) }
     ensures shorter { IfOk result (λ p. length p.1.now ≤ length trees.now) }
 {
     match bounds {
@@ -324,7 +338,8 @@ fn bounds_at(
     trees: &[TokenTree],
     left: usize,
 ) -> Result<(Span, &[TokenTree]), Stop>
-    ensures value { Gives (λ p. (p.0, words_view p.1.now)) result (bounds_in (type_in left) first (words_view trees.now)) }
+    ensures value { Gives (λ p. (p.0, words_view p.1.now)) result
+        (bounds_in (type_in left) first (words_view trees.now)) }
     ensures shorter { IfOk result (λ p. length p.1.now ≤ length trees.now) }
 {
     let mut later = None;
@@ -350,7 +365,8 @@ pub fn bound_at(
     trees: &[TokenTree],
     left: usize,
 ) -> Result<(Span, &[TokenTree]), Stop>
-    ensures value { Gives (λ p. (p.0, words_view p.1.now)) result (bound_at (type_in left) (words_view trees.now)) }
+    ensures value { Gives (λ p. (p.0, words_view p.1.now)) result
+        (bound_at (type_in left) (words_view trees.now)) }
     ensures shorter { IfOk result (λ p. length p.1.now < length trees.now) }
 {
     match optional_lifetime(trees) {
@@ -366,7 +382,8 @@ pub fn bound_at(
 #[cycle(types)]
 #[tactic(auto, using(crate::proofs::Steps::alike))]
 fn round_group(alloc: Global, group: &Group, left: usize) -> Result<WrittenType, Stop>
-    ensures { Gives written_view result (round_at (type_in left) group.now.span (words_view group.now.trees)) }
+    ensures { Gives written_view result
+        (round_at (type_in left) group.now.span (words_view group.now.trees)) }
 {
     match round_at(alloc, group.span, group.trees.as_slice(), left) {
         Ok(ty) => Ok(ty),
@@ -378,7 +395,8 @@ fn round_group(alloc: Global, group: &Group, left: usize) -> Result<WrittenType,
 #[cycle(types)]
 #[tactic(auto, using(crate::proofs::Steps::alike))]
 fn square_group(alloc: Global, group: &Group, left: usize) -> Result<WrittenType, Stop>
-    ensures { Gives written_view result (square_at (type_in left) group.now.span (words_view group.now.trees)) }
+    ensures { Gives written_view result
+        (square_at (type_in left) group.now.span (words_view group.now.trees)) }
 {
     match square_at(alloc, group.span, group.trees.as_slice(), left) {
         Ok(ty) => Ok(ty),
@@ -420,7 +438,8 @@ fn types_at(
     trees: &[TokenTree],
     left: usize,
 ) -> Result<(List<WrittenType>, &[TokenTree]), Stop>
-    ensures value { Gives (λ p. (map written_view p.0, words_view p.1.now)) result (list_of (type_in left Any) (words_view trees.now)) }
+    ensures value { Gives (λ p. (map written_view p.0, words_view p.1.now)) result
+        (list_of (type_in left Any) (words_view trees.now)) }
     ensures shorter { IfOk result (λ p. length p.1.now ≤ length trees.now) }
 {
     let mut types = List::new(alloc);

@@ -59,7 +59,8 @@ fn segments_trees<'t>(
     alloc: Global,
     segments: &'t [PathSegment],
 ) -> Result<Vec<TypeTree<'t>>, AllocError>
-    ensures { IfOk result (λ trees. trees_view trees.items ≡ segments_trees (segments_view segments.now)) }
+    ensures { IfOk result (λ trees. trees_view trees.items
+        ≡ segments_trees (segments_view segments.now)) }
 {
     match segments.last() {
         None => Ok(Vec::new(alloc)),
@@ -72,7 +73,8 @@ fn segment_trees<'t>(
     alloc: Global,
     segment: &'t PathSegment,
 ) -> Result<Vec<TypeTree<'t>>, AllocError>
-    ensures { IfOk result (λ trees. trees_view trees.items ≡ segment_trees (segment_view segment.now)) }
+    ensures { IfOk result (λ trees. trees_view trees.items
+        ≡ segment_trees (segment_view segment.now)) }
 {
     match &segment.arguments {
         None => Ok(Vec::new(alloc)),
@@ -85,7 +87,8 @@ fn argument_trees<'t>(
     alloc: Global,
     arguments: &'t [GenericArgument],
 ) -> Result<Vec<TypeTree<'t>>, AllocError>
-    ensures { IfOk result (λ trees. trees_view trees.items ≡ argument_trees (arguments_view arguments.now)) }
+    ensures { IfOk result (λ trees. trees_view trees.items
+        ≡ argument_trees (arguments_view arguments.now)) }
 {
     let mut trees = Vec::new(alloc);
     for argument in arguments {
@@ -101,7 +104,8 @@ fn argument_tree<'t>(
     alloc: Global,
     argument: &'t GenericArgument,
 ) -> Result<Option<TypeTree<'t>>, AllocError>
-    ensures { IfOk result (λ found. option_map tree_view found ≡ argument_tree (argument_view argument.now)) }
+    ensures { IfOk result (λ found. option_map tree_view found
+        ≡ argument_tree (argument_view argument.now)) }
 {
     match argument {
         GenericArgument::Ty(ty) => Ok(Some(type_tree(alloc, ty)?)),
@@ -138,7 +142,8 @@ fn list_tree<'t>(alloc: Global, item: TypeTree<'t>, span: Span) -> Result<TypeTr
 
 /// The tree of a tuple.
 fn tuple_tree<'t>(span: Option<Span>, items: Vec<TypeTree<'t>>) -> TypeTree<'t>
-    ensures { tree_view result ≡ tree None span ValueType.Tuple None (those (trees_view items.entry.items)) }
+    ensures { tree_view result
+        ≡ tree None span ValueType.Tuple None (those (trees_view items.entry.items)) }
 {
     TypeTree {
         path: None,

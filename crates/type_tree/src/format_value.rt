@@ -1,6 +1,7 @@
 //! Formats that stand in attributes.
 
-ghost use Rattle.std.specs.Prelude.{◌≡◌, ◌⊎◌, Some, None, option_map, IfOk, IfErr};
+ghost use Rattle.std.specs.Prelude.{◌≡◌, ◌⊎◌, Some, None, option_map, IfOk};
+ghost use Rattle.diag.specs.Refusal.{Refuses};
 ghost use Rattle.tokens.specs.Trees.{tree_view, trees_view};
 ghost use Rattle.type_tree.specs.Formats.{format_named, token_format, format_value, only_token, tree_span, trees_span, format_message, token_message, unexpected_value, IsRefusedFormat};
 
@@ -25,7 +26,9 @@ impl KnownFormat {
         attribute: &Ident,
     ) -> Result<KnownFormat, DeriveError>
         ensures found { IfOk result (λ format. format_value (trees_view trees.now) ≡ Some format) }
-        ensures refused { IfErr result (λ e. (e ≡ DeriveError.Memory) ⊎ ((format_value (trees_view trees.now) ≡ None) × IsRefusedFormat (trees_view trees.now) attribute.now e)) }
+        ensures refused { Refuses result
+            (λ e. ((format_value (trees_view trees.now) ≡ None)
+            × IsRefusedFormat (trees_view trees.now) attribute.now e)) }
     {
         match format_of_trees(alloc, trees)? {
             Some(format) => Ok(format),
@@ -117,7 +120,8 @@ fn bad_value(alloc: Global, trees: &[TokenTree], attribute: &Ident) -> DeriveErr
 
 /// What the refusal of the trees tells.
 fn message_of(alloc: Global, trees: &[TokenTree], attribute: &Ident) -> Result<Text, AllocError>
-    ensures { IfOk result (λ message. message ≡ format_message (only_token (trees_view trees.now)) attribute.now.text) }
+    ensures { IfOk result (λ message. message
+        ≡ format_message (only_token (trees_view trees.now)) attribute.now.text) }
 {
     match only_token(trees) {
         Some(token) => message_of_token(alloc, token, attribute),
@@ -127,7 +131,8 @@ fn message_of(alloc: Global, trees: &[TokenTree], attribute: &Ident) -> Result<T
 
 /// What the refusal of the token tells.
 fn message_of_token(alloc: Global, token: &Token, attribute: &Ident) -> Result<Text, AllocError>
-    ensures { IfOk result (λ message. message ≡ token_message token.now.kind token.now attribute.now.text) }
+    ensures { IfOk result (λ message. message
+        ≡ token_message token.now.kind token.now attribute.now.text) }
 {
     match token.kind {
         TokenKind::Ident => {

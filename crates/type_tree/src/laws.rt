@@ -13,8 +13,13 @@ use written_types::types_are_equal_by_text;
 
 /// Paths of types and type trees are equal exactly where they are the same without their spans.
 pub fn trees_are_equal_by_text()
-    ensures path { (p q : SchemaPath) → Decides (⟦<SchemaPath<'static> as PartialEq>⟧.eq p q) (tree_path_without_spans (schema_path_view p) ≡ tree_path_without_spans (schema_path_view q)) }
-    ensures tree { (t u : TypeTree) → Decides (⟦<TypeTree<'static> as PartialEq>⟧.eq t u) (tree_without_spans (tree_view t) ≡ tree_without_spans (tree_view u)) }
+    ensures path { (p q : SchemaPath)
+        → Decides (⟦<SchemaPath<'static> as PartialEq>⟧.eq p q)
+        (tree_path_without_spans (schema_path_view p)
+        ≡ tree_path_without_spans (schema_path_view q)) }
+    ensures tree { (t u : TypeTree)
+        → Decides (⟦<TypeTree<'static> as PartialEq>⟧.eq t u) (tree_without_spans (tree_view t)
+        ≡ tree_without_spans (tree_view u)) }
 {
     types_are_equal_by_text();
 }

@@ -36,7 +36,8 @@ pub(crate) fn name_of(path: &Path) -> &str
 
 /// The last of the segments.
 pub(crate) fn last_of(segments: &[PathSegment]) -> Option<&PathSegment>
-    ensures { option_map (λ segment. segment_view segment.now) result ≡ last_segment (segments_view segments.now) }
+    ensures { option_map (λ segment. segment_view segment.now) result
+        ≡ last_segment (segments_view segments.now) }
 {
     segments.last()
 }

@@ -14,7 +14,8 @@ pub struct PrimitiveType {
 impl PrimitiveType {
     /// The built-in type of the path's last identifier; None where that names none.
     pub fn new(path: &SchemaPath<'_>) -> Option<PrimitiveType>
-        ensures { option_map (λ found. found.ty) result ≡ leaf_of (last_name (schema_path_view path.now)) }
+        ensures { option_map (λ found. found.ty) result
+            ≡ leaf_of (last_name (schema_path_view path.now)) }
     {
         match Leaf::named(path.last_name()) {
             None => None,

@@ -55,7 +55,8 @@ impl<'a> SchemaType<'a> {
 
     /// Whether it is `String` or `str`. A `char` is not.
     pub fn is_string(&self) -> bool
-        ensures { let name = last_name (schema_path_view self.now.path) in IsTrue result ↔ ((name ≡ codes "String") ⊎ (name ≡ codes "str")) }
+        ensures { let name = last_name (schema_path_view self.now.path) in IsTrue result
+            ↔ ((name ≡ codes "String") ⊎ (name ≡ codes "str")) }
     {
         matches!(self.path.last_name(), "String" | "str")
     }
@@ -69,7 +70,8 @@ impl<'a> SchemaType<'a> {
 
     /// The word of `type`: `object` where the name is not a built-in one; with `null` where the type is nullable.
     pub fn type_word(&self) -> TypeWord
-        ensures { result ≡ type_word self.now.nullable (word_of (kind_named (last_name (schema_path_view self.now.path)))) }
+        ensures { result ≡ type_word self.now.nullable
+            (word_of (kind_named (last_name (schema_path_view self.now.path)))) }
     {
         let word = word_of(self.kind());
         if self.nullable {

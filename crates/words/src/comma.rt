@@ -11,7 +11,8 @@ use tokens::TokenTree;
 /// What follows a comma, or nothing where nothing is left. It refuses trees that begin with anything else.
 #[tactic(auto, using(crate::proofs::Turns::comma_follows))]
 pub fn after_comma(trees: &[TokenTree]) -> Result<&[TokenTree], Stop>
-    ensures value { Gives (λ rest. words_view rest.now) result (after_comma (words_view trees.now)) }
+    ensures value { Gives (λ rest. words_view rest.now) result
+        (after_comma (words_view trees.now)) }
     ensures shorter { IfOk result (λ rest. length rest.now ≤ length trees.now) }
 {
     match trees {

@@ -13,7 +13,8 @@ use tokens::{Bracket, Group, Token, TokenTree};
 
 /// A name, and what follows it. It refuses trees that do not begin with one.
 pub fn name_at(trees: &[TokenTree]) -> Result<(&Token, &[TokenTree]), Stop>
-    ensures value { Gives (λ p. (ident_of p.0.now, words_view p.1.now)) result (name_at (words_view trees.now)) }
+    ensures value { Gives (λ p. (ident_of p.0.now, words_view p.1.now)) result
+        (name_at (words_view trees.now)) }
     ensures shorter { IfOk result (λ p. length p.1.now < length trees.now) }
 {
     match trees {
@@ -28,7 +29,8 @@ pub fn name_at(trees: &[TokenTree]) -> Result<(&Token, &[TokenTree]), Stop>
 /// A word of a path, and what follows it: a name, `_`, `crate`, `self`, `super` or `Self`. It refuses trees that do not
 /// begin with one.
 pub fn path_word_at(trees: &[TokenTree]) -> Result<(&Token, &[TokenTree]), Stop>
-    ensures value { Gives (λ p. (ident_of p.0.now, words_view p.1.now)) result (path_word_at (words_view trees.now)) }
+    ensures value { Gives (λ p. (ident_of p.0.now, words_view p.1.now)) result
+        (path_word_at (words_view trees.now)) }
     ensures shorter { IfOk result (λ p. length p.1.now < length trees.now) }
 {
     match trees {
@@ -46,7 +48,8 @@ pub fn path_word_at(trees: &[TokenTree]) -> Result<(&Token, &[TokenTree]), Stop>
 
 /// The keyword, where the trees begin with it, and what follows it.
 pub fn optional_keyword(trees: &[TokenTree], keyword: Keyword) -> Option<(Span, &[TokenTree])>
-    ensures value { MatchOption result (keyword_at keyword (words_view trees.now) ≡ Err wrong) (λ p. keyword_at keyword (words_view trees.now) ≡ Ok (p.0, words_view p.1.now)) }
+    ensures value { MatchOption result (keyword_at keyword (words_view trees.now) ≡ Err wrong)
+        (λ p. keyword_at keyword (words_view trees.now) ≡ Ok (p.0, words_view p.1.now)) }
     ensures shorter { IfSome result (λ p. length p.1.now < length trees.now) }
 {
     match trees {
@@ -60,7 +63,8 @@ pub fn optional_keyword(trees: &[TokenTree], keyword: Keyword) -> Option<(Span, 
 
 /// The keyword, and what follows it. It refuses trees that do not begin with it.
 pub fn keyword_at(trees: &[TokenTree], keyword: Keyword) -> Result<(Span, &[TokenTree]), Stop>
-    ensures value { Gives (λ p. (p.0, words_view p.1.now)) result (keyword_at keyword (words_view trees.now)) }
+    ensures value { Gives (λ p. (p.0, words_view p.1.now)) result
+        (keyword_at keyword (words_view trees.now)) }
     ensures shorter { IfOk result (λ p. length p.1.now < length trees.now) }
 {
     match optional_keyword(trees, keyword) {
@@ -82,7 +86,8 @@ fn as_sign(word: Word<'_>, sign: Sign) -> Option<Span>
 
 /// The sign, where the trees begin with it, and what follows it.
 pub fn optional_sign(trees: &[TokenTree], sign: Sign) -> Option<(Span, &[TokenTree])>
-    ensures value { MatchOption result (sign_at sign (words_view trees.now) ≡ Err wrong) (λ p. sign_at sign (words_view trees.now) ≡ Ok (p.0, words_view p.1.now)) }
+    ensures value { MatchOption result (sign_at sign (words_view trees.now) ≡ Err wrong)
+        (λ p. sign_at sign (words_view trees.now) ≡ Ok (p.0, words_view p.1.now)) }
     ensures shorter { IfSome result (λ p. length p.1.now < length trees.now) }
 {
     match trees {
@@ -96,7 +101,8 @@ pub fn optional_sign(trees: &[TokenTree], sign: Sign) -> Option<(Span, &[TokenTr
 
 /// The sign, and what follows it. It refuses trees that do not begin with it.
 pub fn sign_at(trees: &[TokenTree], sign: Sign) -> Result<(Span, &[TokenTree]), Stop>
-    ensures value { Gives (λ p. (p.0, words_view p.1.now)) result (sign_at sign (words_view trees.now)) }
+    ensures value { Gives (λ p. (p.0, words_view p.1.now)) result
+        (sign_at sign (words_view trees.now)) }
     ensures shorter { IfOk result (λ p. length p.1.now < length trees.now) }
 {
     match optional_sign(trees, sign) {
@@ -107,7 +113,8 @@ pub fn sign_at(trees: &[TokenTree], sign: Sign) -> Result<(Span, &[TokenTree]), 
 
 /// A lifetime, where the trees begin with one, and what follows it.
 pub fn optional_lifetime(trees: &[TokenTree]) -> Option<(&Token, &[TokenTree])>
-    ensures value { MatchOption result (lifetime_at (words_view trees.now) ≡ Err wrong) (λ p. lifetime_at (words_view trees.now) ≡ Ok (lifetime_of p.0.now, words_view p.1.now)) }
+    ensures value { MatchOption result (lifetime_at (words_view trees.now) ≡ Err wrong)
+        (λ p. lifetime_at (words_view trees.now) ≡ Ok (lifetime_of p.0.now, words_view p.1.now)) }
     ensures shorter { IfSome result (λ p. length p.1.now < length trees.now) }
 {
     match trees {
@@ -121,7 +128,8 @@ pub fn optional_lifetime(trees: &[TokenTree]) -> Option<(&Token, &[TokenTree])>
 
 /// A lifetime, and what follows it. It refuses trees that do not begin with one.
 pub fn lifetime_at(trees: &[TokenTree]) -> Result<(&Token, &[TokenTree]), Stop>
-    ensures value { Gives (λ p. (lifetime_of p.0.now, words_view p.1.now)) result (lifetime_at (words_view trees.now)) }
+    ensures value { Gives (λ p. (lifetime_of p.0.now, words_view p.1.now)) result
+        (lifetime_at (words_view trees.now)) }
     ensures shorter { IfOk result (λ p. length p.1.now < length trees.now) }
 {
     match optional_lifetime(trees) {
@@ -132,7 +140,8 @@ pub fn lifetime_at(trees: &[TokenTree]) -> Result<(&Token, &[TokenTree]), Stop>
 
 /// A literal, and what follows it. It refuses trees that do not begin with one.
 pub fn literal_at(trees: &[TokenTree]) -> Result<(&Token, &[TokenTree]), Stop>
-    ensures value { Gives (λ p. (p.0.now, words_view p.1.now)) result (literal_at (words_view trees.now)) }
+    ensures value { Gives (λ p. (p.0.now, words_view p.1.now)) result
+        (literal_at (words_view trees.now)) }
     ensures shorter { IfOk result (λ p. length p.1.now < length trees.now) }
 {
     match trees {
@@ -146,7 +155,8 @@ pub fn literal_at(trees: &[TokenTree]) -> Result<(&Token, &[TokenTree]), Stop>
 
 /// A group in these brackets, and what follows it. It refuses trees that do not begin with one.
 pub fn group_at(trees: &[TokenTree], bracket: Bracket) -> Result<(&Group, &[TokenTree]), Stop>
-    ensures value { Gives (λ p. ((trees_view p.0.now.trees, p.0.now.span), words_view p.1.now)) result (group_at bracket (words_view trees.now)) }
+    ensures value { Gives (λ p. ((trees_view p.0.now.trees, p.0.now.span), words_view p.1.now))
+        result (group_at bracket (words_view trees.now)) }
     ensures shorter { IfOk result (λ p. length p.1.now < length trees.now) }
 {
     match trees {

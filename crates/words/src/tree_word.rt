@@ -92,7 +92,8 @@ pub fn ident_of(alloc: Global, token: &Token) -> Result<Ident, AllocError>
 
 /// Whether a lifetime is raw, and its text without the `r#` of a raw one.
 fn unmarked_lifetime(alloc: Global, text: &str) -> Result<(bool, Text), AllocError>
-    ensures { IfOk result (λ p. (p.0 ≡ is_raw_lifetime text.now) × (p.1 ≡ unmarked_lifetime text.now)) }
+    ensures { IfOk result (λ p. (p.0 ≡ is_raw_lifetime text.now)
+        × (p.1 ≡ unmarked_lifetime text.now)) }
 {
     match text.strip_prefix("'r#") {
         Some(name) => {

@@ -41,7 +41,7 @@ loop-owner-preserved c =
       all_more (resolved_of (around_of c.args.config.now.renames (declarations_view c.args.declarations.now))) declaration_view resolved_view items at d c.loop-owner.resolved _ lt is c.loop-owner.invariant.0 c.in_ok-resolved_of.ensures.resolved,
       subst MembersDiffer (sym (map_push resolved_view c.loop-owner.resolved _)) (differ-push (map resolved_view c.loop-owner.resolved) _ c.loop-owner.invariant.1 c.in_ok-resolved_of.ensures.distinct),
       facts_more (λ x. RefusesNone (IsFaultyItem (around_of c.args.config.now.renames (declarations_view c.args.declarations.now)) x)) declaration_view items at d lt is c.loop-owner.invariant.2
-      c.in_ok-resolved_of.ensures.faultless,
+          c.in_ok-resolved_of.ensures.faultless,
     )
 
 pub resolved_of-requires : goal.resolved_of-requires
