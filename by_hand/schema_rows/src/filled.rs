@@ -1,7 +1,7 @@
 //! Schemas put at the leaves of a schema.
 
 use filling::{CopyLeaf, Fill};
-use schema_core::{Additional, Notes, Object, RefLeaf, Schema, SchemaTypeInner, Tree, TypeWord};
+use schema_core::{Notes, Object, RefLeaf, Schema, SchemaTypeInner, Tree, TypeWord};
 use std::alloc::{AllocError, Global};
 use texts::List;
 
@@ -11,6 +11,7 @@ pub(crate) struct Objects;
 impl Fill for Objects {
     ghost use Rattle.std.specs.Prelude.{None, []};
     ghost use Rattle.schema_core.specs.Notes.{no_notes};
+    ghost use Rattle.schema_core.specs.Objects.{word_facts};
     ghost use Rattle.schema_core.specs.Schema as tree;
     ghost use Rattle.schema_core.specs.declared.tree.RefLeaf.{RefLeaf as Reference};
     ghost use Rattle.schema_core.specs.declared.tree.TypeWord.TheVariants.{One};
@@ -28,23 +29,17 @@ impl Fill for Objects {
 
     ghost meaning = { λ l. l };
 
-    ghost put = { λ _ l. tree.object (record { type_word = One words.Object; format = None; enum_values = None; required = []; minimum = None; notes = no_notes }) (tree.property l.name (tree.leaf l) tree.no_properties) tree.no_part tree.no_part };
+    ghost put = { λ _ l. tree.object (word_facts (One words.Object) no_notes) (tree.property l.name (tree.leaf l) tree.no_properties) tree.no_part tree.no_part };
 
     fn fill(&self, alloc: Global, leaf: &RefLeaf) -> Result<Schema, AllocError> {
         let name = leaf.name.copy(alloc)?;
         let leaf = leaf.copy_leaf(alloc)?;
         let mut properties = List::new(alloc);
         properties.push((name, Tree::Leaf(leaf)))?;
+        let word = TypeWord::One(SchemaTypeInner::Object);
         let object = Object {
-            ty: TypeWord::One(SchemaTypeInner::Object),
-            format: None,
-            enum_values: None,
             properties,
-            required: List::new(alloc),
-            additional: Additional::Absent,
-            property_names: None,
-            minimum: None,
-            notes: Notes::new(),
+            ..Object::new(alloc, word, Notes::new())
         };
         Ok(Tree::Object(Box::new(alloc, object)?))
     }

@@ -120,23 +120,13 @@ fn property_names(
 
 /// An object that says nothing.
 fn plain(alloc: Global) -> Object<RefLeaf> {
-    Object {
-        ty: TypeWord::Any,
-        format: None,
-        enum_values: None,
-        properties: List::new(alloc),
-        required: List::new(alloc),
-        additional: Additional::Absent,
-        property_names: None,
-        minimum: None,
-        notes: Notes::new(),
-    }
+    Object::new(alloc, TypeWord::Any, Notes::new())
 }
 
 /// Sets what an object says of itself.
 fn set_values(alloc: Global, object: &mut Object<RefLeaf>, given: &Value) -> anyhow::Result<()> {
     object.ty = type_word(given)?;
-    object.minimum = bound(given, "minimum");
+    object.bounds.minimum = bound(given, "minimum");
     object.format = text(alloc, given, "format")?;
     object.enum_values = jsons(alloc, given, "enum")?;
     object.notes = notes(alloc, given)?;

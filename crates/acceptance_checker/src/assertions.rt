@@ -14,8 +14,8 @@ use serde_json::{Map, Value};
 
 /// Whether the member, whose value is `x`, holds of the value `v`.
 pub fn assertion_holds(assertion: Assertion, x: Layer<'_>, v: Layer<'_>) -> bool
-    ensures { (schema : Members) (r : Readings) → result
-        ≡ keyword_holds (assertion_meant assertion) schema (json_of_layer x.entry) r
+    ensures { (schema : Members) (r : Readings)
+        → result ≡ keyword_holds (assertion_meant assertion) schema (json_of_layer x.entry) r
         (json_of_layer v.entry) }
 {
     match assertion {
@@ -78,8 +78,8 @@ fn enum_holds(x: Layer<'_>, v: Layer<'_>) -> bool
 }
 
 fn number_holds(comparison: Comparison, x: Layer<'_>, v: Layer<'_>) -> bool
-    ensures { (schema : Members) (r : Readings) → result
-        ≡ keyword_holds (comparison_meant comparison) schema (json_of_layer x.entry) r
+    ensures { (schema : Members) (r : Readings)
+        → result ≡ keyword_holds (comparison_meant comparison) schema (json_of_layer x.entry) r
         (json_of_layer v.entry) }
 {
     match x {
@@ -115,9 +115,9 @@ fn is_multiple(n: i128, m: i128) -> bool
 }
 
 fn length_holds(limit: Limit, x: Layer<'_>, v: Layer<'_>) -> bool
-    ensures { (schema : Members) (r : Readings) → result
-        ≡ keyword_holds (limit_meant limit min_length max_length) schema (json_of_layer x.entry)
-        r (json_of_layer v.entry) }
+    ensures { (schema : Members) (r : Readings)
+        → result ≡ keyword_holds (limit_meant limit min_length max_length) schema
+        (json_of_layer x.entry) r (json_of_layer v.entry) }
 {
     match x {
         Layer::Whole(n) => match v {
@@ -144,8 +144,8 @@ fn is_within(limit: Limit, n: i128, count: usize) -> bool
 }
 
 fn properties_hold(limit: Limit, x: Layer<'_>, v: Layer<'_>) -> bool
-    ensures { (schema : Members) (r : Readings) → result
-        ≡ keyword_holds (limit_meant limit min_properties max_properties) schema
+    ensures { (schema : Members) (r : Readings)
+        → result ≡ keyword_holds (limit_meant limit min_properties max_properties) schema
         (json_of_layer x.entry) r (json_of_layer v.entry) }
 {
     match x {
@@ -158,9 +158,9 @@ fn properties_hold(limit: Limit, x: Layer<'_>, v: Layer<'_>) -> bool
 }
 
 fn items_hold(limit: Limit, x: Layer<'_>, v: Layer<'_>) -> bool
-    ensures { (schema : Members) (r : Readings) → result
-        ≡ keyword_holds (limit_meant limit min_items max_items) schema (json_of_layer x.entry) r
-        (json_of_layer v.entry) }
+    ensures { (schema : Members) (r : Readings)
+        → result ≡ keyword_holds (limit_meant limit min_items max_items) schema
+        (json_of_layer x.entry) r (json_of_layer v.entry) }
 {
     match x {
         Layer::Whole(n) => match v {

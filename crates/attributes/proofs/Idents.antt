@@ -64,16 +64,8 @@ no_colons_end [] e = refl
 no_colons_end (w ∷ ws) e = none_from w ws (as_sign Colons w) refl e
 
 module _ (start : List Word) (front : List Ident) (ws : List Word) (so_far : with_before front (more_idents_at ws) ≡ idents_at start) where
-  pub idents_done : sign_at Colons ws ≡ Err wrong → idents_at start ≡ Ok (front, ws)
-  idents_done e = sym so_far ∙ before_nothing front (more_idents_at ws) ws (no_colons_end ws e)
-
   turned : (p : Span × List Word) → sign_at Colons ws ≡ Ok p → idents_at start ≡ with_before front (idents_at p.1)
   turned p e = sym so_far ∙ ap (λ v. with_before front (more_idents_at v)) (sign-is Colons ws p e) ∙ ap (with_before front) (colons_go_on p.0 p.1)
-
-  pub idents_fail : (p : Span × List Word) (s : Stop) → sign_at Colons ws ≡ Ok p → Fails s (ident_at p.1) → Fails s (idents_at start)
-  unfolding idents_at
-  idents_fail p s e f =
-      like_fails s (turned p e) (before_fails front s (idents_at p.1) (first_fails s (ident_at p.1) (λ x. with_before (x.0 ∷ []) (more_idents_at x.1)) f))
 
   pub idents_turn : (p : Span × List Word) (q : Ident × List Word) → sign_at Colons ws ≡ Ok p → ident_at p.1 ≡ Ok q → with_before (front ++ q.0 ∷ []) (more_idents_at q.1) ≡ idents_at start
   unfolding idents_at

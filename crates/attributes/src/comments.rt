@@ -19,7 +19,8 @@ pub struct CommentAttributes(pub List<Text>);
 
 /// What the attribute says, if it is a doc comment or `doc = "text"`.
 fn said(alloc: Global, attribute: &Attribute) -> Result<Option<Text>, AllocError>
-    ensures { IfOk result (λ text. listed text
+    ensures { IfOk result
+        (λ text. listed text
         ≡ said_by (path_view attribute.now.path) (meta_view attribute.now.meta)) }
 {
     match &attribute.meta {
@@ -114,8 +115,8 @@ impl CommentAttributes {
         alloc: Global,
         attributes: &[Attribute],
     ) -> Result<CommentAttributes, AllocError>
-        ensures { IfOk result (λ comments. comments.0
-            ≡ lines_of (docs_of (map attribute_view attributes.now))) }
+        ensures { IfOk result
+            (λ comments. comments.0 ≡ lines_of (docs_of (map attribute_view attributes.now))) }
     {
         let docs = docs_of(alloc, attributes)?;
         Ok(CommentAttributes(lines_of(alloc, docs.as_slice())?))

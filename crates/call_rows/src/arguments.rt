@@ -15,8 +15,8 @@ use texts::{List, Text};
 
 /// The first declaration with a `Vec` of the first parameter as its argument.
 fn first_of_parameter(alloc: Global) -> Result<OpenType, AllocError>
-    ensures { IfOk result (λ t. open_view t
-        ≡ named 0 (more_types (items AnyVec (param 0)) no_types)) }
+    ensures { IfOk result
+        (λ t. open_view t ≡ named 0 (more_types (items AnyVec (param 0)) no_types)) }
 {
     let mut arguments = List::new(alloc);
     let item = Box::new(alloc, OpenType::Param(0))?;
@@ -26,8 +26,8 @@ fn first_of_parameter(alloc: Global) -> Result<OpenType, AllocError>
 
 /// The first declaration with a `Vec` of the second as its argument.
 fn first_of_seconds(alloc: Global) -> Result<ClosedType, AllocError>
-    ensures { IfOk result (λ t. open_view t
-        ≡ named 0 (more_types (items AnyVec (named 1 no_types)) no_types)) }
+    ensures { IfOk result
+        (λ t. open_view t ≡ named 0 (more_types (items AnyVec (named 1 no_types)) no_types)) }
 {
     let arguments = [ClosedType::declared(alloc, 1)];
     let ty = substitute(alloc, &first_of_parameter(alloc)?, arguments.as_slice())?;

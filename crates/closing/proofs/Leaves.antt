@@ -1,11 +1,11 @@
 -- What holds of the leaves of a schema: two facts at once, the declarations that are inline there, and schemas that are the same at each.
-use Rattle.std.proofs.Common.{ℕ, List, [], ◌∷◌, ◌++◌, cond, ◌≡◌, refl, ap, sym, ◌∙◌, subst, ◌⊎◌, inl, inr}
-use Rattle.std.proofs.lemmas.List.{append_assoc}
+use Rattle.std.proofs.Common.{ℕ, List, [], ◌∷◌, ◌++◌, ◌≡◌, refl, sym, ◌∙◌, subst, ◌⊎◌, inl, inr}
 use Rattle.schema_core.specs.Schema.{SchemaOf, leaf, object, array, one_of, all_of, SchemasOf, no_schemas, schema, PropertiesOf, no_properties, property, PartOf, no_part, truth, part, bind, bind_schemas, bind_properties, bind_part, EachLeaf, EachSchemaLeaf, EachPropertyLeaf, EachPartLeaf}
 use Rattle.component.specs.Leaves.{LeafOf}
 use Rattle.component.specs.References.{ReferenceOf, leaf_references, named_leaves, schema_leaves, property_leaves, part_leaves}
 use Rattle.inlining.specs.Inlining.{IsAmong}
-use Rattle.closing.specs.Targets.{declaration_of, inlined_among}
+use Rattle.closing.specs.Targets.{inlined_among}
+use Rattle.closing.proofs.Found.{among-append}
 
 -- ---- two facts at once
 
@@ -74,21 +74,16 @@ among_cases e (x ∷ xs) ys (inr h) = elim (among_cases e xs ys h) [
   | inr i ↦ inr i
 ]
 
-pub inlined-both : (rs bs : List ReferenceOf) → inlined_among (rs ++ bs) ≡ inlined_among rs ++ inlined_among bs
-inlined-both [] bs = refl
-inlined-both (a ∷ rest) bs =
-    ap (λ ds. cond a.is_inline (declaration_of a.of) [] ++ ds) (inlined-both rest bs) ∙ sym (append_assoc (cond a.is_inline (declaration_of a.of) []) (inlined_among rest) (inlined_among bs))
-
 module _ (P : ℕ → Type 0) where
   -- the fact holds of each declaration that is inline among the leaves
   abbrev pub AtInlined : List ReferenceOf → Type 0
   AtInlined rs = (e : ℕ) → IsAmong e (inlined_among rs) → P e
 
   in_front : (front behind : List ReferenceOf) → AtInlined (front ++ behind) → AtInlined front
-  in_front front behind h e a = h e (subst (IsAmong e) (sym (inlined-both front behind)) (among-left e (inlined_among front) (inlined_among behind) a))
+  in_front front behind h e a = h e (subst (IsAmong e) (sym (among-append front behind)) (among-left e (inlined_among front) (inlined_among behind) a))
 
   in_back : (front behind : List ReferenceOf) → AtInlined (front ++ behind) → AtInlined behind
-  in_back front behind h e a = h e (subst (IsAmong e) (sym (inlined-both front behind)) (among-right e (inlined_among front) (inlined_among behind) a))
+  in_back front behind h e a = h e (subst (IsAmong e) (sym (among-append front behind)) (among-right e (inlined_among front) (inlined_among behind) a))
 
   mutual
     pub at-leaves : (s : SchemaOf LeafOf) → AtInlined (named_leaves s) → EachLeaf (λ x. AtInlined (leaf_references x)) s
@@ -116,7 +111,7 @@ module _ (P : ℕ → Type 0) where
     at-part (part s) h = at-leaves s h
 
   together : (front behind : List ReferenceOf) → AtInlined front → AtInlined behind → AtInlined (front ++ behind)
-  together front behind f g e a = elim (among_cases e (inlined_among front) (inlined_among behind) (subst (IsAmong e) (inlined-both front behind) a)) [
+  together front behind f g e a = elim (among_cases e (inlined_among front) (inlined_among behind) (subst (IsAmong e) (among-append front behind) a)) [
     | inl h ↦ f e h
     | inr h ↦ g e h
   ]

@@ -9,7 +9,6 @@ use Rattle.schema_core.specs.Form.{form}
 use Rattle.schema_core.specs.Document.{Entry, document}
 use Rattle.schema_core.specs.Entries.{find, names_of, IsInOrder}
 use Rattle.texts.specs.Names.{IsDistinct}
-use Rattle.open_types.specs.Open.{Open}
 use Rattle.shapes.specs.Declarations.{DeclarationOf, declaration_at, declaration_names, MembersDiffer, AreWithin}
 use Rattle.shapes.specs.Shape.{HasShape}
 use Rattle.shapes.specs.Plain.{IsPlain}

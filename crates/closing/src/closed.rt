@@ -70,8 +70,8 @@ fn schema_at(alloc: Global, made: &[Schema], place: usize) -> Result<Schema, All
 
 /// The schema of the type's declaration; of another type, one that says nothing.
 fn schema_of(alloc: Global, made: &[Schema], ty: &OpenType) -> Result<Schema, AllocError>
-    ensures { IfOk result (λ s. schema_view s
-        ≡ schema_of (schema_in (map schema_view made.now)) (open_view ty.now)) }
+    ensures { IfOk result
+        (λ s. schema_view s ≡ schema_of (schema_in (map schema_view made.now)) (open_view ty.now)) }
 {
     match ty {
         OpenType::Named(place, _) => schema_at(alloc, made, *place),
@@ -86,10 +86,12 @@ fn reference_to<D: Declared>(
     ty: &OpenType,
     notes: &Notes,
 ) -> Result<Schema, AllocError>
-    ensures { IfOk result (λ s. schema_view s
+    ensures { IfOk result
+        (λ s. schema_view s
         ≡ leaf (record {
           name = name_of (map D.declaration declared.now) (open_view ty.now);
-          notes = notes.now;
+          notes =
+              notes.now;
         })) }
 {
     Ok(Tree::Leaf(RefLeaf {

@@ -16,8 +16,8 @@ use texts::{List, Text};
 
 /// The terms of the declarations, in their order.
 pub fn terms_of<D: Declared>(alloc: Global, declared: &[D]) -> Result<List<Term>, AllocError>
-    ensures { IfOk result (λ terms. map term_view terms
-        ≡ map (λ s. term (D.declaration s)) declared.now) }
+    ensures { IfOk result
+        (λ terms. map term_view terms ≡ map (λ s. term (D.declaration s)) declared.now) }
 {
     let mut terms = List::new(alloc);
     for of in declared {
@@ -28,8 +28,8 @@ pub fn terms_of<D: Declared>(alloc: Global, declared: &[D]) -> Result<List<Term>
 
 /// The declaration of the leaf, where its schema stands there itself.
 fn push_leaf(found: &mut List<usize>, leaf: &TermLeaf) -> Result<(), AllocError>
-    ensures { OnOk result (found.new ≡ found.old
-        ++ inlined_among (leaf_references (leaf_view leaf.now))) }
+    ensures { OnOk result
+        (found.new ≡ found.old ++ inlined_among (leaf_references (leaf_view leaf.now))) }
 {
     match leaf {
         TermLeaf::Named { of, inline, .. } => match of {
@@ -64,8 +64,9 @@ fn push_object(found: &mut List<usize>, object: &Object<TermLeaf>) -> Result<(),
 
 #[cycle(targets)]
 fn push_properties(found: &mut List<usize>, properties: &[(Text, Term)]) -> Result<(), AllocError>
-    ensures { OnOk result (found.new ≡ found.old
-        ++ inlined_among (property_leaves (named_views leaf_view properties.now))) }
+    ensures { OnOk result
+        (found.new
+        ≡ found.old ++ inlined_among (property_leaves (named_views leaf_view properties.now))) }
 {
     for property in properties {
         push_targets(found, &property.1)?;
@@ -75,8 +76,8 @@ fn push_properties(found: &mut List<usize>, properties: &[(Text, Term)]) -> Resu
 
 #[cycle(targets)]
 fn push_names(found: &mut List<usize>, names: &Option<Term>) -> Result<(), AllocError>
-    ensures { OnOk result (found.new ≡ found.old
-        ++ inlined_among (part_leaves (optional_view leaf_view names.now))) }
+    ensures { OnOk result
+        (found.new ≡ found.old ++ inlined_among (part_leaves (optional_view leaf_view names.now))) }
 {
     match names {
         Some(names) => push_targets(found, names),
@@ -86,8 +87,9 @@ fn push_names(found: &mut List<usize>, names: &Option<Term>) -> Result<(), Alloc
 
 #[cycle(targets)]
 fn push_values(found: &mut List<usize>, values: &Additional<TermLeaf>) -> Result<(), AllocError>
-    ensures { OnOk result (found.new ≡ found.old
-        ++ inlined_among (part_leaves (additional_view leaf_view values.now))) }
+    ensures { OnOk result
+        (found.new
+        ≡ found.old ++ inlined_among (part_leaves (additional_view leaf_view values.now))) }
 {
     match values {
         Additional::Of(schema) => push_targets(found, schema),
@@ -105,8 +107,9 @@ fn push_array(found: &mut List<usize>, array: &Array<TermLeaf>) -> Result<(), Al
 
 #[cycle(targets)]
 fn push_items(found: &mut List<usize>, items: &ArrayItems<TermLeaf>) -> Result<(), AllocError>
-    ensures { OnOk result (found.new ≡ found.old
-        ++ inlined_among (part_leaves (array_items_view leaf_view items.now))) }
+    ensures { OnOk result
+        (found.new
+        ≡ found.old ++ inlined_among (part_leaves (array_items_view leaf_view items.now))) }
 {
     match items {
         ArrayItems::Each(schema) => push_targets(found, schema),
@@ -116,8 +119,8 @@ fn push_items(found: &mut List<usize>, items: &ArrayItems<TermLeaf>) -> Result<(
 
 #[cycle(targets)]
 fn push_all(found: &mut List<usize>, terms: &[Term]) -> Result<(), AllocError>
-    ensures { OnOk result (found.new ≡ found.old
-        ++ inlined_among (schema_leaves (tree_views leaf_view terms.now))) }
+    ensures { OnOk result
+        (found.new ≡ found.old ++ inlined_among (schema_leaves (tree_views leaf_view terms.now))) }
 {
     for term in terms {
         push_targets(found, term)?;

@@ -9,7 +9,7 @@ use Rattle.schema_core.specs.declared.bounds.Bounds.{Bounds}
 use Rattle.schema_core.specs.Bounds.{at_least}
 use Rattle.schema_core.specs.Notes.{no_notes, noted, described, null_default}
 use Rattle.schema_core.specs.Objects.{word_facts, with_format, with_bounds, only_word}
-use Rattle.schema_core.specs.Schema.{ArrayFacts, SchemaOf, object, array, one_of, all_of, SchemasOf, no_schemas, schema, PropertiesOf, no_properties, PartOf, no_part, truth, part}
+use Rattle.schema_core.specs.Schema.{SchemaOf, object, array, one_of, all_of, SchemasOf, no_schemas, schema, no_properties, no_part, truth, part}
 use Rattle.schema_core.specs.Schema as tree
 use Rattle.leaves.specs.declared.leaf.Leaf.{Leaf}
 use Rattle.leaves.specs.declared.leaf.LeafKind.{LeafKind}

@@ -32,8 +32,8 @@ pub struct Place<'d> {
 
 /// The schema of a declaration: a reference to it, or its schema in place.
 fn declared(alloc: Global, at: Place<'_>, ty: &OpenType) -> Result<Term, AllocError>
-    ensures { IfOk result (λ s. term_view s
-        ≡ declared at.entry.nullable at.entry.inline at.entry.description.now
+    ensures { IfOk result
+        (λ s. term_view s ≡ declared at.entry.nullable at.entry.inline at.entry.description.now
         (open_view ty.now)) }
 {
     let of = ty.copy(alloc)?;
@@ -58,8 +58,9 @@ fn declared(alloc: Global, at: Place<'_>, ty: &OpenType) -> Result<Term, AllocEr
 
 /// The schema of the argument for the parameter at a place.
 fn argument(alloc: Global, at: Place<'_>, parameter: usize) -> Result<Term, AllocError>
-    ensures { IfOk result (λ s. term_view s
-        ≡ argument at.entry.nullable at.entry.inline at.entry.description.now parameter) }
+    ensures { IfOk result
+        (λ s. term_view s ≡ argument at.entry.nullable at.entry.inline at.entry.description.now
+        parameter) }
 {
     let leaf = Tree::Leaf(TermLeaf::Param(parameter));
     if at.inline {
@@ -77,30 +78,32 @@ fn notes_of(alloc: Global, at: Place<'_>) -> Result<Notes, AllocError>
 }
 
 fn leaf_place(alloc: Global, at: Place<'_>, leaf: Leaf) -> Result<Term, AllocError>
-    ensures { IfOk result (λ s. term_view s
-        ≡ leaf_object at.entry.nullable (noted at.entry.deprecated at.entry.description.now)
-        leaf) }
+    ensures { IfOk result
+        (λ s. term_view s
+        ≡ leaf_object at.entry.nullable (noted at.entry.deprecated at.entry.description.now) leaf) }
 {
     leaf_object(alloc, at.nullable, notes_of(alloc, at)?, leaf)
 }
 
 fn any_place(alloc: Global, at: Place<'_>) -> Result<Term, AllocError>
-    ensures { IfOk result (λ s. term_view s
+    ensures { IfOk result
+        (λ s. term_view s
         ≡ only_word TypeWord.Any (noted at.entry.deprecated at.entry.description.now)) }
 {
     only_word(alloc, TypeWord::Any, notes_of(alloc, at)?)
 }
 
 fn object_place(alloc: Global, at: Place<'_>) -> Result<Term, AllocError>
-    ensures { IfOk result (λ s. term_view s
-        ≡ only_word (type_word at.entry.nullable SchemaTypeInner.Object)
+    ensures { IfOk result
+        (λ s. term_view s ≡ only_word (type_word at.entry.nullable SchemaTypeInner.Object)
         (noted at.entry.deprecated at.entry.description.now)) }
 {
     any_object(alloc, at.nullable, notes_of(alloc, at)?)
 }
 
 fn tuple_place(alloc: Global, at: Place<'_>, items: List<Term>) -> Result<Term, AllocError>
-    ensures { IfOk result (λ s. term_view s
+    ensures { IfOk result
+        (λ s. term_view s
         ≡ tuple_of at.entry.nullable (noted at.entry.deprecated at.entry.description.now)
         (tree_views leaf_view items)) }
 {
@@ -108,7 +111,8 @@ fn tuple_place(alloc: Global, at: Place<'_>, items: List<Term>) -> Result<Term, 
 }
 
 fn list_place(alloc: Global, at: Place<'_>, unique: bool, item: Term) -> Result<Term, AllocError>
-    ensures { IfOk result (λ s. term_view s
+    ensures { IfOk result
+        (λ s. term_view s
         ≡ list_of unique at.entry.nullable (noted at.entry.deprecated at.entry.description.now)
         (term_view item)) }
 {
@@ -116,7 +120,8 @@ fn list_place(alloc: Global, at: Place<'_>, unique: bool, item: Term) -> Result<
 }
 
 fn map_place(alloc: Global, at: Place<'_>, names: Term, values: Term) -> Result<Term, AllocError>
-    ensures { IfOk result (λ s. term_view s
+    ensures { IfOk result
+        (λ s. term_view s
         ≡ map_object at.entry.nullable (noted at.entry.deprecated at.entry.description.now)
         (term_view names) (term_view values)) }
 {
@@ -125,9 +130,9 @@ fn map_place(alloc: Global, at: Place<'_>, names: Term, values: Term) -> Result<
 
 /// The schema of a place of the type.
 pub fn place_term(alloc: Global, at: Place<'_>, ty: &OpenType) -> Result<Term, AllocError>
-    ensures { IfOk result (λ s. term_view s
-        ≡ place at.entry.nullable at.entry.inline at.entry.deprecated at.entry.description.now
-        (open_view ty.now)) }
+    ensures { IfOk result
+        (λ s. term_view s ≡ place at.entry.nullable at.entry.inline at.entry.deprecated
+        at.entry.description.now (open_view ty.now)) }
 {
     typed_place(alloc, at, ty)
 }
@@ -148,9 +153,9 @@ fn inner_place(alloc: Global, inline: bool, ty: &OpenType) -> Result<Term, Alloc
 
 #[cycle(place)]
 fn typed_place(alloc: Global, at: Place<'_>, ty: &OpenType) -> Result<Term, AllocError>
-    ensures { IfOk result (λ s. term_view s
-        ≡ place at.entry.nullable at.entry.inline at.entry.deprecated at.entry.description.now
-        (open_view ty.now)) }
+    ensures { IfOk result
+        (λ s. term_view s ≡ place at.entry.nullable at.entry.inline at.entry.deprecated
+        at.entry.description.now (open_view ty.now)) }
 {
     match ty {
         OpenType::Option(of) => typed_place(

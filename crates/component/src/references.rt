@@ -39,8 +39,9 @@ fn push_references(
     inline: bool,
     ty: &OpenType,
 ) -> Result<(), AllocError>
-    ensures { OnOk result (map reference_view found.new ≡ map reference_view found.old
-        ++ references inline (open_view ty.now)) }
+    ensures { OnOk result
+        (map reference_view found.new ≡ map reference_view found.old ++ references inline
+        (open_view ty.now)) }
 {
     match ty {
         OpenType::Leaf(_) | OpenType::AnyValue | OpenType::FreeObject => Ok(()),
@@ -73,8 +74,9 @@ fn push_item_references(
     found: &mut List<SchemaReference>,
     types: &[OpenType],
 ) -> Result<(), AllocError>
-    ensures { OnOk result (map reference_view found.new ≡ map reference_view found.old
-        ++ item_references (opens_view types.now)) }
+    ensures { OnOk result
+        (map reference_view found.new
+        ≡ map reference_view found.old ++ item_references (opens_view types.now)) }
 {
     for ty in types {
         push_references(alloc, found, true, ty)?;

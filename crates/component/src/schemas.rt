@@ -90,16 +90,16 @@ pub(crate) fn only_word(alloc: Global, ty: TypeWord, notes: Notes) -> Result<Ter
 
 /// Any object, or null where it may be.
 pub fn any_object(alloc: Global, nullable: bool, notes: Notes) -> Result<Term, AllocError>
-    ensures { IfOk result (λ s. term_view s
-        ≡ only_word (type_word nullable SchemaTypeInner.Object) notes) }
+    ensures { IfOk result
+        (λ s. term_view s ≡ only_word (type_word nullable SchemaTypeInner.Object) notes) }
 {
     only_word(alloc, type_word(nullable, SchemaTypeInner::Object), notes)
 }
 
 /// Null as the default of any value, with a description.
 pub fn null_default(alloc: Global, description: &Option<Text>) -> Result<Term, AllocError>
-    ensures { IfOk result (λ s. term_view s
-        ≡ only_word TypeWord.Any (null_default description.now)) }
+    ensures { IfOk result
+        (λ s. term_view s ≡ only_word TypeWord.Any (null_default description.now)) }
 {
     let mut notes = noted(alloc, false, description)?;
     notes.default = match Json::new(Value::Null) {
@@ -182,8 +182,8 @@ pub(crate) fn in_place(
     description: &Option<Text>,
     schema: Term,
 ) -> Result<Term, AllocError>
-    ensures { IfOk result (λ s. term_view s
-        ≡ in_place nullable description.now (term_view schema)) }
+    ensures { IfOk result
+        (λ s. term_view s ≡ in_place nullable description.now (term_view schema)) }
 {
     if nullable {
         one_of_null(alloc, schema, noted(alloc, false, description)?)
@@ -221,8 +221,8 @@ pub(crate) fn tuple_of(
     notes: Notes,
     items: List<Term>,
 ) -> Result<Term, AllocError>
-    ensures { IfOk result (λ s. term_view s
-        ≡ tuple_of nullable notes (tree_views leaf_view items)) }
+    ensures { IfOk result
+        (λ s. term_view s ≡ tuple_of nullable notes (tree_views leaf_view items)) }
 {
     let array = Array {
         nullable,
@@ -244,8 +244,8 @@ pub(crate) fn map_object(
     names: Term,
     values: Term,
 ) -> Result<Term, AllocError>
-    ensures { IfOk result (λ s. term_view s
-        ≡ map_object nullable notes (term_view names) (term_view values)) }
+    ensures { IfOk result
+        (λ s. term_view s ≡ map_object nullable notes (term_view names) (term_view values)) }
 {
     let mut object = Object::new(alloc, type_word(nullable, SchemaTypeInner::Object), notes);
     object.property_names = Some(names);

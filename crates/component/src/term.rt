@@ -2,7 +2,6 @@ ghost use Rattle.std.specs.Prelude.{◌≡◌, IfOk};
 ghost use Rattle.diag.specs.Refusal.{Refuses};
 ghost use Rattle.schema_core.specs.Schema.{SchemaOf};
 ghost use Rattle.diag.specs.declared.error.DeriveError.{DeriveError as AnyError};
-ghost use Rattle.diag.specs.declared.error.DeriveError.TheVariants.{Memory};
 ghost use Rattle.component.specs.Leaves.{LeafOf, term_view};
 
 use diag::DeriveError;

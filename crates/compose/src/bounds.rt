@@ -57,7 +57,8 @@ fn inline_depth(
     path: &[usize],
 ) -> Result<DeriveError, AllocError>
     requires { IsPath (inlining_of (map resolved_view resolved.now)) path.now }
-    ensures { IfOk result (IsRefusalOf Kind.InlineDepth span deep_message
+    ensures { IfOk result
+        (IsRefusalOf Kind.InlineDepth span deep_message
         (names_along (map resolved_view resolved.now) path.now)) }
 {
     let message = "types are inlined deeper than 32";
@@ -146,7 +147,8 @@ pub fn inline_order_of(
         (λ _. AreBounded config.now (map declaration_view declarations.now)
         (map resolved_view resolved.now)) }
     ensures order { IfOk result (IsOrder (inlining_of (map resolved_view resolved.now))) }
-    ensures refused { Refuses result (IsUnbounded config.now (map declaration_view declarations.now)
+    ensures refused { Refuses result
+        (IsUnbounded config.now (map declaration_view declarations.now)
         (map resolved_view resolved.now)) }
 {
     few_instances(alloc, declarations, config)?;

@@ -81,7 +81,8 @@ fn bounded_components(
         (λ _. AreBounded config.now (map declaration_view declarations.now)
         (map resolved_view resolved.now)) }
     ensures components { IfOk result (AreComponents (map resolved_view resolved.now)) }
-    ensures refused { Refuses result (IsUnbounded config.now (map declaration_view declarations.now)
+    ensures refused { Refuses result
+        (IsUnbounded config.now (map declaration_view declarations.now)
         (map resolved_view resolved.now)) }
 {
     closing::targets_are_declared();

@@ -18,7 +18,9 @@ fn push_declared(
     places: &BTreeMap<String, usize>,
     name: &str,
 ) -> Result<(), AllocError>
-    ensures { OnOk result (map open_view types.new ≡ map open_view types.old
+    ensures { OnOk result
+        (map open_view types.new
+        ≡ map open_view types.old
         ++ cons_option (option_map declared (get_by_text places.now name.now)) []) }
 {
     match places.get(name) {
@@ -33,7 +35,8 @@ pub(crate) fn types_of(
     places: &BTreeMap<String, usize>,
     names: &[Text],
 ) -> Result<List<ClosedType>, AllocError>
-    ensures { IfOk result (λ types. map open_view types
+    ensures { IfOk result
+        (λ types. map open_view types
         ≡ filter_map (λ name. option_map declared (get_by_text places.now name)) names.now) }
 {
     let mut types = List::new(alloc);

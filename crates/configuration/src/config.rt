@@ -131,8 +131,9 @@ impl Config {
 
 /// The configuration that the value says, where it says one.
 fn configured(alloc: Global, value: &Value) -> Result<Option<Config>, AllocError>
-    ensures { IfOk result (λ found. MatchOption found ((c : Configuration)
-        → ¬ IsConfiguration (view_of value.now) c) (IsConfiguration (view_of value.now))) }
+    ensures { IfOk result
+        (λ found. MatchOption found ((c : Configuration) → ¬ IsConfiguration (view_of value.now) c)
+        (IsConfiguration (view_of value.now))) }
 {
     if !is_object_of(value, &MEMBERS) || !keeps_empty(value) {
         return Ok(None);

@@ -86,8 +86,8 @@ pub fn whole_at(
     most: usize,
     standard: usize,
 ) -> Option<usize>
-    ensures { MatchOption result
-        ((n : ℕ) → ¬ IsGiven (IsWhole least most) standard (get name.now (view value.now)) n)
+    ensures { MatchOption result ((n : ℕ)
+        → ¬ IsGiven (IsWhole least most) standard (get name.now (view value.now)) n)
         (IsGiven (IsWhole least most) standard (get name.now (view value.now))) }
 {
     match value.get(name) {

@@ -81,8 +81,9 @@ fn row_of(alloc: Global, value: &Value) -> Result<Option<RenameRow>, AllocError>
 
 /// The table of the rows that the items say, where each says one.
 fn table_of(alloc: Global, items: &[Value]) -> Result<Option<RenameTable>, AllocError>
-    ensures { IfOk result (λ found. MatchOption found ((rows : List AnyRow)
-        → ¬ AreRows (items_view items.now) rows) (AreRows (items_view items.now))) }
+    ensures { IfOk result
+        (λ found. MatchOption found ((rows : List AnyRow) → ¬ AreRows (items_view items.now) rows)
+        (AreRows (items_view items.now))) }
 {
     let mut table = RenameTable::new(alloc);
     for item in items {
@@ -96,8 +97,9 @@ fn table_of(alloc: Global, items: &[Value]) -> Result<Option<RenameTable>, Alloc
 
 /// The table that the value says, where it is a list of rows.
 fn renames_of(alloc: Global, value: &Value) -> Result<Option<RenameTable>, AllocError>
-    ensures { IfOk result (λ found. MatchOption found ((rows : List AnyRow)
-        → ¬ IsRenames (view value.now) rows) (IsRenames (view value.now))) }
+    ensures { IfOk result
+        (λ found. MatchOption found ((rows : List AnyRow) → ¬ IsRenames (view value.now) rows)
+        (IsRenames (view value.now))) }
 {
     match value.as_array() {
         Some(items) => table_of(alloc, items),
@@ -111,7 +113,8 @@ pub fn renames_at(
     value: &Value,
     name: &str,
 ) -> Result<Option<RenameTable>, AllocError>
-    ensures { IfOk result (λ found. MatchOption found ((rows : List AnyRow)
+    ensures { IfOk result
+        (λ found. MatchOption found ((rows : List AnyRow)
         → ¬ IsGiven IsRenames [] (get name.now (view value.now)) rows)
         (IsGiven IsRenames [] (get name.now (view value.now)))) }
 {

@@ -1,5 +1,5 @@
 -- What the program's resolved declarations are, and where their names are known.
-use Rattle.std.specs.Prelude.{ℕ, List, Bool, Option, map}
+use Rattle.std.specs.Prelude.{List, map}
 use Rattle.attributes.specs.Attributes.{AttributeItem, attribute_view, serde_items}
 use Rattle.attributes.specs.declared.serde_item.SerdeItem.{SerdeItem}
 use Rattle.open_types.specs.Open.{open_view}

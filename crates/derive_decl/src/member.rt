@@ -56,8 +56,9 @@ fn is_option(ty: &OpenType) -> bool
 
 /// The refusal of an identifier that needs a row of the rule.
 fn missing_row(alloc: Global, rule: &RenameRule, ident: &Ident) -> Result<DeriveError, AllocError>
-    ensures { IfOk result (IsErrorFor (IsRefusal Kind.MissingRow ident.now.span
-        (row_message rule.now ident.now.text))) }
+    ensures { IfOk result
+        (IsErrorFor
+        (IsRefusal Kind.MissingRow ident.now.span (row_message rule.now ident.now.text))) }
 {
     let message = format!(in alloc; "no row for {} of {}", rule.name(), ident.text.as_str())?;
     let kind = Kind::MissingRow;
@@ -72,8 +73,8 @@ fn written_ident(
     value: &SerdeValue,
     ident: &Ident,
 ) -> Result<Ident, DeriveError>
-    ensures written { IfOk result (λ x.
-        option_map (named_at ident.now) (name_by config.now.renames rule value.now ident.now)
+    ensures written { IfOk result
+        (λ x. option_map (named_at ident.now) (name_by config.now.renames rule value.now ident.now)
         ≡ Some x) }
     ensures refused { Refuses result (IsUnwritten config.now.renames rule value.now ident.now) }
 {
@@ -106,8 +107,9 @@ fn member_with(
 ) -> Result<Member, AllocError>
     requires { value.now ≡ value_of (field_view field.now) }
     ensures ident { IfOk result (λ m. m.ident ≡ ident) }
-    ensures member { IfOk result (λ m. member_view m
-        ≡ member_from (rules_view rules.now) (field_view field.now) ident.text (open_view ty)) }
+    ensures member { IfOk result
+        (λ m. member_view m ≡ member_from (rules_view rules.now) (field_view field.now) ident.text
+        (open_view ty)) }
 {
     Ok(Member {
         required: !is_option(&ty) && is_required(value, rules),
@@ -127,13 +129,14 @@ fn kept_member(
 ) -> Result<Member, DeriveError>
     requires named { HasName (field_view field.now) }
     requires value { value.now ≡ value_of (field_view field.now) }
-    ensures member { IfOk result (λ m.
-        member_of (known container.now) (rules_view rules.now) (field_view field.now)
+    ensures member { IfOk result
+        (λ m. member_of (known container.now) (rules_view rules.now) (field_view field.now)
         ≡ Some (member_view m)) }
     ensures ident { IfOk result
         (λ m. written_ident container.now.config.now.renames rules.now.rename_all
         (field_view field.now) ≡ Some m.ident) }
-    ensures faultless { IfOk result (λ _. RefusesNone
+    ensures faultless { IfOk result
+        (λ _. RefusesNone
         (IsFaultyMember (known container.now) (rules_view rules.now) (field_view field.now))) }
     ensures refused { Refuses result
         (IsFaultyMember (known container.now) (rules_view rules.now) (field_view field.now)) }
@@ -160,11 +163,12 @@ pub(crate) fn resolve_member(
     ensures ident { IfOk result
         (λ m. written_idents container.now.config.now.renames rules.now.rename_all
         (kept (field_view field.now ∷ [])) ≡ map (λ n. n.ident) (cons_option m [])) }
-    ensures faultless { IfOk result (λ _. AllByRecursion
+    ensures faultless { IfOk result
+        (λ _. AllByRecursion
         (λ f. RefusesNone (IsFaultyMember (known container.now) (rules_view rules.now) f))
         (kept (field_view field.now ∷ []))) }
-    ensures refused { Refuses result (λ e. Somewhere
-        (λ f. IsFaultyMember (known container.now) (rules_view rules.now) f e)
+    ensures refused { Refuses result
+        (λ e. Somewhere (λ f. IsFaultyMember (known container.now) (rules_view rules.now) f e)
         (kept (field_view field.now ∷ []))) }
 {
     let value = parse_value(alloc, field.attrs.as_slice())?;

@@ -63,11 +63,12 @@ fn resolve_members(
     ensures idents { IfOk result
         (λ ms. written_idents container.now.config.now.renames rules.now.rename_all
         (kept (map field_view fields.now)) ≡ map (λ m. m.ident) ms) }
-    ensures faultless { IfOk result (λ _. AllByRecursion
+    ensures faultless { IfOk result
+        (λ _. AllByRecursion
         (λ f. RefusesNone (IsFaultyMember (known container.now) (rules_view rules.now) f))
         (kept (map field_view fields.now))) }
-    ensures refused { Refuses result (λ e. Somewhere
-        (λ f. IsFaultyMember (known container.now) (rules_view rules.now) f e)
+    ensures refused { Refuses result
+        (λ e. Somewhere (λ f. IsFaultyMember (known container.now) (rules_view rules.now) f e)
         (kept (map field_view fields.now))) }
 {
     let mut members = List::new(alloc);
@@ -90,9 +91,12 @@ fn distinct_members(
         (λ ms. all_of (member_of (known container.now) (rules_view rules.now))
         (kept (map field_view fields.now)) ≡ Some (map member_view ms)) }
     ensures distinct { IfOk result (λ ms. IsDistinct (member_names (map member_view ms))) }
-    ensures faultless { IfOk result (λ _. RefusesNone (AreFaultyMembers (known container.now)
-        (rules_view rules.now) (map field_view fields.now))) }
-    ensures refused { Refuses result (AreFaultyMembers (known container.now) (rules_view rules.now)
+    ensures faultless { IfOk result
+        (λ _. RefusesNone
+        (AreFaultyMembers (known container.now) (rules_view rules.now)
+        (map field_view fields.now))) }
+    ensures refused { Refuses result
+        (AreFaultyMembers (known container.now) (rules_view rules.now)
         (map field_view fields.now)) }
 {
     let members = resolve_members(alloc, container, rules, fields)?;
@@ -112,13 +116,14 @@ impl NamedStructSchema {
         fields: &[Field],
     ) -> Result<NamedStructSchema, DeriveError>
         requires { AllByRecursion HasName (map field_view fields.now) }
-        ensures form { IfOk result (λ s. form_of (known root.now.container.now)
-            (field_rules (items_of root.now)) (named (map field_view fields.now))
-            ≡ Some (named_view s)) }
+        ensures form { IfOk result
+            (λ s. form_of (known root.now.container.now) (field_rules (items_of root.now))
+            (named (map field_view fields.now)) ≡ Some (named_view s)) }
         ensures remarks { IfOk result (λ s. s.remarks ≡ remarks_of (attributes_of root.now)) }
         ensures distinct { IfOk result
             (λ s. IsDistinct (member_names (map member_view s.members))) }
-        ensures faultless { IfOk result (λ _. RefusesNone
+        ensures faultless { IfOk result
+            (λ _. RefusesNone
             (AreFaultyNamed (known root.now.container.now) (items_of root.now)
             (map field_view fields.now))) }
         ensures refused { Refuses result
@@ -136,8 +141,8 @@ impl NamedStructSchema {
 
 /// A property for each member.
 fn properties_of(alloc: Global, members: &[Member]) -> Result<List<(Text, Term)>, AllocError>
-    ensures { IfOk result (λ ps.
-        named_views leaf_view ps ≡ properties_of (map member_view members.now)) }
+    ensures { IfOk result
+        (λ ps. named_views leaf_view ps ≡ properties_of (map member_view members.now)) }
 {
     let mut properties = List::new(alloc);
     for member in members {
@@ -206,8 +211,8 @@ fn object_of(
 impl NamedStructSchema {
     /// The schema of the struct.
     pub(crate) fn term(&self, alloc: Global) -> Result<Term, AllocError>
-        ensures { IfOk result (λ t. term_view t
-            ≡ form_term self.now.remarks (named_view self.now)) }
+        ensures { IfOk result
+            (λ t. term_view t ≡ form_term self.now.remarks (named_view self.now)) }
     {
         let members = self.members.as_slice();
         let notes = noted(alloc, self.remarks.deprecated, &self.remarks.description)?;

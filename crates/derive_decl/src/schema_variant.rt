@@ -38,10 +38,13 @@ fn of_fields(alloc: Global, root: &Root<'_>, fields: &Fields) -> Result<SchemaVa
         (fields_view fields.now) ≡ Some (variant_view v)) }
     ensures remarks { IfOk result (λ v. variant_remarks v ≡ remarks_of (attributes_of root.now)) }
     ensures distinct { IfOk result (λ v. IsDistinct (names_of (variant_view v))) }
-    ensures faultless { IfOk result (λ _. RefusesNone (AreFaulty (known root.now.container.now)
-        (items_of root.now) root.now.ident.now (fields_view fields.now))) }
-    ensures refused { Refuses result (AreFaulty (known root.now.container.now) (items_of root.now)
-        root.now.ident.now (fields_view fields.now)) }
+    ensures faultless { IfOk result
+        (λ _. RefusesNone
+        (AreFaulty (known root.now.container.now) (items_of root.now) root.now.ident.now
+        (fields_view fields.now))) }
+    ensures refused { Refuses result
+        (AreFaulty (known root.now.container.now) (items_of root.now) root.now.ident.now
+        (fields_view fields.now)) }
 {
     match fields {
         Fields::Named(fields) => Ok(SchemaVariant::Named(NamedStructSchema::new(
@@ -62,12 +65,14 @@ impl SchemaVariant {
     /// The body of the declaration, with its types resolved. It is refused as `Schema::resolve` says.
     pub fn new(alloc: Global, body: &Body, root: &Root<'_>) -> Result<SchemaVariant, DeriveError>
         requires { IsNamedBody (body_view body.now) }
-        ensures form { IfOk result (λ v. body_form (known root.now.container.now)
-            (field_rules (items_of root.now)) (body_view body.now) ≡ Some (variant_view v)) }
-        ensures remarks { IfOk result (λ v. variant_remarks v
-            ≡ remarks_of (attributes_of root.now)) }
+        ensures form { IfOk result
+            (λ v. body_form (known root.now.container.now) (field_rules (items_of root.now))
+            (body_view body.now) ≡ Some (variant_view v)) }
+        ensures remarks { IfOk result
+            (λ v. variant_remarks v ≡ remarks_of (attributes_of root.now)) }
         ensures distinct { IfOk result (λ v. IsDistinct (names_of (variant_view v))) }
-        ensures faultless { IfOk result (λ _. RefusesNone
+        ensures faultless { IfOk result
+            (λ _. RefusesNone
             (IsFaultyBody (known root.now.container.now) (items_of root.now) root.now.ident.now
             (body_view body.now))) }
         ensures refused { Refuses result
@@ -81,8 +86,8 @@ impl SchemaVariant {
 
     /// The schema of the body.
     pub(crate) fn term(&self, alloc: Global) -> Result<Term, AllocError>
-        ensures { IfOk result (λ t. term_view t
-            ≡ form_term (variant_remarks self.now) (variant_view self.now)) }
+        ensures { IfOk result
+            (λ t. term_view t ≡ form_term (variant_remarks self.now) (variant_view self.now)) }
     {
         match self {
             SchemaVariant::Named(form) => form.term(alloc),

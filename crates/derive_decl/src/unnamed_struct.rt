@@ -47,12 +47,14 @@ fn resolve_types(
     container: &Container<'_>,
     fields: &[Field],
 ) -> Result<List<OpenType>, DeriveError>
-    ensures types { IfOk result (λ ts. all_of (λ f. type_of (known container.now).place_of f.ty)
-        (map field_view fields.now) ≡ Some (map open_view ts)) }
-    ensures faultless { IfOk result (λ _. AllByRecursion
-        (λ f. RefusesNone (IsFaultyType (known container.now) f)) (map field_view fields.now)) }
-    ensures refused { Refuses result (λ e. Somewhere (λ f. IsFaultyType (known container.now) f e)
+    ensures types { IfOk result
+        (λ ts. all_of (λ f. type_of (known container.now).place_of f.ty) (map field_view fields.now)
+        ≡ Some (map open_view ts)) }
+    ensures faultless { IfOk result
+        (λ _. AllByRecursion (λ f. RefusesNone (IsFaultyType (known container.now) f))
         (map field_view fields.now)) }
+    ensures refused { Refuses result
+        (λ e. Somewhere (λ f. IsFaultyType (known container.now) f e) (map field_view fields.now)) }
 {
     let mut types = List::new(alloc);
     for field in fields {
@@ -75,7 +77,8 @@ impl UnnamedStructSchema {
             → form_of (known root.now.container.now) rules (unnamed (map field_view fields.now))
             ≡ Some (unnamed_view s)) }
         ensures remarks { IfOk result (λ s. s.remarks ≡ remarks_of (attributes_of root.now)) }
-        ensures faultless { IfOk result (λ _. RefusesNone
+        ensures faultless { IfOk result
+            (λ _. RefusesNone
             (AreFaultyTypes (known root.now.container.now) root.now.ident.now
             (map field_view fields.now))) }
         ensures refused { Refuses result
@@ -128,8 +131,8 @@ fn list_of_length(
 impl UnnamedStructSchema {
     /// The schema of the struct.
     pub(crate) fn term(&self, alloc: Global) -> Result<Term, AllocError>
-        ensures { IfOk result (λ t. term_view t
-            ≡ form_term self.now.remarks (unnamed_view self.now)) }
+        ensures { IfOk result
+            (λ t. term_view t ≡ form_term self.now.remarks (unnamed_view self.now)) }
     {
         unnamed_term(alloc, &self.remarks, self.types.as_slice())
     }

@@ -34,8 +34,8 @@ fn resolved_of(
         (λ s. resolved_of (known container.now) (declaration_view declaration.now)
         ≡ Some (resolved_view s)) }
     ensures distinct { IfOk result (λ s. IsDistinct (names_of (resolved_view s).form)) }
-    ensures faultless { IfOk result (λ _. RefusesNone
-        (IsFaultyItem (known container.now) (declaration_view declaration.now))) }
+    ensures faultless { IfOk result
+        (λ _. RefusesNone (IsFaultyItem (known container.now) (declaration_view declaration.now))) }
     ensures refused { Refuses result
         (IsFaultyItem (known container.now) (declaration_view declaration.now)) }
 {
@@ -61,15 +61,16 @@ pub fn resolved_declarations(
     requires places { (name : Items ℕ)
         → get_by_text places.now name ≡ place_among (declarations_view declarations.now) name }
     requires named { AreNamed (declarations_view declarations.now) }
-    ensures resolved { IfOk result (λ ss.
-        resolved_declarations config.now.renames (declarations_view declarations.now)
+    ensures resolved { IfOk result
+        (λ ss. resolved_declarations config.now.renames (declarations_view declarations.now)
         ≡ Some (map resolved_view ss)) }
     ensures names { IfOk result (λ ss. declaration_names (map resolved_view ss)
         ≡ declared_names (declarations_view declarations.now)) }
     ensures distinct { IfOk result (λ ss. MembersDiffer (map resolved_view ss)) }
     ensures within { IfOk result
         (λ ss. AreWithin (length (map resolved_view ss)) (map resolved_view ss)) }
-    ensures faultless { IfOk result (λ _. RefusesNone
+    ensures faultless { IfOk result
+        (λ _. RefusesNone
         (AreFaultyItems config.now.renames (declarations_view declarations.now))) }
     ensures refused { Refuses result
         (AreFaultyItems config.now.renames (declarations_view declarations.now)) }

@@ -41,8 +41,8 @@ pub fn filled<F: Fill>(
     tree: &Tree<F::Hole>,
     fill: &F,
 ) -> Result<Tree<F::Leaf>, AllocError>
-    ensures { IfOk result (λ t. tree_view F.meaning t
-        ≡ bind (F.put fill.now) (tree_view F.origin tree.now)) }
+    ensures { IfOk result
+        (λ t. tree_view F.meaning t ≡ bind (F.put fill.now) (tree_view F.origin tree.now)) }
 {
     filled_tree(alloc, tree, fill)
 }
@@ -53,8 +53,8 @@ fn filled_tree<F: Fill>(
     tree: &Tree<F::Hole>,
     fill: &F,
 ) -> Result<Tree<F::Leaf>, AllocError>
-    ensures { IfOk result (λ t. tree_view F.meaning t
-        ≡ bind (F.put fill.now) (tree_view F.origin tree.now)) }
+    ensures { IfOk result
+        (λ t. tree_view F.meaning t ≡ bind (F.put fill.now) (tree_view F.origin tree.now)) }
 {
     match tree {
         Tree::Leaf(leaf) => fill.fill(alloc, leaf),
@@ -83,8 +83,8 @@ fn filled_object<F: Fill>(
     object: &Object<F::Hole>,
     fill: &F,
 ) -> Result<Object<F::Leaf>, AllocError>
-    ensures { IfOk result (λ o. object_view F.meaning o
-        ≡ bind (F.put fill.now) (object_view F.origin object.now)) }
+    ensures { IfOk result
+        (λ o. object_view F.meaning o ≡ bind (F.put fill.now) (object_view F.origin object.now)) }
 {
     let properties = filled_properties(alloc, object.properties.as_slice(), fill)?;
     let additional = filled_additional(alloc, &object.additional, fill)?;
@@ -104,7 +104,8 @@ fn filled_properties<F: Fill>(
     properties: &[(Text, Tree<F::Hole>)],
     fill: &F,
 ) -> Result<List<(Text, Tree<F::Leaf>)>, AllocError>
-    ensures { IfOk result (λ ps. named_views F.meaning ps
+    ensures { IfOk result
+        (λ ps. named_views F.meaning ps
         ≡ bind_properties (F.put fill.now) (named_views F.origin properties.now)) }
 {
     let mut made = List::new(alloc);
@@ -137,7 +138,8 @@ fn filled_option<F: Fill>(
     tree: &Option<Tree<F::Hole>>,
     fill: &F,
 ) -> Result<Option<Tree<F::Leaf>>, AllocError>
-    ensures { IfOk result (λ t. optional_view F.meaning t
+    ensures { IfOk result
+        (λ t. optional_view F.meaning t
         ≡ bind_part (F.put fill.now) (optional_view F.origin tree.now)) }
 {
     match tree {
@@ -152,8 +154,8 @@ fn filled_array<F: Fill>(
     array: &Array<F::Hole>,
     fill: &F,
 ) -> Result<Array<F::Leaf>, AllocError>
-    ensures { IfOk result (λ a. array_view F.meaning a
-        ≡ bind (F.put fill.now) (array_view F.origin array.now)) }
+    ensures { IfOk result
+        (λ a. array_view F.meaning a ≡ bind (F.put fill.now) (array_view F.origin array.now)) }
 {
     Ok(Array {
         nullable: array.nullable,
@@ -187,8 +189,8 @@ fn filled_one_of<F: Fill>(
     one_of: &OneOfSchema<F::Hole>,
     fill: &F,
 ) -> Result<OneOfSchema<F::Leaf>, AllocError>
-    ensures { IfOk result (λ o. one_of_view F.meaning o
-        ≡ bind (F.put fill.now) (one_of_view F.origin one_of.now)) }
+    ensures { IfOk result
+        (λ o. one_of_view F.meaning o ≡ bind (F.put fill.now) (one_of_view F.origin one_of.now)) }
 {
     Ok(OneOfSchema {
         items: filled_trees(alloc, one_of.items.as_slice(), fill)?,
@@ -202,8 +204,8 @@ fn filled_all_of<F: Fill>(
     all_of: &AllOfSchema<F::Hole>,
     fill: &F,
 ) -> Result<AllOfSchema<F::Leaf>, AllocError>
-    ensures { IfOk result (λ a. all_of_view F.meaning a
-        ≡ bind (F.put fill.now) (all_of_view F.origin all_of.now)) }
+    ensures { IfOk result
+        (λ a. all_of_view F.meaning a ≡ bind (F.put fill.now) (all_of_view F.origin all_of.now)) }
 {
     Ok(AllOfSchema {
         items: filled_trees(alloc, all_of.items.as_slice(), fill)?,
@@ -217,7 +219,8 @@ fn filled_trees<F: Fill>(
     trees: &[Tree<F::Hole>],
     fill: &F,
 ) -> Result<List<Tree<F::Leaf>>, AllocError>
-    ensures { IfOk result (λ ts. tree_views F.meaning ts
+    ensures { IfOk result
+        (λ ts. tree_views F.meaning ts
         ≡ bind_schemas (F.put fill.now) (tree_views F.origin trees.now)) }
 {
     let mut made = List::new(alloc);

@@ -1,6 +1,6 @@
 -- What strings say: what is read is what the definition says, and no less.
 use Rattle.std.proofs.Common.{◌≡◌, ◌∙◌, ◌+◌, ◌*◌, ◌<◌, ◌≤◌, ℕ, zero, suc, inl, inr, List, [], ◌∷◌, ◌++◌, length, replicate, refl, ap, sym, subst, arith, cond, Bool, true, false, not, ◌||◌, ◌&&◌, ◌==◌, nat_lt, Option, Some, None, IsSome, is_some, append_assoc, length-append}
-use Rattle.std.proofs.lemmas.Bool.{eqb-true, ltb-true}
+use Rattle.std.proofs.lemmas.Bool.{eqb-true, ltb-true, cases_Bool, or_cases, and_parts, and_from, or_parts}
 use Rattle.std.proofs.lemmas.Bool.Decides.{nat_tests}
 use Rattle.std.proofs.lemmas.List.{append-nil}
 use Rattle.std.specs.Prelude.{chars, encode_utf8}
@@ -12,7 +12,7 @@ use lib.Utf8.{scalar}
 use Rattle.literals.specs.Literals.{is_hex_digit, is_code_sign, is_plain, hex_digits, IsCode, IsRawText, IsEscape, IsText}
 use Rattle.literals.specs.Literals as grammar
 use Rattle.literals.specs.Scanning.{after_hashes, first_of, after_raw_text, after_raw_string}
-use Rattle.literals.proofs.RunLaws.{decide, either, and_true, both_true, none_true, cond_true, cond_false, some_same, either_true}
+use Rattle.literals.proofs.RunLaws.{either, cond_true, cond_false, some_same}
 use Rattle.literals.proofs.EscapeLaws.{number_after, hex_more, hex_same, number_more, number_same, GoesOn, on_digit, on_line}
 use Rattle.literals.proofs.RawLaws.{hashes_read, raw_text_inside, no_hashes, raw_string_sound}
 use Rattle.tokens.specs.declared.token.Token.{Token}
@@ -38,7 +38,7 @@ off true e = cc
 off false e = refl
 
 plain_signs : (c : ℕ) → is_plain c ≡ true → ((c == 34) ≡ false) × ((c == 92) ≡ false)
-plain_signs c h = none_true (c == 34) (c == 92) (off ((c == 34) || (c == 92)) h)
+plain_signs c h = or_parts (c == 34) (c == 92) (off ((c == 34) || (c == 92)) h)
 
 -- ---- sound: codes
 -- signs of a code up to }, the character of their number, and what follows
@@ -70,7 +70,7 @@ code_sound digits number (c ∷ cs) text l e =
                   | inr g ↦
                       elim (either ((c == 125) && scalar number) g.1) [
                         | inl s ↦
-                            let both = and_true (c == 125) (scalar number) s.0 in
+                            let both = and_parts (c == 125) (scalar number) s.0 in
                             let few : digits + 0 ≤ 6 = omega arith in (([], cs, ap (λ v. v ∷ cs) (eqb-true c 125 both.0), refl, few, both.1), s.1)
                         | inr s ↦ cc
                       ]
@@ -105,7 +105,7 @@ module _ (n : ℕ) (again : (cs text : List ℕ) → length cs ≤ n → unescap
   x_sound (high ∷ low ∷ cs) text l e =
       elim (either (nat_lt (digit_value high) 8 && is_hex_digit low) e) [
         | inl h ↦
-            let both = and_true (nat_lt (digit_value high) 8) (is_hex_digit low) h.0 in
+            let both = and_parts (nat_lt (digit_value high) 8) (is_hex_digit low) h.0 in
             let less : length cs ≤ n = omega arith in
             let q = put_sound (digit_value high * 16 + digit_value low) cs text less h.1 in
             (92 ∷ 120 ∷ high ∷ low ∷ q.0, ap (λ v. 92 ∷ 120 ∷ high ∷ low ∷ v) q.2, subst (λ v. Says (92 ∷ 120 ∷ high ∷ low ∷ q.0) v) q.4 (seven_bits (ltb-true (digit_value high) 8 both.0) both.1 q.3))
@@ -121,7 +121,7 @@ module _ (n : ℕ) (again : (cs text : List ℕ) → length cs ≤ n → unescap
       let q = put_sound (number_after 0 (y ∷ ys)) rest text less p in (
         92 ∷ 117 ∷ 123 ∷ ((y ∷ ys) ++ 125 ∷ q.0),
         ap (λ v. 92 ∷ 117 ∷ 123 ∷ v) (e ∙ ap (λ v. (y ∷ ys) ++ 125 ∷ v) q.2 ∙ sym (append_assoc (y ∷ ys) (125 ∷ q.0) (34 ∷ []))),
-        subst (λ v. Says (92 ∷ 117 ∷ 123 ∷ ((y ∷ ys) ++ 125 ∷ q.0)) v) q.4 (code_point (y ∷ ys) (digit, (and_true (is_code_sign y) (list_all is_code_sign ys) signs).1, omega (arith, few), is_scalar) q.3),
+        subst (λ v. Says (92 ∷ 117 ∷ 123 ∷ ((y ∷ ys) ++ 125 ∷ q.0)) v) q.4 (code_point (y ∷ ys) (digit, (and_parts (is_code_sign y) (list_all is_code_sign ys) signs).1, omega (arith, few), is_scalar) q.3),
       )
 
   u_sound : (cs text : List ℕ) → length cs ≤ n → after_u cs ≡ Some text → Quoted (92 ∷ 117 ∷ cs) text
@@ -146,7 +146,7 @@ module _ (n : ℕ) (again : (cs text : List ℕ) → length cs ≤ n → unescap
   skip_sound (c ∷ cs) text l e =
       let less : length cs ≤ n = omega arith in
       elim (either (is_blank c) e) [
-        | inl h ↦ let r = skip_sound cs text less h.1 in (c ∷ r.0, r.1, ap (λ v. c ∷ v) r.2, both_true (is_blank c) (list_all is_blank r.0) h.0 r.3, r.4, r.5)
+        | inl h ↦ let r = skip_sound cs text less h.1 in (c ∷ r.0, r.1, ap (λ v. c ∷ v) r.2, and_from (is_blank c) (list_all is_blank r.0) h.0 r.3, r.4, r.5)
         | inr h ↦ let q = again (c ∷ cs) text l h.1 in ([], q.0, q.1, refl, not_blank c cs q.0 q.1 h.0, q.2)
       ]
 
@@ -190,11 +190,11 @@ code_runs digits number [] us p h l s =
     let some : nat_lt 0 digits ≡ true = grind (arith, nat_tests, p) in
     cond_true (cond (scalar number) (put number (unescaped false us)) None) None (nat_lt 0 digits) some ∙ cond_true (put number (unescaped false us)) None (scalar number) s
 code_runs digits number (c ∷ cs) us p h l s =
-    let signs = and_true (is_code_sign c) (list_all is_code_sign cs) h in
+    let signs = and_parts (is_code_sign c) (list_all is_code_sign cs) h in
     let ys = cs ++ 125 ∷ us in
     let on = in_code (digits + 1) (number * 16 + digit_value c) ys in
     let past = cond (c == 95) (in_code digits number ys) (cond ((c == 125) && scalar number) (put number (unescaped false ys)) None) in
-    elim (decide (is_hex_digit c)) [
+    elim (cases_Bool (is_hex_digit c)) [
       | inl g ↦
           let few : (digits + 1) + length (hex_digits cs) ≤ 6 = omega (arith, l, ap length (hex_more c cs g)) in
           let less : nat_lt digits 6 ≡ true = grind (arith, nat_tests, few) in
@@ -225,7 +225,7 @@ code_reads (x ∷ xs) us h =
 -- what stands for another character is none of these
 not_short : (c d k : ℕ) → escaped_among c short_escapes ≡ Some d → escaped_among k short_escapes ≡ None → (c == k) ≡ false
 not_short c d k is none =
-    elim (decide (c == k)) [
+    elim (cases_Bool (c == k)) [
       | inl h ↦ let never : None ≡ Some d = sym none ∙ ap (λ v. escaped_among v short_escapes) (sym (eqb-true c k h)) ∙ is in cc
       | inr h ↦ h
     ]
@@ -233,7 +233,7 @@ not_short c d k is none =
 skip_runs : (blanks us : List ℕ) → list_all is_blank blanks ≡ true → unescaped true (blanks ++ us) ≡ unescaped true us
 skip_runs [] us h = refl
 skip_runs (c ∷ cs) us h =
-    let both = and_true (is_blank c) (list_all is_blank cs) h in
+    let both = and_parts (is_blank c) (list_all is_blank cs) h in
     cond_true (unescaped true (cs ++ us)) (unescaped false (c ∷ (cs ++ us))) (is_blank c) both.0 ∙ skip_runs cs us both.1
 
 skip_ends : (cs : List ℕ) → begins_blank cs ≡ false → unescaped true (cs ++ 34 ∷ []) ≡ unescaped false (cs ++ 34 ∷ [])
@@ -260,7 +260,7 @@ says_complete (seven_bits {high = high} {low = low} {cs = cs} h l r) =
     let us = cs ++ 34 ∷ [] in
     let code = digit_value high * 16 + digit_value low in
     let octal : nat_lt (digit_value high) 8 ≡ true = grind (arith, nat_tests, h) in
-    cond_true (put code (unescaped false us)) None (nat_lt (digit_value high) 8 && is_hex_digit low) (both_true (nat_lt (digit_value high) 8) (is_hex_digit low) octal l)
+    cond_true (put code (unescaped false us)) None (nat_lt (digit_value high) 8 && is_hex_digit low) (and_from (nat_lt (digit_value high) 8) (is_hex_digit low) octal l)
     ∙ ap (put code) (says_complete r)
 says_complete (code_point {cs = cs} code is r) =
     ap (in_code 0 0) (append_assoc code (125 ∷ cs) (34 ∷ [])) ∙ code_reads code (cs ++ 34 ∷ []) is ∙ ap (put (code_number code)) (says_complete r)
@@ -301,7 +301,7 @@ raw_text_says n (c ∷ cs) is =
     let us = cs ++ 34 ∷ replicate n 35 in
     let more = put c (raw_text n us) in
     let said : more ≡ Some (encode_utf8 c ++ flat_map encode_utf8 cs) = ap (put c) (raw_text_says n cs (raw_text_inside n c cs is)) in
-    elim (decide (c == 34)) [
+    elim (cases_Bool (c == 34)) [
       | inl q ↦ cond_true (closed_or (after_hashes n us) more) more (c == 34) q ∙ ap (λ v. closed_or v more) (no_hashes n c cs (replicate n 35) is (eqb-true c 34 q) (after_hashes n us) refl) ∙ said
       | inr q ↦ cond_false (closed_or (after_hashes n us) more) more (c == 34) q ∙ said
     ]
@@ -361,17 +361,17 @@ module _ (c : ℕ) where
 
   short_stands : grammar.is_short_escape c ≡ true → (c == 10) ≡ false → (d : ℕ) × (escaped_among c short_escapes ≡ Some d)
   short_stands h n =
-      elim (either_true ((c == 110) || (c == 114) || (c == 116) || (c == 92) || (c == 48) || grammar.is_quote c) (c == 10) h) [
+      elim (or_cases ((c == 110) || (c == 114) || (c == 116) || (c == 92) || (c == 48) || grammar.is_quote c) (c == 10) h) [
         | inr e ↦ let never : true ≡ false = sym e ∙ n in cc
-        | inl h ↦ elim (either_true ((c == 110) || (c == 114) || (c == 116) || (c == 92) || (c == 48)) (grammar.is_quote c) h) [
-          | inr q ↦ elim (either_true (c == 34) (c == 39) q) [ inl e ↦ stands_for 34 34 refl e | inr e ↦ stands_for 39 39 refl e ]
-          | inl h ↦ elim (either_true ((c == 110) || (c == 114) || (c == 116) || (c == 92)) (c == 48) h) [
+        | inl h ↦ elim (or_cases ((c == 110) || (c == 114) || (c == 116) || (c == 92) || (c == 48)) (grammar.is_quote c) h) [
+          | inr q ↦ elim (or_cases (c == 34) (c == 39) q) [ inl e ↦ stands_for 34 34 refl e | inr e ↦ stands_for 39 39 refl e ]
+          | inl h ↦ elim (or_cases ((c == 110) || (c == 114) || (c == 116) || (c == 92)) (c == 48) h) [
             | inr e ↦ stands_for 48 0 refl e
-            | inl h ↦ elim (either_true ((c == 110) || (c == 114) || (c == 116)) (c == 92) h) [
+            | inl h ↦ elim (or_cases ((c == 110) || (c == 114) || (c == 116)) (c == 92) h) [
               | inr e ↦ stands_for 92 92 refl e
-              | inl h ↦ elim (either_true ((c == 110) || (c == 114)) (c == 116) h) [
+              | inl h ↦ elim (or_cases ((c == 110) || (c == 114)) (c == 116) h) [
                 | inr e ↦ stands_for 116 9 refl e
-                | inl h ↦ elim (either_true (c == 110) (c == 114) h) [ inl e ↦ stands_for 110 10 refl e | inr e ↦ stands_for 114 13 refl e ]
+                | inl h ↦ elim (or_cases (c == 110) (c == 114) h) [ inl e ↦ stands_for 110 10 refl e | inr e ↦ stands_for 114 13 refl e ]
               ]
             ]
           ]
@@ -386,8 +386,8 @@ octal_digit c h =
 blanks_before : {cs : List ℕ} → IsText IsEscape cs → (blanks : List ℕ) × (inner : List ℕ) × (cs ≡ blanks ++ inner) × (list_all is_blank blanks ≡ true) × (begins_blank inner ≡ false) × IsText IsEscape inner
 blanks_before grammar.empty = ([], [], refl, refl, refl, grammar.empty)
 blanks_before (grammar.plain {c = c} {cs = cs} h r) =
-    elim (decide (is_blank c)) [
-      | inl b ↦ let s = blanks_before r in (c ∷ s.0, s.1, ap (λ v. c ∷ v) s.2, both_true (is_blank c) (list_all is_blank s.0) b s.3, s.4, s.5)
+    elim (cases_Bool (is_blank c)) [
+      | inl b ↦ let s = blanks_before r in (c ∷ s.0, s.1, ap (λ v. c ∷ v) s.2, and_from (is_blank c) (list_all is_blank s.0) b s.3, s.4, s.5)
       | inr b ↦ ([], c ∷ cs, refl, refl, b, grammar.plain h r)
     ]
 blanks_before (grammar.escaped {escape = escape} {cs = cs} h r) = ([], 92 ∷ (escape ++ cs), refl, refl, refl, grammar.escaped h r)
@@ -397,7 +397,7 @@ Said cs = (text : List ℕ) × Says cs text
 
 escape_said : (n : ℕ) (escape us : List ℕ) → length us ≤ n → ((cs : List ℕ) → length cs ≤ n → IsText IsEscape cs → Said cs) → IsEscape escape → IsText IsEscape us → Said (92 ∷ (escape ++ us))
 escape_said n escape us l again (grammar.short {c = c} h) r =
-    elim (decide (c == 10)) [
+    elim (cases_Bool (c == 10)) [
       | inl e ↦
           let s = blanks_before r in
           let t = again s.1 (omega (arith, l, ap length s.2, length-append s.0 s.1)) s.5 in

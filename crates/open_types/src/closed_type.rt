@@ -62,8 +62,8 @@ pub fn substitute(
     arguments: &[ClosedType],
 ) -> Result<ClosedType, AllocError>
     requires { IsOverFirst (length arguments.now) (open_view ty.now) }
-    ensures { IfOk result (λ t. open_view t
-        ≡ substituted (opens_view arguments.now) (open_view ty.now)) }
+    ensures { IfOk result
+        (λ t. open_view t ≡ substituted (opens_view arguments.now) (open_view ty.now)) }
 {
     let ty = substitute_type(alloc, ty, arguments)?;
     Ok(ClosedType { ty })
@@ -84,8 +84,8 @@ fn substitute_type(
     arguments: &[ClosedType],
 ) -> Result<OpenType, AllocError>
     requires { IsOverFirst (length arguments.now) (open_view ty.now) }
-    ensures value { IfOk result (λ t. open_view t
-        ≡ substituted (opens_view arguments.now) (open_view ty.now)) }
+    ensures value { IfOk result
+        (λ t. open_view t ≡ substituted (opens_view arguments.now) (open_view ty.now)) }
     ensures closed { IfOk result (λ t. IsClosed (open_view t)) }
 {
     match ty {
@@ -133,8 +133,8 @@ fn substitute_types(
     arguments: &[ClosedType],
 ) -> Result<List<OpenType>, AllocError>
     requires { AreOverFirst (length arguments.now) (opens_view types.now) }
-    ensures value { IfOk result (λ ts. opens_view ts
-        ≡ all_substituted (opens_view arguments.now) (opens_view types.now)) }
+    ensures value { IfOk result
+        (λ ts. opens_view ts ≡ all_substituted (opens_view arguments.now) (opens_view types.now)) }
     ensures closed { IfOk result (λ ts. AreClosed (opens_view ts)) }
 {
     let mut made = List::new(alloc);

@@ -42,8 +42,8 @@ fn of_two(
     key: OpenType,
     value: OpenType,
 ) -> Result<Option<OpenType>, AllocError>
-    ensures { IfOk result (λ t. option_map open_view t
-        ≡ of_two head (open_view key) (open_view value)) }
+    ensures { IfOk result
+        (λ t. option_map open_view t ≡ of_two head (open_view key) (open_view value)) }
 {
     match head {
         Head::Map(head) => Ok(Some(OpenType::Map(

@@ -185,8 +185,7 @@ fn resolve_arguments(
         (λ ts. argument_types (get_by_text places.now) (arguments_view arguments.now)
         ≡ Some (opens_view ts)) }
     ensures refused { Refuses result
-        (AreAtFault (get_by_text places.now)
-        (names_in_arguments (arguments_view arguments.now))) }
+        (AreAtFault (get_by_text places.now) (names_in_arguments (arguments_view arguments.now))) }
 {
     let mut types = List::new(alloc);
     for argument in arguments {

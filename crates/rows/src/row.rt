@@ -24,8 +24,8 @@ pub struct Row {
 
 /// The text of an answer: a text stands for itself, any other JSON for its compact text.
 fn answer_text(alloc: Global, answer: &Value) -> Result<String, AllocError>
-    ensures { IfOk result (λ text. has_float (view answer.now) ≡ false → string_bytes text
-        ≡ answer_text (view answer.now)) }
+    ensures { IfOk result (λ text. has_float (view answer.now) ≡ false
+        → string_bytes text ≡ answer_text (view answer.now)) }
 {
     match answer {
         Value::String(text) => text.clone(),
@@ -35,7 +35,8 @@ fn answer_text(alloc: Global, answer: &Value) -> Result<String, AllocError>
 
 /// The row of a list's parts, where they are those of one.
 fn row_of(alloc: Global, parts: &[Value]) -> Result<Option<Row>, AllocError>
-    ensures { IfOk result (λ found. MatchOption found (AreOfNone (items_view parts.now))
+    ensures { IfOk result
+        (λ found. MatchOption found (AreOfNone (items_view parts.now))
         (AreOf (items_view parts.now))) }
 {
     if parts.len() != PARTS {

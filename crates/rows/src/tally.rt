@@ -25,10 +25,10 @@ impl Tally {
         ensures line { IfOk result (λ line. IsSome line
             ↔ (told.now ≢ string_bytes row.now.answer)) }
         ensures rows { self.new.rows ≡ one_more self.old.rows }
-        ensures differing { told.now ≢ string_bytes row.now.answer → self.new.differing
-            ≡ one_more self.old.differing }
-        ensures same { told.now ≡ string_bytes row.now.answer → self.new.differing
-            ≡ self.old.differing }
+        ensures differing { told.now ≢ string_bytes row.now.answer
+            → self.new.differing ≡ one_more self.old.differing }
+        ensures same { told.now ≡ string_bytes row.now.answer
+            → self.new.differing ≡ self.old.differing }
     {
         self.rows = self.rows.saturating_add(1);
         if told == row.answer.as_str() {

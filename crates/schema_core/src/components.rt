@@ -101,7 +101,8 @@ impl Components {
     /// changes where memory is wanted.
     pub fn insert(&mut self, name: Text, schema: Schema) -> Result<bool, AllocError>
         ensures new { IfOk result (λ added. IsTrue added ↔ (find name self.old ≡ None)) }
-        ensures entries { IfOk result (λ added. self.new
+        ensures entries { IfOk result
+            (λ added. self.new
             ≡ (if added then with_entry name (schema_view schema) self.old else self.old)) }
         ensures err { OnErr result (self.new ≡ self.old) }
     {
@@ -134,7 +135,8 @@ impl Components {
 
     /// The forms of the schemas under their names.
     fn schemas(&self, alloc: Global) -> Result<Map<String, Value>, AllocError>
-        ensures { IfOk result (λ m. members_view m.entries
+        ensures { IfOk result
+            (λ m. members_view m.entries
             ≡ members_data (put_all (map_list entry_form self.now) no_members)) }
     {
         schema_values(alloc, self.names.as_slice(), self.schemas.as_slice())
@@ -166,7 +168,8 @@ fn schema_values(
     schemas: &[Schema],
 ) -> Result<Map<String, Value>, AllocError>
     requires { length names.now ≡ length schemas.now }
-    ensures { IfOk result (λ m. members_view m.entries
+    ensures { IfOk result
+        (λ m. members_view m.entries
         ≡ members_data
         (put_all (map_list entry_form (entries_of names.now (map_list schema_view schemas.now)))
         no_members)) }

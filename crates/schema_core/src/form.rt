@@ -67,8 +67,8 @@ fn text_values(alloc: Global, texts: &[Text]) -> Result<Vec<Value>, AllocError>
 
 /// The value of `required`, where a name is required.
 fn required_value(alloc: Global, required: &[Text]) -> Result<Option<Value>, AllocError>
-    ensures { IfOk result (λ value. option_map view value
-        ≡ option_map data_of (required_form required.now)) }
+    ensures { IfOk result
+        (λ value. option_map view value ≡ option_map data_of (required_form required.now)) }
 {
     if required.is_empty() {
         return Ok(None);
@@ -89,8 +89,8 @@ fn json_values(alloc: Global, jsons: &[Json]) -> Result<Vec<Value>, AllocError>
 
 /// The list of the values, where there is one.
 fn jsons_value(alloc: Global, jsons: &Option<List<Json>>) -> Result<Option<Value>, AllocError>
-    ensures { IfOk result (λ value. option_map view value
-        ≡ option_map data_of (values_form jsons.now)) }
+    ensures { IfOk result
+        (λ value. option_map view value ≡ option_map data_of (values_form jsons.now)) }
 {
     match jsons {
         None => Ok(None),
@@ -115,7 +115,8 @@ fn put_notes(
     members: &mut Map<String, Value>,
     notes: &Notes,
 ) -> Result<(), AllocError>
-    ensures { OnOk result (Puts (note_fields notes.now) (members_view members.old.entries)
+    ensures { OnOk result
+        (Puts (note_fields notes.now) (members_view members.old.entries)
         (members_view members.new.entries)) }
 {
     put_text(alloc, members, "title", &notes.title)?;
@@ -143,7 +144,8 @@ fn put_bounds(
     members: &mut Map<String, Value>,
     bounds: &Bounds,
 ) -> Result<(), AllocError>
-    ensures { OnOk result (Puts (bound_fields bounds.now) (members_view members.old.entries)
+    ensures { OnOk result
+        (Puts (bound_fields bounds.now) (members_view members.old.entries)
         (members_view members.new.entries)) }
 {
     put_bound(alloc, members, "minimum", &bounds.minimum)
@@ -203,7 +205,8 @@ fn properties_value(
     alloc: Global,
     properties: &[(Text, Schema)],
 ) -> Result<Option<Value>, AllocError>
-    ensures { IfOk result (λ value. option_map view value
+    ensures { IfOk result
+        (λ value. option_map view value
         ≡ option_map data_of
         (entries_form (property_forms (named_views (λ l. l) properties.now)))) }
 {
@@ -237,7 +240,8 @@ fn additional_value(
     alloc: Global,
     additional: &Additional<RefLeaf>,
 ) -> Result<Option<Value>, AllocError>
-    ensures { IfOk result (λ value. option_map view value
+    ensures { IfOk result
+        (λ value. option_map view value
         ≡ option_map data_of (part_form (additional_view (λ l. l) additional.now))) }
 {
     match additional {
@@ -250,7 +254,8 @@ fn additional_value(
 /// The value of a schema that may be left out.
 #[cycle(value)]
 fn optional_value(alloc: Global, schema: &Option<Schema>) -> Result<Option<Value>, AllocError>
-    ensures { IfOk result (λ value. option_map view value
+    ensures { IfOk result
+        (λ value. option_map view value
         ≡ option_map data_of (part_form (optional_view (λ l. l) schema.now))) }
 {
     match schema {
@@ -262,7 +267,8 @@ fn optional_value(alloc: Global, schema: &Option<Schema>) -> Result<Option<Value
 /// The value of `items`.
 #[cycle(value)]
 fn items_value(alloc: Global, items: &ArrayItems<RefLeaf>) -> Result<Value, AllocError>
-    ensures { IfOk result (λ value. Some (view value)
+    ensures { IfOk result
+        (λ value. Some (view value)
         ≡ option_map data_of (part_form (array_items_view (λ l. l) items.now))) }
 {
     match items {
@@ -274,7 +280,8 @@ fn items_value(alloc: Global, items: &ArrayItems<RefLeaf>) -> Result<Value, Allo
 /// The value of `prefixItems`, where there is a schema.
 #[cycle(value)]
 fn front_value(alloc: Global, schemas: &[Schema]) -> Result<Option<Value>, AllocError>
-    ensures { IfOk result (λ value. option_map view value
+    ensures { IfOk result
+        (λ value. option_map view value
         ≡ option_map data_of (schemas_form (schema_forms (tree_views (λ l. l) schemas.now)))) }
 {
     if schemas.is_empty() {

@@ -63,8 +63,9 @@ pub(crate) fn put_text(
     name: &str,
     text: &Option<Text>,
 ) -> Result<(), AllocError>
-    ensures { OnOk result (Puts ((name.now, option_map json_text text.now) ∷ [])
-        (members_view members.old.entries) (members_view members.new.entries)) }
+    ensures { OnOk result
+        (Puts ((name.now, option_map json_text text.now) ∷ []) (members_view members.old.entries)
+        (members_view members.new.entries)) }
 {
     let value = match text {
         Some(text) => Some(text_value(alloc, text.as_str())?),
@@ -80,7 +81,8 @@ pub(crate) fn put_json(
     name: &str,
     json: &Option<Json>,
 ) -> Result<(), AllocError>
-    ensures { OnOk result (Puts ((name.now, json.now) ∷ []) (members_view members.old.entries)
+    ensures { OnOk result
+        (Puts ((name.now, json.now) ∷ []) (members_view members.old.entries)
         (members_view members.new.entries)) }
 {
     let value = match json {
@@ -97,8 +99,9 @@ pub(crate) fn put_truth(
     name: &str,
     truth: Option<bool>,
 ) -> Result<(), AllocError>
-    ensures { OnOk result (Puts ((name.now, option_map boolean truth) ∷ [])
-        (members_view members.old.entries) (members_view members.new.entries)) }
+    ensures { OnOk result
+        (Puts ((name.now, option_map boolean truth) ∷ []) (members_view members.old.entries)
+        (members_view members.new.entries)) }
 {
     let value = match truth {
         Some(truth) => Some(Value::Bool(truth)),
@@ -131,8 +134,9 @@ pub(crate) fn put_bound(
     name: &str,
     bound: &Option<Bound>,
 ) -> Result<(), AllocError>
-    ensures { OnOk result (Puts ((name.now, option_map number bound.now) ∷ [])
-        (members_view members.old.entries) (members_view members.new.entries)) }
+    ensures { OnOk result
+        (Puts ((name.now, option_map number bound.now) ∷ []) (members_view members.old.entries)
+        (members_view members.new.entries)) }
 {
     let value = match bound {
         Some(bound) => Some(Value::Number(bound.number())),
@@ -144,8 +148,8 @@ pub(crate) fn put_bound(
 /// The object of one member.
 #[tactic(auto, using(crate::proofs::Puts::data_put, crate::proofs::Puts::object_is))]
 pub(crate) fn object_of(alloc: Global, name: &str, value: Value) -> Result<Value, AllocError>
-    ensures { IfOk result (λ object. (j : Meant) → view value ≡ data_of j → view object
-        ≡ data_of (map_of ((name.now, j) ∷ []))) }
+    ensures { IfOk result (λ object. (j : Meant) → view value ≡ data_of j
+        → view object ≡ data_of (map_of ((name.now, j) ∷ []))) }
 {
     let mut members = Map::new(alloc);
     put(alloc, &mut members, name, value)?;

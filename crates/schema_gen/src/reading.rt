@@ -141,9 +141,8 @@ fn said_config(alloc: Global, bytes: &[u8]) -> Result<Config, Ending>
 fn read_config<F: Files>(alloc: Global, path: &str, files: &mut F) -> Result<Config, Ending>
     ensures said { IfOk result (IsSaidBy (F.tells files.old) (F.held files.old path.now)) }
     ensures owed { IfErr result (λ ending. (begun : Beginning)
-        → IsDerive begun.words (Some path.now)
-        → begun.tells ≡ F.tells files.old → begun.held path.now ≡ F.held files.old path.now
-        → IsEnding begun ending) }
+        → IsDerive begun.words (Some path.now) → begun.tells ≡ F.tells files.old
+        → begun.held path.now ≡ F.held files.old path.now → IsEnding begun ending) }
     ensures not_done { IfErr result (λ ending. status_of ending ≢ Status.Done) }
     ensures no_read_fault { IfErr result (λ ending. status_of ending ≢ Status.ReadFault) }
     ensures tells_on { F.tells files.new ≡ F.tells files.old }
@@ -169,8 +168,7 @@ fn end_at<S: Source, F: Files>(alloc: Global, path: &str, input: &mut S, files: 
     ensures owed { (words : Items (Items ℕ)) → IsDerive words (Some path.now)
         → IsEnding (beginning_of S.Source F.Files words input.old files.old) result }
     ensures unread { ((c : Configuration)
-        → ¬ (IsSaidBy (F.tells files.old) (F.held files.old path.now) c))
-        → input.new ≡ input.old }
+        → ¬ (IsSaidBy (F.tells files.old) (F.held files.old path.now) c)) → input.new ≡ input.old }
     ensures unread_fault { status_of result ≡ Status.FileFault → input.new ≡ input.old }
     ensures unread_config { status_of result ≡ Status.Refused Kind.BadConfig
         → input.new ≡ input.old }

@@ -17,8 +17,7 @@ pub(crate) const MAX_BYTES: usize = 1_048_576;
 /// The refusal of a source of too many bytes, or want of memory.
 pub(crate) fn too_long(alloc: Global) -> DeriveError
     ensures { (result ≡ DeriveError.Memory)
-        ⊎ IsRefusal Kind.TooLong no_span
-        (codes "the source is longer than 1048576 bytes") result }
+        ⊎ IsRefusal Kind.TooLong no_span (codes "the source is longer than 1048576 bytes") result }
 {
     DeriveError::refusal(
         alloc,

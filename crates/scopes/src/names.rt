@@ -31,8 +31,9 @@ impl Named for Declaration {
 
 /// The refusal of a name that was given before.
 fn duplicate_name(alloc: Global, ident: &Ident) -> Result<DeriveError, AllocError>
-    ensures { IfOk result (IsErrorFor (IsRefusal Kind.DuplicateName ident.now.span
-        (duplicate_message ident.now.text))) }
+    ensures { IfOk result
+        (IsErrorFor
+        (IsRefusal Kind.DuplicateName ident.now.span (duplicate_message ident.now.text))) }
 {
     let message = format!(in alloc; "name {} is given twice", ident.text.as_str())?;
     let kind = Kind::DuplicateName;
@@ -71,8 +72,8 @@ pub fn declared_places(
         → get_by_text places name ≡ place_among (declarations_view declarations.now) name) }
     ensures distinct { IfOk result
         (λ _. IsDistinct (declared_names (declarations_view declarations.now))) }
-    ensures once { IfOk result (λ _. RefusesNone
-        (IsGivenTwice (declared_idents (declarations_view declarations.now)))) }
+    ensures once { IfOk result
+        (λ _. RefusesNone (IsGivenTwice (declared_idents (declarations_view declarations.now)))) }
     ensures refused { Refuses result
         (IsGivenTwice (declared_idents (declarations_view declarations.now))) }
 {

@@ -18,8 +18,8 @@ pub fn type_text(
     ty: &ClosedType,
 ) -> Result<Text, AllocError>
     requires { IsWithin (length (declarations_view declarations.now)) (open_view ty.now) }
-    ensures { IfOk result (λ text. text
-        ≡ type_text (declarations_view declarations.now) (open_view ty.now)) }
+    ensures { IfOk result
+        (λ text. text ≡ type_text (declarations_view declarations.now) (open_view ty.now)) }
 {
     let mut text = Text::new(alloc, "")?;
     push_type(&mut text, declarations, ty.as_open())?;
@@ -58,8 +58,8 @@ pub(crate) fn push_type(
     ty: &OpenType,
 ) -> Result<(), AllocError>
     requires { IsWithin (length (declarations_view declarations.now)) (open_view ty.now) }
-    ensures { OnOk result (text.new ≡ text.old
-        ++ type_text (declarations_view declarations.now) (open_view ty.now)) }
+    ensures { OnOk result
+        (text.new ≡ text.old ++ type_text (declarations_view declarations.now) (open_view ty.now)) }
 {
     match ty {
         OpenType::Leaf(leaf) => text.push(leaf.name()),
@@ -93,9 +93,11 @@ fn push_tuple(
     items: &[OpenType],
 ) -> Result<(), AllocError>
     requires { AreWithin (length (declarations_view declarations.now)) (opens_view items.now) }
-    ensures { OnOk result (text.new ≡ text.old
-        ++ (codes "("
-        ++ (texts_from (declarations_view declarations.now) 0 (opens_view items.now)
+    ensures { OnOk result
+        (text.new
+        ≡ text.old
+        ++ (codes
+        "(" ++ (texts_from (declarations_view declarations.now) 0 (opens_view items.now)
         ++ tuple_end (opens_view items.now)))) }
 {
     text.push("(")?;
@@ -112,8 +114,10 @@ fn push_applied(
     of: &OpenType,
 ) -> Result<(), AllocError>
     requires { IsWithin (length (declarations_view declarations.now)) (open_view of.now) }
-    ensures { OnOk result (text.new ≡ text.old
-        ++ applied name.now (type_text (declarations_view declarations.now) (open_view of.now))) }
+    ensures { OnOk result
+        (text.new
+        ≡ text.old ++ applied name.now
+        (type_text (declarations_view declarations.now) (open_view of.now))) }
 {
     push_opening(text, name)?;
     push_type(text, declarations, of)?;
@@ -128,7 +132,8 @@ fn push_arguments(
     arguments: &[OpenType],
 ) -> Result<(), AllocError>
     requires { AreWithin (length (declarations_view declarations.now)) (opens_view arguments.now) }
-    ensures { OnOk result (text.new
+    ensures { OnOk result
+        (text.new
         ≡ applied_to text.old (opens_view arguments.now)
         (texts_from (declarations_view declarations.now) 0 (opens_view arguments.now))) }
 {
@@ -148,8 +153,9 @@ fn push_types(
     types: &[OpenType],
 ) -> Result<(), AllocError>
     requires { AreWithin (length (declarations_view declarations.now)) (opens_view types.now) }
-    ensures { OnOk result (text.new ≡ text.old
-        ++ texts_from (declarations_view declarations.now) 0 (opens_view types.now)) }
+    ensures { OnOk result
+        (text.new ≡ text.old ++ texts_from (declarations_view declarations.now) 0
+        (opens_view types.now)) }
 {
     for (at, ty) in types.iter().enumerate() {
         push_separator(text, at)?;

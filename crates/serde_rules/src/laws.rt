@@ -13,23 +13,23 @@ ghost use Rattle.serde_rules.specs.declared.container.SerdeContainer.{SerdeConta
 /// The serde lists of one place are one list.
 #[tactic(auto, using(crate::proofs::ItemLaws::items_joined))]
 pub fn lists_are_one()
-    ensures { (one other : List AttributeItem) → serde_items (one ++ other) ≡ serde_items one
-        ++ serde_items other }
+    ensures { (one other : List AttributeItem)
+        → serde_items (one ++ other) ≡ serde_items one ++ serde_items other }
 {}
 
 /// Of texts under one name the last counts.
 #[tactic(auto, using(crate::proofs::ItemLaws::last_counts))]
 pub fn last_text_counts()
-    ensures { (name text : List ℕ) (before : List SerdeItem) (item : SerdeItem) → text_for name item
-        ≡ Some text → last_text name (before ++ item ∷ []) ≡ Some text }
+    ensures { (name text : List ℕ) (before : List SerdeItem) (item : SerdeItem)
+        → text_for name item ≡ Some text → last_text name (before ++ item ∷ []) ≡ Some text }
 {}
 
 /// A rule is found by its name, and by no other text.
 #[tactic(auto, using(crate::proofs::ContainerLaws::found_by_name, crate::proofs::ContainerLaws::found_has_name))]
 pub fn rules_are_found_by_name()
     ensures found { (rule : RenameRule) → rule_named (name_of rule) ≡ Some rule }
-    ensures named { (text : List ℕ) (rule : RenameRule) → rule_named text ≡ Some rule → name_of rule
-        ≡ text }
+    ensures named { (text : List ℕ) (rule : RenameRule) → rule_named text ≡ Some rule
+        → name_of rule ≡ text }
 {}
 
 /// Items say one thing of a struct or an enum, and what says one is not refused.

@@ -4,6 +4,7 @@
 
 mod container;
 mod enum_repr;
+mod equality;
 mod items;
 mod laws;
 pub mod names;
@@ -13,6 +14,7 @@ mod value;
 
 pub use container::{SerdeContainer, parse_container};
 pub use enum_repr::SerdeEnumRepr;
+pub use equality::{representations_are_equal, rules_are_equal};
 pub use items::has_item;
 pub use laws::{container_rules_are_one, last_text_counts, lists_are_one, rules_are_found_by_name};
 pub use required::is_required;

@@ -14,8 +14,8 @@ pub fn rename<'t, R: Rename>(
     to: Option<&'t str>,
     container_rule: Option<&RenameRule>,
 ) -> Result<Option<&'t str>, NoRow>
-    ensures named { IfOk result (λ name. new_name R.place table.now value.now
-        (option_map (λ given. given.now) to.entry)
+    ensures named { IfOk result
+        (λ name. new_name R.place table.now value.now (option_map (λ given. given.now) to.entry)
         (option_map (λ rule. rule.now) container_rule.entry)
         ≡ Ok (option_map (λ given. given.now) name)) }
     ensures no_row { IfErr result

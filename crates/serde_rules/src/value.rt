@@ -69,8 +69,8 @@ fn is_double_option(so_far: bool, item: &SerdeItem) -> bool
 
 /// What the items so far and one item more say.
 fn read_item(alloc: Global, so_far: SerdeValue, item: &SerdeItem) -> Result<SerdeValue, AllocError>
-    ensures { IfOk result (λ rules. (before : List AnyItem) → so_far ≡ value_rules before → rules
-        ≡ value_rules (before ++ item.now ∷ [])) }
+    ensures { IfOk result (λ rules. (before : List AnyItem) → so_far ≡ value_rules before
+        → rules ≡ value_rules (before ++ item.now ∷ [])) }
 {
     Ok(SerdeValue {
         skip: is_skipped(so_far.skip, item),

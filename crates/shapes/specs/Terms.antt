@@ -1,5 +1,5 @@
 -- The schemas of declarations, over the declarations that their types name.
-use Rattle.std.specs.Prelude.{ℕ, List, [], ◌∷◌, Bool, true, false, ◌&&◌, cond, pos, length, Option, Some, None}
+use Rattle.std.specs.Prelude.{ℕ, List, [], ◌∷◌, Bool, true, false, ◌&&◌, cond, pos, length, Some, None}
 use Rattle.schema_core.specs.declared.tree.SchemaTypeInner.TheVariants as word
 use Rattle.schema_core.specs.declared.tree.TypeWord.TheVariants.{Any, One}
 use Rattle.schema_core.specs.declared.notes.Notes.{Notes}

@@ -138,9 +138,6 @@ module _ (ty : List Word → Read Written) where
       ap (λ (r : Read (List AttributeItem)). r >>= λ p. named_from p.0 p.1 (after_visibility false p.1)) (attributes_complete d (visibility_no_attribute v refl))
       ∙ ap (named_from attrs us) (visibility_complete (name x) (sign Colon s ∷ vs) v refl refl refl)
 
-  abbrev unnamed_from : List AttributeItem → List Word → List Word → Read FieldItem
-  unnamed_from attrs us vs = unnamed_tail ty attrs us vs
-
   unnamed_head : {ws us vs : List Word} {attrs : List AttributeItem} → IsAttributes ws attrs us → IsVisibility us vs → NoAttribute vs → after_visibility true us ≡ vs → unnamed_field_at ty ws ≡ unnamed_tail ty attrs us vs
   unfolding unnamed_field_at
   unnamed_head {us = us} {attrs = attrs} d v n e =

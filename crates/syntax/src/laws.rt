@@ -10,8 +10,8 @@ use lexing::one_cut;
 
 /// A source reads as at most one list of declarations.
 pub fn one_reading()
-    ensures { (source : List ℕ) (ds es : List DeclaredItem) → Reads source ds → Reads source es → ds
-        ≡ es }
+    ensures { (source : List ℕ) (ds es : List DeclaredItem) → Reads source ds → Reads source es
+        → ds ≡ es }
 {
     one_cut();
 }

@@ -60,9 +60,6 @@ pub either_deep : {A B : Type 0} (r : Result A Fault) (x : A) (f : A → Result 
 either_deep r x f (inl e) g = deep_as (r >>= f) (f x) (ap (λ v. v >>= f) e) g
 either_deep r x f (inr e) g = then_deep r f e
 
-plus_stops : (at : Span) (ws : List Word) → PathStops (sign Plus at ∷ ws)
-plus_stops at ws = (refl, refl)
-
 mutual
   unfolding type_in type_step reference_at round_at square_at object_at path_at segment_at argument_at bound_at
 

@@ -2,7 +2,7 @@
 use Rattle.std.specs.Prelude.{codes, ℕ, zero, suc, List, [], ◌∷◌, ◌++◌, length, Option, Some, None, Result, Ok, Err, Bool, true, false, cond}
 use Rattle.texts.specs.declared.span.Span.{Span}
 use Rattle.tokens.specs.declared.token.Bracket.TheVariants.{Curly}
-use Rattle.tokens.specs.Trees.{Trees, token, end, ◌▸◌, trees_view}
+use Rattle.tokens.specs.Trees.{token, end, ◌▸◌, trees_view}
 use Rattle.tokens.specs.Trees as trees
 use Rattle.written_types.specs.declared.written.Ident.{Ident}
 use Rattle.written_types.specs.Written.{Written, path, reference, tuple, slice, array, trait_object, no_types, more_types, writtens_of, WrittenPath, path_of, segments_of, Segment, plain, applied, arguments_of, Argument, lifetime_argument, constant_argument, type_argument}

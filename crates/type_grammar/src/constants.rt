@@ -25,8 +25,8 @@ fn constant(alloc: Global, tree: TokenTree) -> Result<GenericArgument, AllocErro
 
 /// The constant of the keyword with this text.
 fn keyword(alloc: Global, text: &str, span: Span) -> Result<GenericArgument, AllocError>
-    ensures { IfOk result (λ a. argument_view a
-        ≡ constant_argument (token (keyword_token text.now span) ▸ end)) }
+    ensures { IfOk result
+        (λ a. argument_view a ≡ constant_argument (token (keyword_token text.now span) ▸ end)) }
 {
     let token = Token {
         kind: TokenKind::Ident,
@@ -38,7 +38,8 @@ fn keyword(alloc: Global, text: &str, span: Span) -> Result<GenericArgument, All
 
 /// The constant of the literal behind `-`.
 fn negative(alloc: Global, at: Span, literal: &Token) -> Result<GenericArgument, AllocError>
-    ensures { IfOk result (λ a. argument_view a
+    ensures { IfOk result
+        (λ a. argument_view a
         ≡ constant_argument (token (minus_token at) ▸ token literal.now ▸ end)) }
 {
     let minus = Token {
@@ -65,8 +66,8 @@ fn after_minus(
     at: Span,
     trees: &[TokenTree],
 ) -> Result<Option<(GenericArgument, &[TokenTree])>, AllocError>
-    ensures value { IfOk result (λ found. MatchOption found
-        (plain_argument (sign Minus at ∷ words_view trees.now) ≡ None)
+    ensures value { IfOk result
+        (λ found. MatchOption found (plain_argument (sign Minus at ∷ words_view trees.now) ≡ None)
         (λ p. plain_argument (sign Minus at ∷ words_view trees.now)
         ≡ Some (argument_view p.0, words_view p.1.now))) }
     ensures shorter { IfOk result (λ found. IfSome found (λ p. length p.1.now < length trees.now)) }

@@ -79,10 +79,10 @@ pub fn one_type()
 /// What `bound_at` reads is a bound of the grammar; a bound whose path nothing goes on is read, unless a part of its
 /// arguments begins too deep; and reading stops for depth exactly where a part begins too deep.
 pub fn bounds_are_read()
-    ensures found { (n : ℕ) (ws rest : List Word) (at : Bytes) → bound_at (type_in n) ws
-        ≡ Ok (at, rest) → IsBound ws at rest }
-    ensures shorter { (n : ℕ) (ws rest : List Word) (at : Bytes) → bound_at (type_in n) ws
-        ≡ Ok (at, rest) → length rest < length ws }
+    ensures found { (n : ℕ) (ws rest : List Word) (at : Bytes)
+        → bound_at (type_in n) ws ≡ Ok (at, rest) → IsBound ws at rest }
+    ensures shorter { (n : ℕ) (ws rest : List Word) (at : Bytes)
+        → bound_at (type_in n) ws ≡ Ok (at, rest) → length rest < length ws }
     ensures complete { (n : ℕ) (ws rest : List Word) (at : Bytes) → IsBound ws at rest
         → StopsPath rest → (bound_at (type_in n) ws ≡ Ok (at, rest))
         ⊎ ((start : Bytes) × (bound_at (type_in n) ws ≡ Err (deep start))) }

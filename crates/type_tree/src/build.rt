@@ -59,8 +59,8 @@ fn segments_trees<'t>(
     alloc: Global,
     segments: &'t [PathSegment],
 ) -> Result<Vec<TypeTree<'t>>, AllocError>
-    ensures { IfOk result (λ trees. trees_view trees.items
-        ≡ segments_trees (segments_view segments.now)) }
+    ensures { IfOk result
+        (λ trees. trees_view trees.items ≡ segments_trees (segments_view segments.now)) }
 {
     match segments.last() {
         None => Ok(Vec::new(alloc)),
@@ -73,8 +73,8 @@ fn segment_trees<'t>(
     alloc: Global,
     segment: &'t PathSegment,
 ) -> Result<Vec<TypeTree<'t>>, AllocError>
-    ensures { IfOk result (λ trees. trees_view trees.items
-        ≡ segment_trees (segment_view segment.now)) }
+    ensures { IfOk result
+        (λ trees. trees_view trees.items ≡ segment_trees (segment_view segment.now)) }
 {
     match &segment.arguments {
         None => Ok(Vec::new(alloc)),
@@ -87,8 +87,8 @@ fn argument_trees<'t>(
     alloc: Global,
     arguments: &'t [GenericArgument],
 ) -> Result<Vec<TypeTree<'t>>, AllocError>
-    ensures { IfOk result (λ trees. trees_view trees.items
-        ≡ argument_trees (arguments_view arguments.now)) }
+    ensures { IfOk result
+        (λ trees. trees_view trees.items ≡ argument_trees (arguments_view arguments.now)) }
 {
     let mut trees = Vec::new(alloc);
     for argument in arguments {

@@ -120,8 +120,9 @@ fn bad_value(alloc: Global, trees: &[TokenTree], attribute: &Ident) -> DeriveErr
 
 /// What the refusal of the trees tells.
 fn message_of(alloc: Global, trees: &[TokenTree], attribute: &Ident) -> Result<Text, AllocError>
-    ensures { IfOk result (λ message. message
-        ≡ format_message (only_token (trees_view trees.now)) attribute.now.text) }
+    ensures { IfOk result
+        (λ message. message ≡ format_message (only_token (trees_view trees.now))
+        attribute.now.text) }
 {
     match only_token(trees) {
         Some(token) => message_of_token(alloc, token, attribute),
@@ -131,8 +132,8 @@ fn message_of(alloc: Global, trees: &[TokenTree], attribute: &Ident) -> Result<T
 
 /// What the refusal of the token tells.
 fn message_of_token(alloc: Global, token: &Token, attribute: &Ident) -> Result<Text, AllocError>
-    ensures { IfOk result (λ message. message
-        ≡ token_message token.now.kind token.now attribute.now.text) }
+    ensures { IfOk result
+        (λ message. message ≡ token_message token.now.kind token.now attribute.now.text) }
 {
     match token.kind {
         TokenKind::Ident => {

@@ -1,7 +1,6 @@
-use Rattle.std.proofs.Common.{◌≡◌, map, sym, subst, inl, inr}
+use Rattle.std.proofs.Common.{◌≡◌, sym, subst, inl, inr}
 use Rattle.std.proofs.lemmas.Result.{err_from_is_err_and}
 use Rattle.texts.specs.Names.{IsDistinct}
-use Rattle.derive_decl.specs.Views.{resolved_view}
 use Rattle.compose.proofs.derive.settle.Goals as goal
 
 pub returns-in_err-only_derivable-clause-refused : goal.returns-in_err-only_derivable-clause-refused
