@@ -15,7 +15,9 @@ fn of_reading() {
     type_grammar::one_type();
     type_grammar::bounds_are_read();
     type_grammar::one_bound();
+    literal_values::texts_are_said();
     attributes::attributes_are_read();
+    attributes::items_are_of_their_lists();
     syntax::one_reading();
     syntax::one_type_reading();
     syntax::read_fields_are_named();
@@ -40,18 +42,23 @@ fn of_schemas() {
 
 /// The laws of what is reported and configured, and of whole documents.
 fn of_documents() {
+    texts::spans_are_equal_by_ends();
     diag::suggestions_are_ordered();
+    diag::kinds_and_rules_are_equal();
     diag::rules_have_own_names();
     configuration::configurations_are_one();
     serde_rules::lists_are_one();
     serde_rules::last_text_counts();
     serde_rules::rules_are_found_by_name();
     serde_rules::container_rules_are_one();
+    serde_rules::rules_are_equal();
+    serde_rules::representations_are_equal();
     inlining::orders_stand();
     compose::bounded_are_not_refused();
     closing::targets_are_declared();
     closing::components_describe();
     closing::references_accept();
+    closing::inlined_accept();
     schema_gen::sound_is_not_refused();
 }
 

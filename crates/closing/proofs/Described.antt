@@ -28,10 +28,10 @@ use Rattle.shapes.specs.Meaning.{leaf_shape, TermsAccept}
 use Rattle.inlining.specs.Inlining.{IsAtMost}
 use Rattle.closing.specs.Targets.{inlining_of, most_inlined}
 use Rattle.closing.specs.Closed.{schema_of, put, closed, declared_schema}
-use Rattle.closing.specs.Described.{IsApart, AreComponents, HasComponent, Describes, TargetsAreDeclared, ReferencesAccept}
+use Rattle.closing.specs.Described.{IsApart, AreComponents, HasComponent, Describes, TargetsAreDeclared, ReferencesAccept, ComponentsStandInline, InlinedAccept}
 use Rattle.closing.proofs.Below.{Below, tree-below}
 use Rattle.closing.proofs.Bound.{bind-proper, bind-leaves, bind-accepts}
-use Rattle.closing.proofs.Targets.{IsShort, never-short, shorter, all-short, at-each, are-targets}
+use Rattle.closing.proofs.Targets.{IsShort, never-short, shorter, all-short, at-each, closed-stays, are-targets}
 use Rattle.closing.proofs.Terms.{form-proper, plain-types, form-leaves}
 
 -- ---- names in order are distinct
@@ -132,6 +132,19 @@ references_accept forms ss cs made d l notes s v e = (there, back)
     back : Accepts doc s v → Accepts doc (form reference) v
     back a = (suc a.0, subst IsTrue (sym (at (suc a.0) ∙ (λ i. if_component (e i) (λ t. accepts_with (component_accepts doc a.0) t v)))) a.1)
 
+-- ---- inline
+
+-- the component of a declaration
+component_at : DocumentsHold → (ss : List DeclarationOf) (cs : List Entry) → AreComponents ss cs → (d : ℕ) → d < length ss → component_schema (document cs) (declaration_at ss d).name ≡ Some (form (declared_schema ss d))
+component_at documents_hold ss cs made d l = documents_hold cs (distinct (names_of cs) made.order) (declaration_at ss d).name ∙ ap (option_map form) (made.roots d l)
+
+pub components_stand : ComponentsStandInline
+components_stand ss within most d l = sym (closed-stays ss (all-within ss within) most_inlined d l (all-short ss most d))
+
+pub inlined_accept : FormsAccept → DocumentsHold → InlinedAccept
+inlined_accept forms documents_hold ss cs made d l notes v =
+    references_accept forms ss cs made d l notes (form (declared_schema ss d)) v (component_at documents_hold ss cs made d l)
+
 -- ---- the document
 module _ (forms_accept : FormsAccept) (forms_refer : FormsRefer) (documents_hold : DocumentsHold) (terms_accept : TermsAccept)
     (ss : List DeclarationOf) (cs : List Entry) (apart : IsApart ss) (within : AreWithin (length ss) ss) (most : IsAtMost most_inlined (inlining_of ss)) (made : AreComponents ss cs) where
@@ -145,7 +158,7 @@ module _ (forms_accept : FormsAccept) (forms_refer : FormsRefer) (documents_hold
   schema_under = documents_hold cs (distinct (names_of cs) made.order)
 
   schema_at : (d : ℕ) → d < length ss → component_schema doc (name_at d) ≡ Some (form (declared_schema ss d))
-  schema_at d l = schema_under (name_at d) ∙ ap (option_map form) (made.roots d l)
+  schema_at = component_at documents_hold ss cs made
 
   root : (d : ℕ) → d < length ss → HasComponent doc (name_at d)
   root d l = subst (λ o. IsTrue (is_some o)) (sym (schema_at d l)) refl

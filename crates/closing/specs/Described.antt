@@ -1,10 +1,10 @@
 -- The components of declarations, and what their document says.
-use Rattle.std.specs.Prelude.{◌≡◌, ◌<◌, ◌↔◌, ℕ, List, [], ◌∷◌, length, Some, is_some, IsTrue}
+use Rattle.std.specs.Prelude.{◌≡◌, ◌<◌, ◌↔◌, ℕ, List, length, Some, is_some, IsTrue}
 use Rattle.acceptance.specs.Json.{Json}
 use Rattle.acceptance.specs.Acceptance.{component_schema, Accepts}
 use Rattle.acceptance.specs.References.{EachReference}
 use Rattle.schema_core.specs.declared.notes.Notes.{Notes}
-use Rattle.schema_core.specs.Schema.{leaf}
+use Rattle.schema_core.specs.Schema.{leaf, bind}
 use Rattle.schema_core.specs.Form.{form}
 use Rattle.schema_core.specs.Document.{Entry, document}
 use Rattle.schema_core.specs.Entries.{find, names_of, IsInOrder}
@@ -12,9 +12,10 @@ use Rattle.texts.specs.Names.{IsDistinct}
 use Rattle.shapes.specs.Declarations.{DeclarationOf, declaration_at, declaration_names, MembersDiffer, AreWithin}
 use Rattle.shapes.specs.Shape.{HasShape}
 use Rattle.shapes.specs.Plain.{IsPlain}
+use Rattle.shapes.specs.Terms.{term}
 use Rattle.inlining.specs.Inlining.{AreTargets, IsAtMost}
 use Rattle.closing.specs.Targets.{inlining_of, most_inlined}
-use Rattle.closing.specs.Closed.{declared_schema}
+use Rattle.closing.specs.Closed.{put, declared_schema}
 
 -- no two declarations and no two members of one have one name
 abbrev pub IsApart : List DeclarationOf → Type 0
@@ -49,3 +50,13 @@ TargetsAreDeclared = (ss : List DeclarationOf) → AreWithin (length ss) ss → 
 abbrev pub ReferencesAccept : Type 0
 ReferencesAccept = (ss : List DeclarationOf) (components : List Entry) → AreComponents ss components → (d : ℕ) → d < length ss → (notes : Notes) (s v : Json) → component_schema (document components) (declaration_at ss d).name ≡ Some s →
     Accepts (document components) (form (leaf (record { name = (declaration_at ss d).name; notes = notes }))) v ↔ Accepts (document components) s v
+
+-- The law: what stands in the schema of a component, where a declaration is inline, is the whole schema of that declaration's component.
+abbrev pub ComponentsStandInline : Type 0
+ComponentsStandInline = (ss : List DeclarationOf) → AreWithin (length ss) ss → IsAtMost most_inlined (inlining_of ss) → (d : ℕ) → d < length ss →
+    declared_schema ss d ≡ bind (put ss (declared_schema ss)) (term (declaration_at ss d))
+
+-- The law: a reference to the component of a declaration accepts what the schema accepts that stands where the declaration is inline, whatever the reference's notes are.
+abbrev pub InlinedAccept : Type 0
+InlinedAccept = (ss : List DeclarationOf) (components : List Entry) → AreComponents ss components → (d : ℕ) → d < length ss → (notes : Notes) (v : Json) →
+    Accepts (document components) (form (leaf (record { name = (declaration_at ss d).name; notes = notes }))) v ↔ Accepts (document components) (form (declared_schema ss d)) v

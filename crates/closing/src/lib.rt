@@ -10,4 +10,4 @@ mod law;
 
 pub use components::components_of;
 pub use inlined::{inlining_of, terms_of};
-pub use law::{components_describe, references_accept, targets_are_declared};
+pub use law::{components_describe, inlined_accept, references_accept, targets_are_declared};

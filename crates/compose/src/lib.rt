@@ -9,6 +9,6 @@ mod law;
 mod types;
 
 pub use bounds::inline_order_of;
-pub use closing::{components_describe, references_accept};
+pub use closing::{components_describe, inlined_accept, references_accept};
 pub use derive::{Derived, derive_components};
 pub use law::bounded_are_not_refused;
