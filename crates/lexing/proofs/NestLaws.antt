@@ -106,7 +106,7 @@ module _ (source : List ℕ) where
       let within = opens_depth o h.5 (b, h.6) in
       let e : depth ts ≡ depth (group b h.0 h.4 ▸ h.3) = ap depth h.9 in
       omega arith
-  opens_depth {ts = ts} (later {ts = us} r o) s stops =
+  opens_depth {ts = ts} (later {ts = us} r low o) s stops =
       let left = cancel r s stops in
       let within = opens_depth o left.2 stops in
       let more = depth_later us left.0 in
@@ -128,12 +128,73 @@ module _ (source : List ℕ) where
   pub too_many : (ps rest more : List Piece) (ts us : Trees) (p : Piece) → IsTrees source ps ts rest → Stops rest → rest ≡ p ∷ more → IsTrees source ps us [] → ⊥
   too_many ps rest more ts us p r stops e s = let left = cancel r s tt in let empty = stopped left.2 stops tt in cc
 
+  -- ---- one bracket is the first to open too deep
+  -- which rule a kind wants of what opens
+  abbrev OpensBy : PieceKind → ℕ → Piece → List Piece → Span → Type 0
+  OpensBy Space n p ps at = Opens source n ps at
+  OpensBy Comment n p ps at = Opens source n ps at
+  OpensBy (Token k) n p ps at = Opens source n ps at
+  OpensBy (Open b) n p ps at =
+      ((n ≡ 0) × (at ≡ p.span))
+      ⊎ (((m : ℕ) × (n ≡ suc m) × Opens source m ps at)
+      ⊎ ((inner : Trees) × (q : Piece) × (mid : List Piece) × IsTrees source ps inner (q ∷ mid) × (q.kind ≡ Close b) × (depth inner < n) × Opens source n mid at))
+  OpensBy (Close b) n p ps at = ⊥
+
+  kinded : (n : ℕ) (p : Piece) (ps : List Piece) (at : Span) (j k : PieceKind) → p.kind ≡ j → p.kind ≡ k → OpensBy j n p ps at → OpensBy k n p ps at
+  kinded n p ps at j k f e r = subst (λ v. OpensBy v n p ps at) (sym f ∙ e) r
+
+  opened : {n : ℕ} {p : Piece} {ps : List Piece} {at : Span} → Opens source n (p ∷ ps) at → (k : PieceKind) → p.kind ≡ k → OpensBy k n p ps at
+  opened {p = p} {ps = ps} {at = at} (here {b = b} f) k e = kinded 0 p ps at (Open b) k f e (inl (refl, refl))
+  opened {p = p} {ps = ps} {at = at} (inside {n = m} {b = b} f o) k e = kinded (suc m) p ps at (Open b) k f e (inr (inl (m, refl, o)))
+  opened (later none low o) k e = opened o k e
+  opened {n = n} {p = p} {ps = ps} {at = at} (later (blank (inl f) r) low o) k e = kinded n p ps at Space k f e (later r low o)
+  opened {n = n} {p = p} {ps = ps} {at = at} (later (blank (inr f) r) low o) k e = kinded n p ps at Comment k f e (later r low o)
+  opened {n = n} {p = p} {ps = ps} {at = at} (later (lone {k = j} f r) low o) k e = kinded n p ps at (Token j) k f e (later r (omega (arith, low)) o)
+  opened {n = n} {p = p} {ps = ps} {at = at} (later (grouped {q = q} {b = b} {mid = mid} {inner = inner} f r l a z s) low o) k e =
+      kinded n p ps at (Open b) k f e (inr (inr (inner, q, mid, r, l, omega (arith, low), later s (omega (arith, low)) o)))
+
+  -- no closing bracket is first
+  never_closing : {n : ℕ} {q : Piece} {ps : List Piece} {at : Span} {b : Bracket} → q.kind ≡ Close b → Opens source n (q ∷ ps) at → ⊥
+  never_closing {b = b} l o = opened o (Close b) l
+
+  -- what opens behind trees of so many levels is behind them in every reading
+  opens_behind : {ps mid : List Piece} {ts : Trees} → IsTrees source ps ts mid → {n : ℕ} {at : Span} → depth ts ≤ n → Opens source n ps at → Opens source n mid at
+  opens_behind none low o = o
+  opens_behind (blank (inl k) r) low o = opens_behind r low (opened o Space k)
+  opens_behind (blank (inr k) r) low o = opens_behind r low (opened o Comment k)
+  opens_behind (lone {k = j} k r) low o = opens_behind r (omega (arith, low)) (opened o (Token j) k)
+  opens_behind (grouped {q = q} {b = b} {mid = mid} {inner = inner} k r l a z s) {n = n} {at = at} low o =
+      elim (opened o (Open b) k) [
+        | inl h ↦ absurd (omega (arith, low, h.0))
+        | inr (inl h) ↦ absurd (never_closing l (opens_behind r (omega (arith, low, h.1)) h.2))
+        | inr (inr h) ↦
+            let within = cancel r h.3 (b, h.4) in
+            let same = stopped within.2 (b, l) (b, h.4) in
+            let tails : mid ≡ h.2 = cc in
+            opens_behind s (omega (arith, low)) (subst (λ v. Opens source n v at) (sym tails) h.6)
+      ]
+
+  pub opens_once : {n : ℕ} {ps : List Piece} {at to : Span} → Opens source n ps at → Opens source n ps to → at ≡ to
+  opens_once (here {b = b} k) o =
+      elim (opened o (Open b) k) [
+        | inl h ↦ sym h.1
+        | inr (inl h) ↦ absurd (omega (arith, h.1))
+        | inr (inr h) ↦ absurd (omega (arith, h.5))
+      ]
+  opens_once {to = to} (inside {n = m} {b = b} {ps = ps} k within) o =
+      elim (opened o (Open b) k) [
+        | inl h ↦ absurd (omega (arith, h.0))
+        | inr (inl h) ↦ let same : h.0 ≡ m = omega (arith, h.1) in opens_once within (subst (λ v. Opens source v ps to) same h.2)
+        | inr (inr h) ↦ absurd (never_closing h.4 (opens_behind h.3 (omega (arith, h.5)) within))
+      ]
+  opens_once (later r low within) o = opens_once within (opens_behind r low o)
+
   -- ---- the exits of a reader
   -- the error of what comes after is that of the whole
-  pub unnested_later : (left : ℕ) (ps mid : List Piece) (ts : Trees) (e : LexError) → IsTrees source ps ts mid → IsUnnested source left mid e → IsUnnested source left ps e
-  unnested_later left ps mid ts Memory r h = tt
-  unnested_later left ps mid ts (TooDeep span) r h = later r h
-  unnested_later left ps mid ts (Stopped span) r h = (h.0, λ us rest s stops. let more = cancel r s stops in h.1 more.0 rest more.2 stops)
+  pub unnested_later : (left : ℕ) (ps mid : List Piece) (ts : Trees) (e : LexError) → IsTrees source ps ts mid → depth ts ≤ left → IsUnnested source left mid e → IsUnnested source left ps e
+  unnested_later left ps mid ts Memory r low h = tt
+  unnested_later left ps mid ts (TooDeep span) r low h = later r low h
+  unnested_later left ps mid ts (Stopped span) r low h = (h.0, λ us rest s stops. let more = cancel r s stops in h.1 more.0 rest more.2 stops)
 
   -- the error of what stands in a group
   pub unnested_inside : (left m : ℕ) (b : Bracket) (p : Piece) (ps : List Piece) (e : LexError) → left ≡ suc m → p.kind ≡ Open b → IsUnnested source m ps e → IsUnnested source left (p ∷ ps) e

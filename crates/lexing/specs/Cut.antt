@@ -18,7 +18,7 @@ most_open = 64
 abbrev pub IsCut : List ℕ → Trees → Type 0
 IsCut source trees = (pieces : List Piece) × Cuts pieces 0 (chars source) × IsTrees source pieces trees []
 
--- among the source's pieces, the bracket of the span opens inside as many as may be open
+-- among the source's pieces, the bracket of the span is the first to open inside as many as may be open
 abbrev pub OpensTooDeep : List ℕ → Span → Type 0
 OpensTooDeep source span = (pieces : List Piece) × Cuts pieces 0 (chars source) × Opens source most_open pieces span
 
@@ -26,7 +26,7 @@ OpensTooDeep source span = (pieces : List Piece) × Cuts pieces 0 (chars source)
 abbrev pub StopsAt : List ℕ → Span → Type 0
 StopsAt source span = (span.end ≤ length source) × ((trees : Trees) → ¬ (IsCut source trees))
 
--- the error refuses a source at a bracket that opens too deep
+-- the error refuses a source at the first bracket that opens too deep
 abbrev pub IsDepthError : List ℕ → DeriveError → Type 0
 IsDepthError source e = (span : Span) × IsDepthRefusal span e × OpensTooDeep source span
 

@@ -1,5 +1,5 @@
 -- Pieces nested by their brackets (The Rust Reference, "Delimiters").
-use Rattle.std.specs.Prelude.{◌≡◌, ℕ, zero, suc, ◌⊎◌, List, ◌∷◌}
+use Rattle.std.specs.Prelude.{◌≡◌, ◌≤◌, ℕ, zero, suc, ◌⊎◌, List, ◌∷◌}
 use Rattle.std.specs.List.{slice_range}
 use Rattle.texts.specs.declared.span.Span.{Span}
 use Rattle.tokens.specs.declared.token.Bracket.{Bracket}
@@ -7,7 +7,7 @@ use Rattle.tokens.specs.declared.token.Token as tokens
 use Rattle.tokens.specs.declared.token.TokenKind.{TokenKind}
 use Rattle.lexing.specs.declared.piece.Piece.{Piece}
 use Rattle.lexing.specs.declared.piece.PieceKind.TheVariants.{Space, Comment, Token, Open, Close}
-use Rattle.tokens.specs.Trees.{Trees, token, group, end, ◌▸◌}
+use Rattle.tokens.specs.Trees.{Trees, token, group, end, ◌▸◌, depth}
 
 -- the token of a source with that span
 abbrev pub token_of : List ℕ → TokenKind → Span → tokens.Token
@@ -23,8 +23,8 @@ pub data IsTrees (source : List ℕ) : List Piece → Trees → List Piece → T
       → p.kind ≡ Open b → IsTrees source ps inner (q ∷ mid) → q.kind ≡ Close b → span.start ≡ p.span.start → span.end ≡ q.span.end → IsTrees source mid ts rest
       → IsTrees source (p ∷ ps) (group b inner span ▸ ts) rest
 
--- Read from the left, the bracket of the span opens inside n open ones.
+-- Read from the left, the bracket of the span is the first to open inside n open ones.
 pub data Opens (source : List ℕ) : ℕ → List Piece → Span → Type 0 where
   here : {p : Piece} {b : Bracket} {ps : List Piece} → p.kind ≡ Open b → Opens source zero (p ∷ ps) p.span
   inside : {n : ℕ} {p : Piece} {b : Bracket} {ps : List Piece} {span : Span} → p.kind ≡ Open b → Opens source n ps span → Opens source (suc n) (p ∷ ps) span
-  later : {n : ℕ} {ps rest : List Piece} {ts : Trees} {span : Span} → IsTrees source ps ts rest → Opens source n rest span → Opens source n ps span
+  later : {n : ℕ} {ps rest : List Piece} {ts : Trees} {span : Span} → IsTrees source ps ts rest → depth ts ≤ n → Opens source n rest span → Opens source n ps span

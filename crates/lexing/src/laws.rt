@@ -10,6 +10,12 @@ pub fn one_cut()
     ensures { (source : List ℕ) (ts us : Trees) → IsCut source ts → IsCut source us → ts ≡ us }
 {}
 
+/// At most one bracket of a source is told to open too deep: the first that does.
+pub fn one_deep_bracket()
+    ensures { (source : List ℕ) (here there : Span) → OpensTooDeep source here
+        → OpensTooDeep source there → here ≡ there }
+{}
+
 /// Where a bracket of a source opens too deep, the token trees nest deeper than brackets may.
 pub fn deep_brackets_nest_deep()
     ensures { (source : List ℕ) (trees : Trees) (span : Span) → IsCut source trees

@@ -18,7 +18,7 @@ use tokens::TokenTree;
 ///
 /// A refusal of kind `Syntax` has a span of the source: that of the first character at which it cannot be cut, or else
 /// of a closing bracket that matches nothing or the wrong bracket, or of the end of the source where a bracket is never
-/// closed. One of kind `TooDeep` has the span of a bracket that opens inside 64 others.
+/// closed. One of kind `TooDeep` has the span of the first bracket that opens inside 64 others.
 pub fn lex(alloc: Global, source: &str) -> Result<List<TokenTree>, DeriveError>
     ensures found { IfOk result (λ trees. IsCut source.now (trees_view trees)) }
     ensures shallow { IfOk result (λ trees. depth (trees_view trees) ≤ most_open) }

@@ -25,7 +25,7 @@ pub struct Piece {
 #[derive(Drop)]
 pub enum LexError {
     Memory,
-    /// The bracket of the span stands too deep.
+    /// The bracket of the span is the first that stands too deep.
     TooDeep(Span),
     /// Reading stopped at the span.
     Stopped(Span),

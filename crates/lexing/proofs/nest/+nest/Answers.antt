@@ -122,5 +122,5 @@ pub trees_at-returns-in_err-group-in-Open-clause-value : goal.trees_at-returns-i
 trees_at-returns-in_err-group-in-Open-clause-value t c =
     let p = err_from_is_err_and c.from_residual-in_err-group-in-Open.result c.from_residual-in_err-group-in-Open.ensures.1 in
     rw (p.1, p.2)
-    (unnested_later c.args.source.now c.args.left c.args.pieces.now c.pieces.rest.now (trees_view c.pieces.found) c.in_err-group-in-Open.field-0.0 c.pieces.invariant.read
+    (unnested_later c.args.source.now c.args.left c.args.pieces.now c.pieces.rest.now (trees_view c.pieces.found) c.in_err-group-in-Open.field-0.0 c.pieces.invariant.read c.pieces.invariant.shallow
     (rw c.in-Some.ensures (c.in_err-group-in-Open.ensures.value c.in-Open.is)))
