@@ -1,5 +1,5 @@
 -- The number that digits write, read from the left.
-use Rattle.std.proofs.Common.{◌≡◌, ℕ, ◌+◌, ◌*◌, ◌^◌, ◌<◌, ◌≤◌, List, [], ◌∷◌, length, drop, get_or, map, refl, ap, sym, ◌∙◌, arith, cond, Bool, true, false, not, ◌||◌, ◌&&◌, ◌==◌, nat_lt, Option, Some, None, unwrap_or, drop-cons, add-one}
+use Rattle.std.proofs.Common.{◌≡◌, ℕ, ◌+◌, ◌*◌, ◌^◌, ◌<◌, ◌≤◌, List, [], ◌∷◌, length, drop, get_or, refl, ap, sym, ◌∙◌, arith, cond, Bool, true, false, not, ◌||◌, ◌&&◌, ◌==◌, nat_lt, Option, Some, None, unwrap_or, drop-cons, add-one}
 use Rattle.std.proofs.lemmas.Bool.{ltb-true}
 use Rattle.std.proofs.lemmas.Bool.Decides.{nat_tests}
 use Rattle.std.proofs.lemmas.Int.Digits.{number_after_ge}
@@ -7,8 +7,8 @@ use Rattle.std.proofs.lemmas.List.{drop_all}
 use Rattle.std.specs.Char.{digit_value}
 use Rattle.std.specs.Int.Digits.{number_from_digits_after}
 use Rattle.std.proofs.lemmas.List.Sums.{passes_at_first}
-use Rattle.std.specs.List.{filter, list_all, position_or_len}
-use Rattle.literal_values.specs.Values.{digits_of, are_some, number_in, suffix_place}
+use Rattle.std.specs.List.{list_all, position_or_len}
+use Rattle.literal_values.specs.Values.{plain, digits_of, are_some, number_in, suffix_place}
 
 -- after digits of that number, where there were some
 abbrev pub read_on : ℕ → ℕ → Bool → List ℕ → Option ℕ
@@ -23,11 +23,21 @@ ends base number some digits =
     cond ((some || are_some digits) && list_all (λ d. nat_lt d base) digits && nat_lt (number_from_digits_after base number digits) (2 ^ 64))
     (Some (number_from_digits_after base number digits)) None
 
-digits_skip : (b : ℕ) (bs : List ℕ) → (b == 95) ≡ true → digits_of (b ∷ bs) ≡ digits_of bs
-digits_skip b bs e = let rest = filter (λ d. not (d == 95)) bs in ap (λ v. map digit_value (cond (not v) (b ∷ rest) rest)) e
+-- a sign _ counts for nothing, and another byte stays
+pub plain_skip : (b : ℕ) (bs : List ℕ) → (b == 95) ≡ true → plain (b ∷ bs) ≡ plain bs
+plain_skip b bs e = ap (λ v. cond (not v) (b ∷ plain bs) (plain bs)) e
 
-digits_more : (b : ℕ) (bs : List ℕ) → (b == 95) ≡ false → digits_of (b ∷ bs) ≡ digit_value b ∷ digits_of bs
-digits_more b bs e = let rest = filter (λ d. not (d == 95)) bs in ap (λ v. map digit_value (cond (not v) (b ∷ rest) rest)) e
+pub plain_more : (b : ℕ) (bs : List ℕ) → (b == 95) ≡ false → plain (b ∷ bs) ≡ b ∷ plain bs
+plain_more b bs e = ap (λ v. cond (not v) (b ∷ plain bs) (plain bs)) e
+
+abbrev plain_digits : List ℕ → List ℕ
+plain_digits bs = digits_of (plain bs)
+
+digits_skip : (b : ℕ) (bs : List ℕ) → (b == 95) ≡ true → plain_digits (b ∷ bs) ≡ plain_digits bs
+digits_skip b bs e = ap digits_of (plain_skip b bs e)
+
+digits_more : (b : ℕ) (bs : List ℕ) → (b == 95) ≡ false → plain_digits (b ∷ bs) ≡ digit_value b ∷ plain_digits bs
+digits_more b bs e = ap digits_of (plain_more b bs e)
 
 refused : (some all fits : Bool) (x : Option ℕ) → cond ((some || true) && (false && all) && fits) x None ≡ None
 refused true all fits x = refl
@@ -71,26 +81,26 @@ both_same digit base number x y true true e f = let small : number < 2 ^ 64 = gr
 both_same digit base number x y true false e f = refl
 both_same digit base number x y false fits e f = refl
 
-pub reads : (base number : ℕ) (some : Bool) (bs : List ℕ) → 0 < base → number < 2 ^ 64 → read_on base number some bs ≡ ends base number some (digits_of bs)
+pub reads : (base number : ℕ) (some : Bool) (bs : List ℕ) → 0 < base → number < 2 ^ 64 → read_on base number some bs ≡ ends base number some (plain_digits bs)
 reads base number some [] b n = no_more number some n
 reads base number some (c ∷ cs) b n = by_sign (c == 95) refl (reads base number some cs b n) (reads base (number * base + digit_value c) true cs b)
   where
     next : ℕ
     next = number * base + digit_value c
 
-    by_sign : (v : Bool) → (c == 95) ≡ v → read_on base number some cs ≡ ends base number some (digits_of cs) → (number * base + digit_value c < 2 ^ 64 → read_on base (number * base + digit_value c) true cs ≡ ends base (number * base + digit_value c) true (digits_of cs)) → read_on base number some (c ∷ cs) ≡ ends base number some (digits_of (c ∷ cs))
+    by_sign : (v : Bool) → (c == 95) ≡ v → read_on base number some cs ≡ ends base number some (plain_digits cs) → (number * base + digit_value c < 2 ^ 64 → read_on base (number * base + digit_value c) true cs ≡ ends base (number * base + digit_value c) true (plain_digits cs)) → read_on base number some (c ∷ cs) ≡ ends base number some (plain_digits (c ∷ cs))
     by_sign true e same later =
         let other = cond (nat_lt (digit_value c) base && nat_lt (number * base + digit_value c) (2 ^ 64)) (read_on base (number * base + digit_value c) true cs) None in
         ap (λ v. cond v (read_on base number some cs) other) e ∙ same ∙ ap (ends base number some) (sym (digits_skip c cs e))
     by_sign false e same later =
         let other = cond (nat_lt (digit_value c) base && nat_lt (number * base + digit_value c) (2 ^ 64)) (read_on base (number * base + digit_value c) true cs) None in
         ap (λ v. cond v (read_on base number some cs) other) e
-        ∙ both_same (digit_value c) base (number * base + digit_value c) (read_on base (number * base + digit_value c) true cs) (ends base (number * base + digit_value c) true (digits_of cs)) (nat_lt (digit_value c) base) (nat_lt (number * base + digit_value c) (2 ^ 64)) refl later
-        ∙ sym (more base number (digit_value c) some (nat_lt (digit_value c) base) (digits_of cs) b refl)
+        ∙ both_same (digit_value c) base (number * base + digit_value c) (read_on base (number * base + digit_value c) true cs) (ends base (number * base + digit_value c) true (plain_digits cs)) (nat_lt (digit_value c) base) (nat_lt (number * base + digit_value c) (2 ^ 64)) refl later
+        ∙ sym (more base number (digit_value c) some (nat_lt (digit_value c) base) (plain_digits cs) b refl)
         ∙ ap (ends base number some) (sym (digits_more c cs e))
 
 -- ---- as a loop reads them
-pub number_is : (base : ℕ) (bs : List ℕ) → 0 < base → number_in base bs ≡ read_on base 0 false bs
+pub number_is : (base : ℕ) (bs : List ℕ) → 0 < base → number_in base (plain bs) ≡ read_on base 0 false bs
 number_is base bs b = sym (reads base 0 false bs b (omega arith))
 
 pub read_step : (base number : ℕ) (some : Bool) (bs : List ℕ) (i : ℕ) → i < length bs → read_on base number some (drop i bs) ≡ read_on base number some (get_or bs i 0 ∷ drop (i + 1) bs)

@@ -112,9 +112,12 @@ is_integer_suffix text = bytes_eq text [] || list_any (bytes_eq text) integer_ty
 abbrev pub suffix_place : List ℕ → ℕ
 suffix_place text = unwrap_or (position (λ b. (b == 105) || (b == 117)) text) (length text)
 
--- the digits without the signs _
+-- the text without its signs _
+abbrev pub plain : List ℕ → List ℕ
+plain text = filter (λ b. not (b == 95)) text
+
 abbrev pub digits_of : List ℕ → List ℕ
-digits_of text = map digit_value (filter (λ b. not (b == 95)) text)
+digits_of text = map digit_value text
 
 -- there is a digit
 abbrev pub are_some : List ℕ → Bool
@@ -138,15 +141,15 @@ abbrev pub number_after : Option ℕ → List ℕ → List ℕ → Option ℕ
 number_after None text digits = number_in 10 text
 number_after (Some base) text digits = number_in base digits
 
--- a number without its suffix, which begins with a digit
+-- a number without its suffix and signs _, which begins with a digit
 abbrev pub unsuffixed : List ℕ → Option ℕ
 unsuffixed [] = None
 unsuffixed (b ∷ []) = cond (is_digit b) (number_in 10 (b ∷ [])) None
 unsuffixed (b ∷ c ∷ bs) = cond (b == 48) (number_after (base_of c) (b ∷ c ∷ bs) bs) (cond (is_digit b) (number_in 10 (b ∷ c ∷ bs)) None)
 
--- a number, perhaps with the name of an integer type
+-- a number, perhaps with the name of an integer type; its signs _ count for nothing
 abbrev pub whole_value : List ℕ → Option ℕ
-whole_value text = cond (is_integer_suffix (drop (suffix_place text) text)) (unsuffixed (take (suffix_place text) text)) None
+whole_value text = cond (is_integer_suffix (drop (suffix_place text) text)) (unsuffixed (plain (take (suffix_place text) text))) None
 
 -- ---- tokens
 

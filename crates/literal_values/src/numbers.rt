@@ -1,10 +1,10 @@
 //! Whole numbers.
 
-ghost use Rattle.std.specs.Prelude.{◌≡◌, ◌+◌, ◌*◌, ◌^◌, ◌<◌, ◌≤◌, ◌==◌, ◌||◌, length, position, slice_index, SomeIff};
+ghost use Rattle.std.specs.Prelude.{◌≡◌, ◌+◌, ◌*◌, ◌^◌, ◌<◌, ◌≤◌, ◌==◌, ◌||◌, ◌∷◌, [], length, position, slice_index, MatchOption, SomeIff};
 ghost use Rattle.std.specs.Char.{digit_value};
-ghost use Rattle.literal_values.specs.Values.{is_integer_suffix, suffix_place, number_in, unsuffixed, whole_value};
+ghost use Rattle.literal_values.specs.Values.{is_integer_suffix, suffix_place, plain, number_in, unsuffixed, whole_value};
 
-/// The number, where it is whole and at most 2^64 - 1.
+/// The number, where it is whole and at most 2^64 - 1. Signs `_` before its suffix count for nothing.
 pub fn whole_value(text: &str) -> Option<u64>
     ensures { result ≡ whole_value text.now }
 {
@@ -55,15 +55,34 @@ fn is_integer_suffix(text: &str) -> bool
     )
 }
 
+/// The first byte that is no `_`, and what follows it.
+#[tactic(auto, using(crate::proofs::Reading::plain_skip, crate::proofs::Reading::plain_more))]
+fn split_first_digit(text: &[u8]) -> Option<(u8, &[u8])>
+    ensures { MatchOption result (plain text.now ≡ [])
+        (λ p. plain text.now ≡ p.0 ∷ plain p.1.now) }
+{
+    let mut rest = text;
+    'signs: while let [first, after @ ..] = rest {
+        if *first != b'_' {
+            return Some((*first, after));
+        }
+        rest = after;
+    }
+    None
+}
+
 /// The number without its suffix.
 fn unsuffixed(text: &[u8]) -> Option<u64>
-    ensures { result ≡ unsuffixed text.now }
+    ensures { result ≡ unsuffixed (plain text.now) }
 {
-    match text {
-        [b'0', b'x', digits @ ..] => number_in(16, digits),
-        [b'0', b'o', digits @ ..] => number_in(8, digits),
-        [b'0', b'b', digits @ ..] => number_in(2, digits),
-        [b'0'..=b'9', ..] => number_in(10, text),
+    match split_first_digit(text) {
+        Some((b'0', rest)) => match split_first_digit(rest) {
+            Some((b'x', digits)) => number_in(16, digits),
+            Some((b'o', digits)) => number_in(8, digits),
+            Some((b'b', digits)) => number_in(2, digits),
+            _ => number_in(10, text),
+        },
+        Some((b'0'..=b'9', _)) => number_in(10, text),
         _ => None,
     }
 }
@@ -73,7 +92,7 @@ fn unsuffixed(text: &[u8]) -> Option<u64>
 fn number_in(base: u32, text: &[u8]) -> Option<u64>
     requires least { 2 ≤ base }
     requires most { base ≤ 36 }
-    ensures { result ≡ number_in base text.now }
+    ensures { result ≡ number_in base (plain text.now) }
 {
     let mut number: u64 = 0;
     let mut has_digits = false;
