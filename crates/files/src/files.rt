@@ -1,4 +1,4 @@
-ghost use Rattle.std.specs.Prelude.{◌≡◌, ◌≢◌, ◌≤◌, ◌<◌, ◌+◌, ◌^◌, ◌⊎◌, ℕ, List, Bool, length, IfOk, Some};
+ghost use Rattle.std.specs.Prelude.{◌≡◌, ◌≢◌, ◌≤◌, ◌<◌, ◌⊎◌, ℕ, List, Bool, length, IfOk, Some};
 ghost use Rattle.std.specs.declared.option.Option.{Option};
 ghost use Rattle.streams.specs.Faults.{CountsFault};
 ghost use Rattle.files.specs.Held.{IsHeld, IsMissing};
@@ -25,7 +25,6 @@ pub trait Files {
     /// `Failed` where there is no file or reading it failed. `Failed` counts a fault, and the path is kept; every other
     /// answer leaves the count and the path of the last fault. No call changes a file.
     fn read_file(&mut self, alloc: Global, path: &str, most: usize) -> Result<FileBytes, FileAnswer>
-        requires { most + 1 < 2 ^ 64 }
         ensures bytes { IfOk result (λ bytes.
             IsHeld (tells self.old) (held self.old path.now) bytes) }
         ensures short { IfOk result (λ bytes. length bytes ≤ most) }

@@ -1,4 +1,4 @@
-ghost use Rattle.std.specs.Prelude.{◌≡◌, ◌≢◌, ◌≤◌, ◌<◌, ◌+◌, ◌^◌, ◌⊎◌, ◌↔◌, ℕ, List, length, Contains, IfOk, IsTrue, None, Some, true, option_map};
+ghost use Rattle.std.specs.Prelude.{◌≡◌, ◌≢◌, ◌≤◌, ◌<◌, ◌⊎◌, ◌↔◌, ℕ, List, length, Contains, IfOk, IsTrue, None, Some, true, option_map};
 ghost use Rattle.files.specs.Held.{first_at};
 
 use crate::faults::Faults;
@@ -59,7 +59,6 @@ impl Files for HonestFiles {
     ghost faults = { λ files. honest_faults files };
 
     fn read_file(&mut self, alloc: Global, path: &str, most: usize) -> Result<FileBytes, FileAnswer>
-        requires { most + 1 < 2 ^ 64 }
         ensures bytes { IfOk result (λ bytes. honest_held self.old path.now ≡ Some bytes) }
         ensures short { IfOk result (λ bytes. length bytes ≤ most) }
         ensures longer { result ≡ Err FileAnswer.Longer →
@@ -130,7 +129,6 @@ impl Files for MemoryFiles {
     ghost faults = { λ files. memory_faults files };
 
     fn read_file(&mut self, alloc: Global, path: &str, most: usize) -> Result<FileBytes, FileAnswer>
-        requires { most + 1 < 2 ^ 64 }
         ensures bytes { IfOk result (λ bytes. memory_held self.old path.now ≡ Some bytes) }
         ensures short { IfOk result (λ bytes. length bytes ≤ most) }
         ensures longer { result ≡ Err FileAnswer.Longer →

@@ -1,4 +1,4 @@
-ghost use Rattle.std.specs.Prelude.{◌≡◌, ◌≢◌, ◌≤◌, ◌<◌, ◌+◌, ◌^◌, ℕ, List, length, IfOk, OnOk, IsErrOf};
+ghost use Rattle.std.specs.Prelude.{◌≡◌, ◌≢◌, ◌≤◌, ◌<◌, ℕ, List, length, IfOk, OnOk, IsErrOf};
 ghost use Rattle.std.specs.Io.KnownBytes.{IsAtEnd};
 ghost use Rattle.streams.specs.Faults.{CountsFault};
 ghost use Rattle.streams.specs.Told.{IsAll};
@@ -46,7 +46,6 @@ const PIECE: usize = 4096;
 /// more. After an error some bytes may be gone from the source.
 #[tactic(auto, using(crate::proofs::Told::longer_text))]
 pub fn read_all<S: Source>(alloc: Global, source: &mut S, most: usize) -> Result<Vec<u8>, ReadError>
-    requires { most + 1 < 2 ^ 64 }
     ensures all { IfOk result (λ bytes. IsAll (S.left source.old) bytes.items) }
     ensures end { OnOk result (IsAtEnd (S.left source.new)) }
     ensures short { IfOk result (λ bytes. length bytes.items ≤ most) }
@@ -60,7 +59,7 @@ pub fn read_all<S: Source>(alloc: Global, source: &mut S, most: usize) -> Result
     let mut bytes = Vec::new(alloc);
     let mut buffer = [0u8; PIECE];
     while bytes.len() <= most {
-        let room = PIECE.min(most + 1 - bytes.len());
+        let room = PIECE.min((most - bytes.len()).saturating_add(1));
         let count = source.read(&mut buffer[..room])?;
         if count == 0 {
             return Ok(bytes);
