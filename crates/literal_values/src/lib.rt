@@ -8,5 +8,5 @@ mod raw_strings;
 mod strings;
 mod value;
 
-pub use laws::texts_are_said;
+pub use laws::{texts_are_said, values_are_equal};
 pub use value::{LiteralValue, literal_value, text_value};

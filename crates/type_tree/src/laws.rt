@@ -4,9 +4,11 @@ ghost use Rattle.std.specs.Prelude.{◌≡◌};
 ghost use Rattle.std.specs.Bool.{Decides};
 ghost use Rattle.type_tree.specs.TypeTrees.{schema_path_view, tree_view};
 ghost use Rattle.type_tree.specs.Spanless.{tree_path_without_spans, tree_without_spans};
+ghost use Rattle.type_tree.specs.declared.known_format.KnownFormat.{KnownFormat as AnyFormat};
 ghost use Rattle.type_tree.specs.declared.path.SchemaPath.{SchemaPath};
 ghost use Rattle.type_tree.specs.declared.tree.TypeTree.{TypeTree};
 
+use crate::known_format::KnownFormat;
 use crate::path::SchemaPath;
 use crate::tree::TypeTree;
 use written_types::types_are_equal_by_text;
@@ -23,3 +25,9 @@ pub fn trees_are_equal_by_text()
 {
     types_are_equal_by_text();
 }
+
+/// Two formats are told equal exactly where they are.
+pub fn formats_are_equal()
+    ensures { (one other : AnyFormat) →
+        Decides (⟦<KnownFormat as PartialEq>⟧.eq one other) (one ≡ other) }
+{}

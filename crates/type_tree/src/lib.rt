@@ -15,7 +15,7 @@ mod tree;
 
 pub use configuration::{Config, SchemaCollect};
 pub use known_format::KnownFormat;
-pub use laws::trees_are_equal_by_text;
+pub use laws::{formats_are_equal, trees_are_equal_by_text};
 pub use open_types::{
     ClosedType, Leaf, ListHead, MapHead, OpenType, SetHead, ThroughHead, substitute,
 };
