@@ -14,18 +14,15 @@ use Rattle.type_grammar.specs.Reading.{all, type_at}
 use Rattle.type_grammar.proofs.Found.{all-is}
 use Rattle.type_grammar.proofs.Sound.{type_sound}
 use Rattle.type_grammar.proofs.Complete.{Reaches, type_complete}
-use Rattle.type_grammar.proofs.Deep.{deep_type, opens_type, all_deep}
+use Rattle.type_grammar.proofs.Deep.{read_passes, all_deep, type_agrees}
 
 module _ (ws : List Word) where
   pub found : (r : Result WrittenType Stop) → Gives written_view r (all (type_at 64 ws)) → IfOk r (λ t. IsType ws (written_view t) [])
   found (Ok t) e = type_sound 64 Any ws (written_view t) [] (all-is (type_at 64 ws) (written_view t) e)
   found (Err k) e = tt
 
-  no_depth : (t : Written) → all (type_at 64 ws) ≡ Ok t → (at : Span) → OpensType 64 ws at → ⊥
-  no_depth t e at o = let stops = opens_type o in let reads = all-is (type_at 64 ws) t e in let both = stops.1 in cc
-
   pub shallow : (r : Result WrittenType Stop) → Gives written_view r (all (type_at 64 ws)) → IfOk r (λ _. (at : Span) → OpensType 64 ws at → ⊥)
-  shallow (Ok t) e = no_depth (written_view t) e
+  shallow (Ok t) e = read_passes (type_agrees 64 Any) ws (written_view t, []) (all-is (type_at 64 ws) (written_view t) e)
   shallow (Err k) e = tt
 
   pub is_deep : (r : Result WrittenType Stop) → Gives written_view r (all (type_at 64 ws)) → (at : Span) → r ≡ Err (stop.Deep at) → OpensType 64 ws at
@@ -33,7 +30,7 @@ module _ (ws : List Word) where
   is_deep (Err stop.Memory) e at h = cc
   is_deep (Err stop.Ended) e at h = cc
   is_deep (Err (stop.Unexpected s)) e at h = cc
-  is_deep (Err (stop.Deep s)) e at h = let same : s ≡ at = cc in deep_type 64 Any ws at (all_deep (type_at 64 ws) at (e ∙ ap (λ v. Err (deep v)) same))
+  is_deep (Err (stop.Deep s)) e at h = let same : s ≡ at = cc in (type_agrees 64 Any ws at).0 (all_deep (type_at 64 ws) at (e ∙ ap (λ v. Err (deep v)) same))
 
   all_reaches : (r : Read Written) (t : Written) → Reaches r (t, []) → all r ≡ Err wrong → ⊥
   all_reaches r t (inl h) e = let same : all r ≡ Ok t = ap all h in cc

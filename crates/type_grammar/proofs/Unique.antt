@@ -1,5 +1,5 @@
 -- Nothing nests deeper than the count of all trees, so words have one reading.
-use Rattle.std.proofs.Common.{◌≡◌, ℕ, suc, ◌+◌, ◌<◌, inl, inr, List, refl, ap, sym, ◌∙◌, arith, cond, Bool, true, false, Option, Some, None, Ok}
+use Rattle.std.proofs.Common.{◌≡◌, ℕ, zero, suc, ◌+◌, ◌<◌, inl, inr, List, ◌∷◌, refl, ap, sym, ◌∙◌, arith, cond, Bool, true, false, Option, Some, None, Ok}
 use Rattle.texts.specs.declared.span.Span.{Span}
 use Rattle.tokens.specs.declared.token.Token.{Token}
 use Rattle.tokens.specs.declared.token.TokenKind.{TokenKind}
@@ -9,17 +9,19 @@ use Rattle.tokens.specs.Trees as trees
 use Rattle.written_types.specs.declared.written.Ident.{Ident}
 use Rattle.written_types.specs.Written.{Written}
 use Rattle.words.specs.declared.vocabulary.Keyword.{Keyword}
-use Rattle.words.specs.Words.{Word, name, underscore, group, words_of, word_of, token_word, keyword_or_name}
+use Rattle.words.specs.declared.vocabulary.Sign.TheVariants.{Comma}
+use Rattle.words.specs.Words.{Word, name, underscore, sign, group, words_of, word_of, token_word, keyword_or_name}
 use Rattle.words.specs.Reading.{Read}
 use Rattle.type_grammar.specs.declared.starts.Bounds.{Bounds}
+use Rattle.type_grammar.specs.declared.starts.Bounds.TheVariants.{One, Any}
 use Rattle.type_grammar.specs.Starts.{Stops, StopsPath}
 use Rattle.type_grammar.specs.Grammar.{IsTypeOf, IsBound}
-use Rattle.type_grammar.specs.Opening.{OpensTypeOf, here, in_path, in_reference, in_round, in_several, in_square, in_first_bound, in_later_bound, OpensBounds, in_bound, behind_bound, OpensPath, in_segments, in_rooted, OpensSegments, in_segment, behind_segment, OpensSegment, in_arguments, in_colon_arguments, OpensArguments, in_argument, behind_argument, OpensTypes, in_type, behind_type}
-use Rattle.type_grammar.specs.Reading.{type_in, bound_at}
+use Rattle.type_grammar.specs.Opening.{OpensList, in_first, behind, OpensArgument, OpensSegment, in_arguments, in_colon_arguments, OpensSegments, in_segment, behind_segment, OpensPath, in_segments, in_rooted, OpensBound, in_bound_path, OpensBounds, in_bound, behind_bound, OpensWithin, in_path, in_reference, in_round, in_several, in_square, in_first_bound, in_later_bound, BeginsAt, here, OpensTypeOf}
+use Rattle.type_grammar.specs.Reading.{after_binding, type_in, bound_at}
 use Rattle.type_grammar.proofs.Optional.{is_binding}
 use Rattle.type_grammar.proofs.Measures.{total, lifetime_lighter, mut_lighter, question_lighter, lifetimes_lighter, binding_lighter, type_lighter, path_lighter, bound_lighter, segment_lighter, argument_lighter}
 use Rattle.type_grammar.proofs.Complete.{type_complete, bound_complete, path_stops}
-use Rattle.type_grammar.proofs.Deep.{deep_type, bound_deep}
+use Rattle.type_grammar.proofs.Deep.{type_agrees, bound_agrees}
 
 -- how many trees, those inside groups too
 abbrev mutual
@@ -56,46 +58,56 @@ pub words_weight : (ts : Trees) → total inside (words_of ts) ≡ trees_weight 
 words_weight end = refl
 words_weight (t ▸ ts) = let h = tree_light t in let k = words_weight ts in omega arith
 
-mutual
-  pub opens_light : {b : Bounds} {n : ℕ} {ws : List Word} {at : Span} → OpensTypeOf b n ws at → n < total inside ws
-  opens_light (here e) = omega arith
-  opens_light (in_path r) = path_light r
-  opens_light (in_reference l m r) = let a = lifetime_lighter inside l in let b = mut_lighter inside m in let h = opens_light r in omega arith
-  opens_light (in_round {g = g} r) = let h = opens_light r in let w = words_weight g in omega arith
-  opens_light (in_several {g = g} r s) = let h = type_lighter inside r in let k = types_light s in let w = words_weight g in omega arith
-  opens_light (in_square {g = g} r) = let h = opens_light r in let w = words_weight g in omega arith
-  opens_light (in_first_bound l q r) = let a = lifetimes_lighter inside l in let b = question_lighter inside q in let h = path_light r in omega arith
-  opens_light (in_later_bound l q p r) = let a = lifetimes_lighter inside l in let b = question_lighter inside q in let h = path_lighter inside p in let k = bounds_light r in omega arith
+list_light : {A : Type 0} {IsItem : List Word → A → List Word → Type 0} {Opens : List Word → Span → Type 0} (n : ℕ) → ((ws rest : List Word) (x : A) → IsItem ws x rest → total inside rest < total inside ws)
+    → ((ws : List Word) (at : Span) → Opens ws at → n < total inside ws) → {ws : List Word} {at : Span} → OpensList IsItem Opens ws at → n < total inside ws
+list_light n lighter light (in_first {at = at} {ws = ws} o) = light ws at o
+list_light n lighter light (behind {s = s} {ws = ws} {mid = mid} {x = x} r passes o) = let h = lighter ws (sign Comma s ∷ mid) x r in let k = list_light n lighter light o in omega arith
 
-  bounds_light : {n : ℕ} {ws : List Word} {at : Span} → OpensBounds n ws at → suc n < total inside ws
-  bounds_light (in_bound q r) = let b = question_lighter inside q in let h = path_light r in omega arith
-  bounds_light (behind_bound r s) = let h = bound_lighter inside r in let k = bounds_light s in omega arith
+module _ {Inner : Bounds → List Word → Span → Type 0} (n : ℕ) (light : (b : Bounds) (ws : List Word) (at : Span) → Inner b ws at → n < total inside ws) where
+  argument_light : (b : Bool) (ws : List Word) (at : Span) → OpensArgument Inner b ws at → n < total inside ws
+  argument_light b ws at o = let a = binding_lighter inside (is_binding b ws) in let h = light Any (after_binding b ws) at o in omega arith
 
-  path_light : {b : Bool} {n : ℕ} {ws : List Word} {at : Span} → OpensPath b n ws at → suc n < total inside ws
+  segment_light : {b : Bool} {ws : List Word} {at : Span} → OpensSegment Inner b ws at → suc n < total inside ws
+  segment_light {b = b} (in_arguments e r) = let h = list_light n (λ ws rest x r. argument_lighter inside r) (argument_light b) r in omega arith
+  segment_light {b = b} (in_colon_arguments e r) = let h = list_light n (λ ws rest x r. argument_lighter inside r) (argument_light b) r in omega arith
+
+  segments_light : {b : Bool} {ws : List Word} {at : Span} → OpensSegments Inner b ws at → suc n < total inside ws
+  segments_light (in_segment r) = segment_light r
+  segments_light (behind_segment r passes s) = let h = segment_lighter inside r in let k = segments_light s in omega arith
+
+  path_light : {b : Bool} {ws : List Word} {at : Span} → OpensPath Inner b ws at → suc n < total inside ws
   path_light (in_segments r) = segments_light r
   path_light (in_rooted r) = let h = segments_light r in omega arith
 
-  segments_light : {b : Bool} {n : ℕ} {ws : List Word} {at : Span} → OpensSegments b n ws at → suc n < total inside ws
-  segments_light (in_segment r) = segment_light r
-  segments_light (behind_segment r s) = let h = segment_lighter inside r in let k = segments_light s in omega arith
+  bound_light : {ws : List Word} {at : Span} → OpensBound Inner ws at → suc n < total inside ws
+  bound_light (in_bound_path q r) = let b = question_lighter inside q in let h = path_light r in omega arith
 
-  segment_light : {b : Bool} {n : ℕ} {ws : List Word} {at : Span} → OpensSegment b n ws at → suc n < total inside ws
-  segment_light (in_arguments e r) = let h = arguments_light r in omega arith
-  segment_light (in_colon_arguments e r) = let h = arguments_light r in omega arith
+  bounds_light : {ws : List Word} {at : Span} → OpensBounds Inner ws at → suc n < total inside ws
+  bounds_light (in_bound r) = let h = bound_light r in omega arith
+  bounds_light (behind_bound r passes s) = let h = bound_lighter inside r in let k = bounds_light s in omega arith
 
-  arguments_light : {b : Bool} {n : ℕ} {ws : List Word} {at : Span} → OpensArguments b n ws at → n < total inside ws
-  arguments_light {b = b} (in_argument {ws = ws} r) = let a = binding_lighter inside (is_binding b ws) in let h = opens_light r in omega arith
-  arguments_light (behind_argument r s) = let h = argument_lighter inside r in let k = arguments_light s in omega arith
+  within_light : {b : Bounds} {ws : List Word} {at : Span} → OpensWithin Inner b ws at → suc n < total inside ws
+  within_light (in_path r) = path_light r
+  within_light (in_reference {at = at} {vs = vs} l m r) = let a = lifetime_lighter inside l in let b = mut_lighter inside m in let h = light One vs at r in omega arith
+  within_light (in_round {g = g} {at = at} r) = let h = light Any (words_of g) at r in let w = words_weight g in omega arith
+  within_light (in_several {g = g} r passes s) = let h = type_lighter inside r in let k = list_light n (λ ws rest t r. type_lighter inside r) (light Any) s in let w = words_weight g in omega arith
+  within_light (in_square {g = g} {at = at} r) = let h = light Any (words_of g) at r in let w = words_weight g in omega arith
+  within_light (in_first_bound l q r) = let a = lifetimes_lighter inside l in let b = question_lighter inside q in let h = path_light r in omega arith
+  within_light (in_later_bound l q p passes r) = let a = lifetimes_lighter inside l in let b = question_lighter inside q in let h = path_lighter inside p in let k = bounds_light r in omega arith
 
-  types_light : {n : ℕ} {ws : List Word} {at : Span} → OpensTypes n ws at → n < total inside ws
-  types_light (in_type r) = opens_light r
-  types_light (behind_type r s) = let h = type_lighter inside r in let k = types_light s in omega arith
+here_light : {ws : List Word} {at : Span} → BeginsAt ws at → 0 < total inside ws
+here_light (here e) = omega arith
+
+pub opens_light : (n : ℕ) (b : Bounds) (ws : List Word) (at : Span) → OpensTypeOf n b ws at → n < total inside ws
+unfolding OpensTypeOf
+opens_light zero b ws at o = here_light o
+opens_light (suc n) b ws at o = within_light n (opens_light n) o
 
 deep_enough : {b : Bounds} {ws rest : List Word} {t : Written} → IsTypeOf b ws t rest → Stops rest → type_in (total inside ws) b ws ≡ Ok (t, rest)
 deep_enough {b = b} {ws = ws} r stops =
     elim (type_complete r stops (total inside ws)) [
       | inl h ↦ h
-      | inr h ↦ let less : total inside ws < total inside ws = opens_light (deep_type (total inside ws) b ws h.0 h.1) in absurd (omega arith)
+      | inr h ↦ let less : total inside ws < total inside ws = opens_light (total inside ws) b ws h.0 ((type_agrees (total inside ws) b ws h.0).0 h.1) in absurd (omega arith)
     ]
 
 pub type_one : {b : Bounds} {ws rest other : List Word} {t u : Written} → IsTypeOf b ws t rest → Stops rest → IsTypeOf b ws u other → Stops other → (t ≡ u) × (rest ≡ other)
@@ -109,10 +121,7 @@ bound_deep_enough {ws = ws} {rest = rest} r stops =
     let n = total inside ws in
     elim (bound_complete r (path_stops rest stops) n) [
       | inl h ↦ h
-      | inr h ↦ let d = bound_deep n (deep_type n) ws h.0 h.1 in
-          let a = question_lighter inside d.1 in
-          let b = path_light d.2 in
-          absurd (omega arith)
+      | inr h ↦ let less = bound_light n (opens_light n) ((bound_agrees n (type_agrees n) ws h.0).0 h.1) in absurd (omega arith)
     ]
 
 pub bound_one : {ws rest other : List Word} {at to : Span} → IsBound ws at rest → StopsPath rest → IsBound ws to other → StopsPath other → (at ≡ to) × (rest ≡ other)

@@ -1,11 +1,11 @@
--- How deep types nest: which part of a type, read from the left, begins so many levels further in, and where it begins.
+-- How deep types nest: which part of a type, read from the left, is the first to begin so many levels further in, and where it begins.
 -- A reference, a parenthesis, a tuple, an array, a slice and an argument list each are a level.
 use Rattle.std.specs.Prelude.{◌≡◌, ℕ, zero, suc, List, ◌∷◌, Bool, true, false, Some}
 use Rattle.texts.specs.declared.span.Span.{Span}
 use Rattle.tokens.specs.declared.token.Bracket.TheVariants.{Round, Square}
 use Rattle.tokens.specs.Trees.{Trees}
 use Rattle.written_types.specs.declared.written.Ident.{Ident}
-use Rattle.written_types.specs.Written.{Written, WrittenPath, Segment, Argument}
+use Rattle.written_types.specs.Written.{Written, WrittenPath, Segment}
 use Rattle.words.specs.declared.vocabulary.Keyword.TheVariants.{Dyn}
 use Rattle.words.specs.declared.vocabulary.Sign.TheVariants.{Less, Comma, Colons, Ampersand, Plus}
 use Rattle.words.specs.Words.{Word, keyword, sign, group, words_of, start_of}
@@ -16,50 +16,69 @@ use Rattle.type_grammar.specs.Starts.{begins_type}
 use Rattle.type_grammar.specs.Grammar.{MayBeLifetime, MayBeMut, MayBeQuestion, LifetimesFirst, IsTypeOf, IsPath, IsBound, IsSegment, IsArgument}
 use Rattle.type_grammar.specs.Reading.{after_binding}
 
-mutual
-  pub data OpensTypeOf : Bounds → ℕ → List Word → Span → Type 0 where
-    here : {bounds : Bounds} {w : Word} {ws : List Word} → begins_type w ≡ true → OpensTypeOf bounds zero (w ∷ ws) (start_of w)
-    in_path : {bounds : Bounds} {n : ℕ} {ws : List Word} {at : Span} → OpensPath false n ws at → OpensTypeOf bounds (suc n) ws at
-    in_reference : {bounds : Bounds} {n : ℕ} {sign_at at : Span} {ws us vs : List Word} → MayBeLifetime ws us → MayBeMut us vs → OpensTypeOf One n vs at → OpensTypeOf bounds (suc n) (sign Ampersand sign_at ∷ ws) at
-    in_round : {bounds : Bounds} {n : ℕ} {g : Trees} {s at : Span} {rest : List Word} → OpensTypeOf Any n (words_of g) at → OpensTypeOf bounds (suc n) (group Round g s ∷ rest) at
-    in_several : {bounds : Bounds} {n : ℕ} {g : Trees} {s comma_at at : Span} {mid rest : List Word} {t : Written} → IsTypeOf Any (words_of g) t (sign Comma comma_at ∷ mid) → OpensTypes n mid at
-        → OpensTypeOf bounds (suc n) (group Round g s ∷ rest) at
-    in_square : {bounds : Bounds} {n : ℕ} {g : Trees} {s at : Span} {rest : List Word} → OpensTypeOf Any n (words_of g) at → OpensTypeOf bounds (suc n) (group Square g s ∷ rest) at
-    in_first_bound : {bounds : Bounds} {n : ℕ} {x : Ident} {at : Span} {ws us vs : List Word} → LifetimesFirst bounds ws us → MayBeQuestion us vs → OpensPath false n vs at → OpensTypeOf bounds (suc n) (keyword Dyn x ∷ ws) at
-    in_later_bound : {n : ℕ} {x : Ident} {at : Span} {ws us vs mid : List Word} {p : WrittenPath} → LifetimesFirst Any ws us → MayBeQuestion us vs → IsPath false vs p mid → OpensBounds n mid at
-        → OpensTypeOf Any (suc n) (keyword Dyn x ∷ ws) at
+-- nothing opens in the words
+abbrev pub Passes : (List Word → Span → Type 0) → List Word → Type 0
+Passes Opens ws = (at : Span) → ¬ (Opens ws at)
 
-  -- in the bounds that follow, each behind `+`
-  pub data OpensBounds : ℕ → List Word → Span → Type 0 where
-    in_bound : {n : ℕ} {plus_at at : Span} {ws us : List Word} → MayBeQuestion ws us → OpensPath true n us at → OpensBounds n (sign Plus plus_at ∷ ws) at
-    behind_bound : {n : ℕ} {plus_at b at : Span} {ws mid : List Word} → IsBound ws b mid → OpensBounds n mid at → OpensBounds n (sign Plus plus_at ∷ ws) at
+-- in a list: in its first item, or where nothing opens there, in those behind it
+pub data OpensList {A : Type 0} (IsItem : List Word → A → List Word → Type 0) (Opens : List Word → Span → Type 0) : List Word → Span → Type 0 where
+  in_first : {at : Span} {ws : List Word} → Opens ws at → OpensList IsItem Opens ws at
+  behind : {s at : Span} {ws mid : List Word} {x : A} → IsItem ws x (sign Comma s ∷ mid) → Passes Opens ws → OpensList IsItem Opens mid at → OpensList IsItem Opens ws at
 
-  pub data OpensPath : Bool → ℕ → List Word → Span → Type 0 where
-    in_segments : {bindings : Bool} {n : ℕ} {ws : List Word} {at : Span} → OpensSegments bindings n ws at → OpensPath bindings n ws at
-    in_rooted : {bindings : Bool} {n : ℕ} {colons_at at : Span} {ws : List Word} → OpensSegments bindings n ws at → OpensPath bindings n (sign Colons colons_at ∷ ws) at
+-- ---- in the parts of a type, in which parts one level further in open by Inner
+abbrev pub OpensTypes : (Bounds → List Word → Span → Type 0) → List Word → Span → Type 0
+OpensTypes Inner = OpensList (IsTypeOf Any) (Inner Any)
 
-  pub data OpensSegments : Bool → ℕ → List Word → Span → Type 0 where
-    in_segment : {bindings : Bool} {n : ℕ} {ws : List Word} {at : Span} → OpensSegment bindings n ws at → OpensSegments bindings n ws at
-    behind_segment : {bindings : Bool} {n : ℕ} {ws mid : List Word} {s : Segment} {last colons_at at : Span} → IsSegment bindings ws s last (sign Colons colons_at ∷ mid) → OpensSegments bindings n mid at → OpensSegments bindings n ws at
+-- an argument's type stands behind the name and `=` of a binding
+abbrev pub OpensArgument : (Bounds → List Word → Span → Type 0) → Bool → List Word → Span → Type 0
+OpensArgument Inner bindings ws = Inner Any (after_binding bindings ws)
 
-  pub data OpensSegment : Bool → ℕ → List Word → Span → Type 0 where
-    in_arguments : {bindings : Bool} {n : ℕ} {w : Word} {x : Ident} {open_at at : Span} {ws : List Word} → as_path_word w ≡ Some x → OpensArguments bindings n ws at → OpensSegment bindings n (w ∷ sign Less open_at ∷ ws) at
-    in_colon_arguments : {bindings : Bool} {n : ℕ} {w : Word} {x : Ident} {colons_at open_at at : Span} {ws : List Word} → as_path_word w ≡ Some x → OpensArguments bindings n ws at
-        → OpensSegment bindings n (w ∷ sign Colons colons_at ∷ sign Less open_at ∷ ws) at
+abbrev pub OpensArguments : (Bounds → List Word → Span → Type 0) → Bool → List Word → Span → Type 0
+OpensArguments Inner bindings = OpensList (IsArgument bindings) (OpensArgument Inner bindings)
 
-  -- an argument's type stands behind the name and `=` of a binding
-  pub data OpensArguments : Bool → ℕ → List Word → Span → Type 0 where
-    in_argument : {bindings : Bool} {n : ℕ} {ws : List Word} {at : Span} → OpensTypeOf Any n (after_binding bindings ws) at → OpensArguments bindings n ws at
-    behind_argument : {bindings : Bool} {n : ℕ} {ws mid : List Word} {x : Argument} {comma_at at : Span} → IsArgument bindings ws x (sign Comma comma_at ∷ mid) → OpensArguments bindings n mid at → OpensArguments bindings n ws at
+pub data OpensSegment (Inner : Bounds → List Word → Span → Type 0) (bindings : Bool) : List Word → Span → Type 0 where
+  in_arguments : {w : Word} {x : Ident} {open_at at : Span} {ws : List Word} → as_path_word w ≡ Some x → OpensArguments Inner bindings ws at → OpensSegment Inner bindings (w ∷ sign Less open_at ∷ ws) at
+  in_colon_arguments : {w : Word} {x : Ident} {colons_at open_at at : Span} {ws : List Word} → as_path_word w ≡ Some x → OpensArguments Inner bindings ws at
+      → OpensSegment Inner bindings (w ∷ sign Colons colons_at ∷ sign Less open_at ∷ ws) at
 
-  pub data OpensTypes : ℕ → List Word → Span → Type 0 where
-    in_type : {n : ℕ} {ws : List Word} {at : Span} → OpensTypeOf Any n ws at → OpensTypes n ws at
-    behind_type : {n : ℕ} {ws mid : List Word} {t : Written} {comma_at at : Span} → IsTypeOf Any ws t (sign Comma comma_at ∷ mid) → OpensTypes n mid at → OpensTypes n ws at
+pub data OpensSegments (Inner : Bounds → List Word → Span → Type 0) (bindings : Bool) : List Word → Span → Type 0 where
+  in_segment : {ws : List Word} {at : Span} → OpensSegment Inner bindings ws at → OpensSegments Inner bindings ws at
+  behind_segment : {ws mid : List Word} {s : Segment} {last colons_at at : Span} → IsSegment bindings ws s last (sign Colons colons_at ∷ mid) → Passes (OpensSegment Inner bindings) ws → OpensSegments Inner bindings mid at
+      → OpensSegments Inner bindings ws at
+
+pub data OpensPath (Inner : Bounds → List Word → Span → Type 0) (bindings : Bool) : List Word → Span → Type 0 where
+  in_segments : {ws : List Word} {at : Span} → OpensSegments Inner bindings ws at → OpensPath Inner bindings ws at
+  in_rooted : {colons_at at : Span} {ws : List Word} → OpensSegments Inner bindings ws at → OpensPath Inner bindings (sign Colons colons_at ∷ ws) at
+
+pub data OpensBound (Inner : Bounds → List Word → Span → Type 0) : List Word → Span → Type 0 where
+  in_bound_path : {ws us : List Word} {at : Span} → MayBeQuestion ws us → OpensPath Inner true us at → OpensBound Inner ws at
+
+-- in the bounds that follow, each behind `+`
+pub data OpensBounds (Inner : Bounds → List Word → Span → Type 0) : List Word → Span → Type 0 where
+  in_bound : {plus_at at : Span} {ws : List Word} → OpensBound Inner ws at → OpensBounds Inner (sign Plus plus_at ∷ ws) at
+  behind_bound : {plus_at b at : Span} {ws mid : List Word} → IsBound ws b mid → Passes (OpensBound Inner) ws → OpensBounds Inner mid at → OpensBounds Inner (sign Plus plus_at ∷ ws) at
+
+pub data OpensWithin (Inner : Bounds → List Word → Span → Type 0) : Bounds → List Word → Span → Type 0 where
+  in_path : {bounds : Bounds} {ws : List Word} {at : Span} → OpensPath Inner false ws at → OpensWithin Inner bounds ws at
+  in_reference : {bounds : Bounds} {sign_at at : Span} {ws us vs : List Word} → MayBeLifetime ws us → MayBeMut us vs → Inner One vs at → OpensWithin Inner bounds (sign Ampersand sign_at ∷ ws) at
+  in_round : {bounds : Bounds} {g : Trees} {s at : Span} {rest : List Word} → Inner Any (words_of g) at → OpensWithin Inner bounds (group Round g s ∷ rest) at
+  in_several : {bounds : Bounds} {g : Trees} {s comma_at at : Span} {mid rest : List Word} {t : Written} → IsTypeOf Any (words_of g) t (sign Comma comma_at ∷ mid) → Passes (Inner Any) (words_of g) → OpensTypes Inner mid at
+      → OpensWithin Inner bounds (group Round g s ∷ rest) at
+  in_square : {bounds : Bounds} {g : Trees} {s at : Span} {rest : List Word} → Inner Any (words_of g) at → OpensWithin Inner bounds (group Square g s ∷ rest) at
+  in_first_bound : {bounds : Bounds} {x : Ident} {at : Span} {ws us vs : List Word} → LifetimesFirst bounds ws us → MayBeQuestion us vs → OpensPath Inner false vs at → OpensWithin Inner bounds (keyword Dyn x ∷ ws) at
+  in_later_bound : {x : Ident} {at : Span} {ws us vs mid : List Word} {p : WrittenPath} → LifetimesFirst Any ws us → MayBeQuestion us vs → IsPath false vs p mid → Passes (OpensPath Inner false) vs → OpensBounds Inner mid at
+      → OpensWithin Inner Any (keyword Dyn x ∷ ws) at
+
+-- ---- by levels
+
+-- a type begins with the first of the words, at the span
+pub data BeginsAt : List Word → Span → Type 0 where
+  here : {w : Word} {ws : List Word} → begins_type w ≡ true → BeginsAt (w ∷ ws) (start_of w)
+
+unfoldable pub OpensTypeOf : ℕ → Bounds → List Word → Span → Type 0
+OpensTypeOf zero bounds ws at = BeginsAt ws at
+OpensTypeOf (suc n) bounds ws at = OpensWithin (OpensTypeOf n) bounds ws at
 
 -- in a type
 abbrev pub OpensType : ℕ → List Word → Span → Type 0
-OpensType = OpensTypeOf Any
-
--- in the arguments of a bound
-abbrev pub OpensBound : ℕ → List Word → Span → Type 0
-OpensBound n ws at = (us : List Word) × MayBeQuestion ws us × OpensPath true n us at
+OpensType n = OpensTypeOf n Any

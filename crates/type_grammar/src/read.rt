@@ -9,7 +9,7 @@ ghost use Rattle.words.specs.declared.stopping.Stop.{Stop as Reason};
 ghost use Rattle.words.specs.declared.stopping.Stop.TheVariants.{Deep};
 ghost use Rattle.type_grammar.specs.Starts.{Stops, StopsPath, begins_type};
 ghost use Rattle.type_grammar.specs.Grammar.{IsType, IsBound};
-ghost use Rattle.type_grammar.specs.Opening.{OpensType, OpensBound};
+ghost use Rattle.type_grammar.specs.Opening.{OpensType, OpensTypeOf, OpensBound};
 ghost use Rattle.type_grammar.specs.Reading.{all, type_at, type_in, bound_at};
 
 use crate::parts::is_end;
@@ -34,7 +34,7 @@ fn whole_type(alloc: Global, trees: &[TokenTree]) -> Result<WrittenType, Stop>
 }
 
 /// The type that the trees are, all of them. It refuses trees that are no type of the grammar, and those in which a type
-/// begins more than `MAX_LEVELS` levels deep.
+/// begins more than `MAX_LEVELS` levels deep, at the first such place.
 pub fn read_type(alloc: Global, trees: &[TokenTree]) -> Result<WrittenType, Stop>
     // What is read is in the grammar, and no part of it begins at level 65.
     ensures found { IfOk result (λ t. IsType (words_view trees.now) (written_view t) []) }
@@ -48,7 +48,7 @@ pub fn read_type(alloc: Global, trees: &[TokenTree]) -> Result<WrittenType, Stop
 }
 
 /// What `type_at` reads is a type of the grammar; a type that nothing goes on is read, unless a part of it begins too deep;
-/// and reading stops for depth exactly where a part begins too deep.
+/// and reading stops for depth exactly where the first such part begins.
 pub fn types_are_read()
     ensures found { (n : ℕ) (ws rest : List Word) (t : Written) → type_at n ws ≡ Ok (t, rest)
         → IsType ws t rest }
@@ -58,8 +58,8 @@ pub fn types_are_read()
         → (type_at n ws ≡ Ok (t, rest)) ⊎ ((at : Bytes) × (type_at n ws ≡ Err (deep at))) }
     ensures deep { (n : ℕ) (ws : List Word) (at : Bytes) → type_at n ws ≡ Err (deep at)
         → OpensType n ws at }
-    ensures opens { (n : ℕ) (ws : List Word) (at : Bytes) → OpensType n ws at → (start : Bytes)
-        × (type_at n ws ≡ Err (deep start)) }
+    ensures opens { (n : ℕ) (ws : List Word) (at : Bytes) → OpensType n ws at
+        → type_at n ws ≡ Err (deep at) }
 {}
 
 /// A type begins with a word that may begin one, and so does one of which a part begins too deep.
@@ -77,7 +77,7 @@ pub fn one_type()
 {}
 
 /// What `bound_at` reads is a bound of the grammar; a bound whose path nothing goes on is read, unless a part of its
-/// arguments begins too deep; and reading stops for depth exactly where a part begins too deep.
+/// arguments begins too deep; and reading stops for depth exactly where the first such part begins.
 pub fn bounds_are_read()
     ensures found { (n : ℕ) (ws rest : List Word) (at : Bytes)
         → bound_at (type_in n) ws ≡ Ok (at, rest) → IsBound ws at rest }
@@ -87,9 +87,9 @@ pub fn bounds_are_read()
         → StopsPath rest → (bound_at (type_in n) ws ≡ Ok (at, rest))
         ⊎ ((start : Bytes) × (bound_at (type_in n) ws ≡ Err (deep start))) }
     ensures deep { (n : ℕ) (ws : List Word) (at : Bytes) → bound_at (type_in n) ws ≡ Err (deep at)
-        → OpensBound n ws at }
-    ensures opens { (n : ℕ) (ws : List Word) (at : Bytes) → OpensBound n ws at → (start : Bytes)
-        × (bound_at (type_in n) ws ≡ Err (deep start)) }
+        → OpensBound (OpensTypeOf n) ws at }
+    ensures opens { (n : ℕ) (ws : List Word) (at : Bytes) → OpensBound (OpensTypeOf n) ws at
+        → bound_at (type_in n) ws ≡ Err (deep at) }
 {}
 
 /// Words begin with at most one bound whose path nothing goes on.

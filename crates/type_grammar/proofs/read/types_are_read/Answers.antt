@@ -1,7 +1,7 @@
 use Rattle.type_grammar.specs.declared.starts.Bounds.TheVariants.{Any}
 use Rattle.type_grammar.proofs.Sound.{type_sound, type_shortens}
 use Rattle.type_grammar.proofs.Complete.{type_complete}
-use Rattle.type_grammar.proofs.Deep.{deep_type, opens_type}
+use Rattle.type_grammar.proofs.Deep.{type_agrees}
 use Rattle.type_grammar.proofs.read.types_are_read.Goals as goal
 
 pub returns : goal.returns
@@ -10,6 +10,6 @@ returns c =
       found = λ n ws rest t e. type_sound n Any ws t rest e;
       shorter = λ n ws rest t e. type_shortens n Any ws t rest e;
       complete = λ n ws rest t r stops. type_complete r stops n;
-      deep = λ n ws at e. deep_type n Any ws at e;
-      opens = λ n ws at o. opens_type o;
+      deep = λ n ws at e. (type_agrees n Any ws at).0 e;
+      opens = λ n ws at o. (type_agrees n Any ws at).1 o;
     }
