@@ -5,7 +5,7 @@ use Rattle.diag.specs.Refusal.{IsSyntaxRefusal}
 use Rattle.diag.specs.declared.error.DeriveError.{DeriveError}
 use Rattle.diag.specs.declared.error.DeriveError.TheVariants as errors
 use Rattle.tokens.specs.Trees.{Trees, depth}
-use Rattle.lexing.specs.Cut.{IsCut, OpensTooDeep, IsDepthError, IsSyntaxError}
+use Rattle.lexing.specs.Cut.{IsCut, OpensTooDeep, IsDepthError, IsSyntaxError, most_open}
 use Rattle.written_types.specs.Written.{Written}
 use Rattle.words.specs.declared.stopping.Stop.{Stop}
 use Rattle.words.specs.declared.stopping.Stop.TheVariants as stop
@@ -13,16 +13,16 @@ use Rattle.words.specs.Words.{Word, words_of}
 use Rattle.words.specs.Reading.{Fault, deep, wrong, Read, Fails}
 use Rattle.type_grammar.specs.Starts.{Stops}
 use Rattle.type_grammar.specs.Grammar.{IsType}
-use Rattle.type_grammar.specs.Opening.{OpensType}
 use Rattle.type_grammar.specs.Reading.{type_at}
 use Rattle.syntax.specs.Items.{DeclaredItem}
 use Rattle.syntax.specs.ItemDepth.{most_levels, OpensSource}
 use Rattle.syntax.specs.ItemGrammar.{IsSource}
 use Rattle.syntax.specs.ItemReading.{source_at, IsRefusalOf, IsPlaced}
 use Rattle.syntax.specs.Source.{Reads, NestsTooDeep, IsUnreadable, IsTooDeep}
-use Rattle.syntax.proofs.Types.{type_sound, type_complete, opens_deep, deep_enough}
+use Rattle.syntax.proofs.Types.{type_sound, type_complete, deep_enough}
 use Rattle.syntax.proofs.Sound.{source_sound}
-use Rattle.syntax.proofs.Deep.{source_deep}
+use Rattle.type_grammar.proofs.Deep.{read_passes}
+use Rattle.syntax.proofs.Deep.{type_found, source_agrees}
 use Rattle.words.proofs.Complete as lists
 use Rattle.syntax.proofs.Complete as complete
 
@@ -36,15 +36,6 @@ DeepNest = (source : List ℕ) (ts : Trees) (at : Span) → IsCut source ts → 
 
 abbrev ty : List Word → Read Written
 ty = type_at most_levels
-
-type_found : (n : ℕ) (ws rest : List Word) (t : Written) → IsType ws t rest → Stops rest → lists.Finds (type_at n) (type_at n ws) (t, rest)
-type_found n ws rest t r stops = elim (type_complete r stops n) [
-  | inl e ↦ inl e
-  | inr d ↦ inr (d.0, d.1, (ws, d.1))
-]
-
-opens_found : (ws : List Word) (at : Span) → OpensType most_levels ws at → lists.IsDeep ty (ty ws)
-opens_found ws at o = let d = opens_deep o in (d.0, d.1, (ws, d.1))
 
 -- ---- one source
 -- a reader of types that finds nothing too deep
@@ -82,12 +73,9 @@ one unique source ds es r s = one_source (subst (λ v. IsSource (words_of v) ds)
 pub found : (source : List ℕ) (ts : Trees) (ds : List DeclaredItem) → IsCut source ts → source_at ty (words_of ts) ≡ Ok ds → Reads source ds
 found source ts ds cut e = (ts, cut, source_sound ty (type_sound most_levels) (words_of ts) ds e)
 
-no_opening : (ws : List Word) (ds : List DeclaredItem) (at : Span) → source_at ty ws ≡ Ok ds → OpensSource ws at → ⊥
-no_opening ws ds at e o = let d = complete.source_opens ty (type_sound most_levels) (type_found most_levels) opens_found o in let both : ◌≡◌ {A = Result (List DeclaredItem) Fault} (Ok ds) (Err (deep d.0)) = sym e ∙ d.1 in cc
-
 pub shallow : OneCut → DeepNest → (source : List ℕ) (ts : Trees) (ds : List DeclaredItem) (at : Span) → IsCut source ts → depth ts ≤ 64 → source_at ty (words_of ts) ≡ Ok ds → NestsTooDeep source at → ⊥
 shallow unique deeper source ts ds at cut low e (inl o) = let h = deeper source ts at cut o in absurd (omega arith)
-shallow unique deeper source ts ds at cut low e (inr h) = no_opening (words_of ts) ds at e (subst (λ v. OpensSource (words_of v) at) (unique source h.0 ts h.1 cut) h.2)
+shallow unique deeper source ts ds at cut low e (inr h) = read_passes source_agrees (words_of ts) ds e at (subst (λ v. OpensSource (words_of v) at) (unique source h.0 ts h.1 cut) h.3)
 
 -- ---- what was not read
 -- where the source has no trees, it has no reading
@@ -104,14 +92,14 @@ no_reading unique source ts cut e ds r =
       | inr d ↦ let both : ◌≡◌ {A = Result (List DeclaredItem) Fault} (Err (deep d.0)) (Err wrong) = sym d.1 ∙ e in cc
     ]
 
-pub unread : OneCut → (source : List ℕ) (ts : Trees) (s : Stop) (e : DeriveError) → IsCut source ts → Fails s (source_at ty (words_of ts)) → IsRefusalOf s (length source) e → (e ≡ errors.Memory) ⊎ IsTooDeep source e ⊎ IsUnreadable source e
-unread unique source ts stop.Memory e cut f h = inl h
-unread unique source ts stop.Ended e cut f (inl h) = inl h
-unread unique source ts stop.Ended e cut f (inr h) = inr (inr (h.0, h.1, h.2, no_reading unique source ts cut f))
-unread unique source ts (stop.Unexpected at) e cut f (inl h) = inl h
-unread unique source ts (stop.Unexpected at) e cut f (inr h) = inr (inr (h.0, h.1, h.2, no_reading unique source ts cut f))
-unread unique source ts (stop.Deep at) e cut f (inl h) = inl h
-unread unique source ts (stop.Deep at) e cut f (inr h) = inr (inl (at, h, inr (ts, cut, source_deep (words_of ts) at f)))
+pub unread : OneCut → (source : List ℕ) (ts : Trees) (s : Stop) (e : DeriveError) → IsCut source ts → depth ts ≤ most_open → Fails s (source_at ty (words_of ts)) → IsRefusalOf s (length source) e → (e ≡ errors.Memory) ⊎ IsTooDeep source e ⊎ IsUnreadable source e
+unread unique source ts stop.Memory e cut low f h = inl h
+unread unique source ts stop.Ended e cut low f (inl h) = inl h
+unread unique source ts stop.Ended e cut low f (inr h) = inr (inr (h.0, h.1, h.2, no_reading unique source ts cut f))
+unread unique source ts (stop.Unexpected at) e cut low f (inl h) = inl h
+unread unique source ts (stop.Unexpected at) e cut low f (inr h) = inr (inr (h.0, h.1, h.2, no_reading unique source ts cut f))
+unread unique source ts (stop.Deep at) e cut low f (inl h) = inl h
+unread unique source ts (stop.Deep at) e cut low f (inr h) = inr (inl (at, h, inr (ts, cut, low, (source_agrees (words_of ts) at).0 f)))
 
 -- an error at a span within the text
 pub placed : (bytes : ℕ) (e : DeriveError) (span : Span) → (e ≡ errors.Memory) ⊎ IsSyntaxRefusal span e → span.end ≤ bytes → (e ≡ errors.Memory) ⊎ IsPlaced bytes e

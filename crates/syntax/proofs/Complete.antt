@@ -1,5 +1,5 @@
 -- What is in the grammar is read, unless a type nests too deep, where ty reads types.
-use Rattle.std.proofs.Common.{◌≡◌, ◌∙◌, suc, ◌<◌, inl, inr, List, [], ◌∷◌, length, refl, ap, sym, subst, arith, true, false, not, ◌&&◌, cond, is_some, Option, Some, None, Ok, Err}
+use Rattle.std.proofs.Common.{◌≡◌, ◌∙◌, inl, inr, List, [], ◌∷◌, refl, ap, sym, subst, true, false, not, ◌&&◌, cond, is_some, Option, Some, None, Ok, Err}
 use Rattle.texts.specs.declared.span.Span.{Span}
 use Rattle.tokens.specs.declared.token.Bracket.TheVariants.{Round, Square}
 use Rattle.tokens.specs.declared.token.Token.{Token}
@@ -16,24 +16,21 @@ use Rattle.words.specs.Words.{Word, name, underscore, keyword, sign, lifetime, l
 use Rattle.words.specs.Reading.{wrong, Read, ◌>>=◌, as_sign, as_keyword, name_at, keyword_at, sign_at}
 use Rattle.type_grammar.specs.Starts.{Stops, begins_type}
 use Rattle.type_grammar.specs.Grammar.{IsType}
-use Rattle.type_grammar.specs.Opening.{OpensType}
-use Rattle.words.specs.Lists.{IsList, turn_at, itself, list_of}
+use Rattle.words.specs.Lists.{IsList, list_of}
 use Rattle.attributes.specs.Attributes.{AttributeItem}
 use Rattle.attributes.specs.AttributeWords.{is_inner_text}
 use Rattle.attributes.specs.AttributeGrammar.{IsAttributes}
 use Rattle.attributes.specs.AttributeReading.{begins_attribute}
-use Rattle.attributes.proofs.Whole.{attributes_complete, attributes_no_longer}
+use Rattle.attributes.proofs.Whole.{attributes_complete}
 use Rattle.syntax.specs.Items.{FieldItem, FieldItems, named, unnamed, DeclaredItem}
 use Rattle.syntax.specs.ItemWords.{is_restriction}
 use Rattle.syntax.specs.ItemGrammar.{IsVisibility, private, public, restricted, IsNamedField, named_field, IsUnnamedField, unnamed_field, IsFields, named_fields, unnamed_fields, no_fields, IsUse, use_line, IsStruct, struct_item, IsItems, nothing, used, declared, IsSource, inner_doc, inner_attribute, items}
-use Rattle.syntax.specs.ItemDepth.{most_levels, OpensNamed, in_named, OpensUnnamed, in_unnamed, OpensList, in_first, behind, OpensFields, in_named_fields, in_unnamed_fields, OpensItems, in_struct, behind_use, behind_struct, OpensSource, behind_inner_doc, behind_inner_attribute, in_items}
 use Rattle.syntax.specs.ItemReading.{is_scope, ends_item, after_visibility, field_of, named_field_at, unnamed_field_at, fields_at, declared_of, struct_at, left_by, use_or_struct, item_at, kept, inner_at, items_at, source_at}
-use Rattle.syntax.proofs.Fronts.{bool_cases, NoAttribute, scope-is, visibility_no_attribute, pub_left, scope_left, scope_passed, visibility_complete, NoInner, attributes_no_inner, visibility_no_inner, visibility_no_longer}
-use Rattle.syntax.proofs.Types.{Begins, type_begins, group_alone, opens_begins, scope_shallow}
+use Rattle.syntax.proofs.Fronts.{bool_cases, NoAttribute, scope-is, visibility_no_attribute, pub_left, scope_left, scope_passed, visibility_complete, NoInner, attributes_no_inner, visibility_no_inner}
+use Rattle.syntax.proofs.Types.{Begins, type_begins, group_alone}
 use Rattle.syntax.proofs.Inner.{inner_step, inner_stop}
-use Rattle.words.proofs.Many.{Shortens, many_none}
-use Rattle.words.proofs.Sound.{turn_shortens}
-use Rattle.words.proofs.Complete.{Ends, at_end, at_comma, IsDeep, Finds, bind_deep, like_deep, like_finds, then_finds, turn_finds, turn_deep, more_finds, more_deep, first_deep, list_complete}
+use Rattle.words.proofs.Many.{many_none}
+use Rattle.words.proofs.Complete.{Ends, at_end, at_comma, Finds, like_finds, then_finds, more_finds, list_complete}
 use Rattle.syntax.proofs.Sound.{named_shorter, unnamed_shorter, use_shorter, struct_shorter, named_shortens, unnamed_shortens, item_shortens}
 
 -- ---- what a type begins with, and what ends an item of a list
@@ -101,22 +98,17 @@ type_visibility (restricted {x = x} {inside = inside} {s = s} {rest = rest} h) b
     let goes : ends_item rest ≡ false = ap ends_item b.2 ∙ begins_no_comma b.0 b.3 in
     scope_passed x true (group Round inside s) rest (ap (λ v. v && not (true && ends_item rest)) h ∙ ap (λ v. not v) goes)
 
-begins_type_alone : (ws : List Word) → Begins ws → NoAttribute ws
+pub begins_type_alone : (ws : List Word) → Begins ws → NoAttribute ws
 begins_type_alone ws b = subst (λ v. NoAttribute v) (sym b.2) (begins_no_attribute b.0 b.3)
 
 -- ---- items have no inner attrs and attributes at their front
-inner_doc_at : (t : Token) (ws : List Word) → is_inner_text t.text ≡ true → inner_at (doc t ∷ ws) ≡ Ok ws
+pub inner_doc_at : (t : Token) (ws : List Word) → is_inner_text t.text ≡ true → inner_at (doc t ∷ ws) ≡ Ok ws
 inner_doc_at t ws e = ap (λ b. cond b (Ok ws) (Err wrong)) e
 
 items_no_inner : {ws : List Word} {ds : List DeclaredItem} → IsItems ws ds → NoInner ws
 items_no_inner nothing = refl
 items_no_inner (used (use_line d v e) h) = attributes_no_inner d (visibility_no_inner v refl)
 items_no_inner (declared (struct_item d v r) h) = attributes_no_inner d (visibility_no_inner v refl)
-
-opens_no_inner : {ws : List Word} {at : Span} → OpensItems ws at → NoInner ws
-opens_no_inner (in_struct d v o) = attributes_no_inner d (visibility_no_inner v refl)
-opens_no_inner (behind_use (use_line d v e) o) = attributes_no_inner d (visibility_no_inner v refl)
-opens_no_inner (behind_struct (struct_item d v r) o) = attributes_no_inner d (visibility_no_inner v refl)
 
 -- ---- heads of readers
 abbrev named_tail : (List Word → Read Written) → List AttributeItem → Ident → List Word → List Word → Read FieldItem
@@ -132,13 +124,13 @@ module _ (ty : List Word → Read Written) where
   abbrev named_from : List AttributeItem → List Word → List Word → Read FieldItem
   named_from attrs us vs = name_at vs >>= λ x. sign_at Colon x.1 >>= λ c. ty c.1 >>= λ t. Ok (field_of attrs (Some x.0) us t)
 
-  named_head : {ws us vs : List Word} {attrs : List AttributeItem} {x : Ident} {s : Span} → IsAttributes ws attrs us → IsVisibility us (name x ∷ sign Colon s ∷ vs) → named_field_at ty ws ≡ named_tail ty attrs x us vs
+  pub named_head : {ws us vs : List Word} {attrs : List AttributeItem} {x : Ident} {s : Span} → IsAttributes ws attrs us → IsVisibility us (name x ∷ sign Colon s ∷ vs) → named_field_at ty ws ≡ named_tail ty attrs x us vs
   unfolding named_field_at
   named_head {us = us} {vs = vs} {attrs = attrs} {x = x} {s = s} d v =
       ap (λ (r : Read (List AttributeItem)). r >>= λ p. named_from p.0 p.1 (after_visibility false p.1)) (attributes_complete d (visibility_no_attribute v refl))
       ∙ ap (named_from attrs us) (visibility_complete (name x) (sign Colon s ∷ vs) v refl refl refl)
 
-  unnamed_head : {ws us vs : List Word} {attrs : List AttributeItem} → IsAttributes ws attrs us → IsVisibility us vs → NoAttribute vs → after_visibility true us ≡ vs → unnamed_field_at ty ws ≡ unnamed_tail ty attrs us vs
+  pub unnamed_head : {ws us vs : List Word} {attrs : List AttributeItem} → IsAttributes ws attrs us → IsVisibility us vs → NoAttribute vs → after_visibility true us ≡ vs → unnamed_field_at ty ws ≡ unnamed_tail ty attrs us vs
   unfolding unnamed_field_at
   unnamed_head {us = us} {attrs = attrs} d v n e =
       ap (λ (r : Read (List AttributeItem)). r >>= λ p. unnamed_tail ty p.0 p.1 (after_visibility true p.1)) (attributes_complete d (visibility_no_attribute v n)) ∙ ap (unnamed_tail ty attrs us) e
@@ -153,33 +145,22 @@ module _ (ty : List Word → Read Written) where
       ap (λ (r : Read (List AttributeItem)). r >>= λ p. item_from p.0 p.1 (after_visibility false p.1)) (attributes_complete d (visibility_no_attribute v n))
       ∙ ap (item_from attrs us) (visibility_complete w vs v refl p g)
 
-  use_head : {ws rest : List Word} → IsUse ws rest → item_at ty ws ≡ Ok (None, rest)
+  pub use_head : {ws rest : List Word} → IsUse ws rest → item_at ty ws ≡ Ok (None, rest)
   use_head (use_line {x = x} {vs = vs} d v e) = item_head (keyword Use x) vs d v refl refl refl ∙ ap left_by e
 
-  struct_head : {ws us vs : List Word} {attrs : List AttributeItem} {x y : Ident} → IsAttributes ws attrs us → IsVisibility us (keyword Struct x ∷ name y ∷ vs)
+  pub struct_head : {ws us vs : List Word} {attrs : List AttributeItem} {x y : Ident} → IsAttributes ws attrs us → IsVisibility us (keyword Struct x ∷ name y ∷ vs)
       → item_at ty ws ≡ (struct_tail ty attrs y us vs >>= λ d. Ok (Some d.0, d.1))
   unfolding struct_at
   struct_head {vs = vs} {x = x} {y = y} d v = item_head (keyword Struct x) (name y ∷ vs) d v refl refl refl
 
-  -- ---- lists
-  module _ {A : Type 0} (item : List Word → Read A) (IsItem : List Word → A → List Word → Type 0) (shortens : Shortens item)
-      (shorter : (ws rest : List Word) (x : A) → IsItem ws x rest → length rest < length ws) (complete : (ws rest : List Word) (x : A) → IsItem ws x rest → Ends rest → Finds ty (item ws) (x, rest)) where
-    list_opens : (Opens : List Word → Span → Type 0) → ((ws : List Word) (at : Span) → Opens ws at → (0 < length ws) × IsDeep ty (item ws)) → {ws : List Word} {at : Span} → OpensList IsItem Opens ws at → IsDeep ty (list_of item ws)
-    list_opens Opens opens (in_first {at = at} {ws = ws} o) =
-        let h = opens ws at o in
-        first_deep ty itself (turn_at item) (turn_shortens item shortens) ws h.0 (turn_deep ty item ws h.1)
-    list_opens Opens opens (behind {s = s} {ws = ws} {mid = mid} {x = x} r o) =
-        let less = shorter ws (sign Comma s ∷ mid) x r in
-        more_deep ty itself (turn_at item) (turn_shortens item shortens) ws mid x (omega arith) (turn_finds ty item ws (sign Comma s ∷ mid) mid x (complete ws (sign Comma s ∷ mid) x r at_comma) refl) (list_opens Opens opens o)
-
   module _ (sound : (ws : List Word) (t : Written) (rest : List Word) → ty ws ≡ Ok (t, rest) → IsType ws t rest) (type_found : (ws rest : List Word) (t : Written) → IsType ws t rest → Stops rest → Finds ty (ty ws) (t, rest)) where
     -- ---- fields
-    named_complete : (ws rest : List Word) (f : FieldItem) → IsNamedField ws f rest → Ends rest → Finds ty (named_field_at ty ws) (f, rest)
+    pub named_complete : (ws rest : List Word) (f : FieldItem) → IsNamedField ws f rest → Ends rest → Finds ty (named_field_at ty ws) (f, rest)
     named_complete _ rest _ (named_field {x = x} {t = t} {attrs = attrs} {us = us} {vs = vs} d v r) ends =
         let f : Written × List Word → Read FieldItem = λ t. Ok (field_of attrs (Some x) us t) in
         like_finds ty (named_head d v) (then_finds ty (ty vs) f (t, rest) (field_of attrs (Some x) us (t, rest)) (type_found vs rest t r (ends_stop ends)) (inl refl))
 
-    unnamed_complete : (ws rest : List Word) (f : FieldItem) → IsUnnamedField ws f rest → Ends rest → Finds ty (unnamed_field_at ty ws) (f, rest)
+    pub unnamed_complete : (ws rest : List Word) (f : FieldItem) → IsUnnamedField ws f rest → Ends rest → Finds ty (unnamed_field_at ty ws) (f, rest)
     unnamed_complete _ rest _ (unnamed_field {t = t} {attrs = attrs} {us = us} {vs = vs} d v r) ends =
         let f : Written × List Word → Read FieldItem = λ t. Ok (field_of attrs None us t) in
         let b = type_begins r in
@@ -203,7 +184,7 @@ module _ (ty : List Word → Read Written) where
         then_finds ty (list_of (unnamed_field_at ty) (words_of inside)) f fs (unnamed fs, rest) (list_unnamed r) (inl refl)
     fields_complete no_fields = inl refl
 
-    struct_complete : {ws rest : List Word} {d : DeclaredItem} → IsStruct ws d rest → Finds ty (item_at ty ws) (Some d, rest)
+    pub struct_complete : {ws rest : List Word} {d : DeclaredItem} → IsStruct ws d rest → Finds ty (item_at ty ws) (Some d, rest)
     struct_complete (struct_item {y = y} {attrs = attrs} {us = us} {vs = vs} {rest = rest} {fs = fs} ds v r) =
         let f : FieldItems × List Word → Read DeclaredItem = λ fs. Ok (declared_of attrs y us fs) in
         let g : DeclaredItem × List Word → Read (Option DeclaredItem) = λ d. Ok (Some d.0, d.1) in
@@ -221,42 +202,3 @@ module _ (ty : List Word → Read Written) where
     source_complete (inner_doc {t = t} {ws = ws} e r) = like_finds ty (ap (items_at ty) (inner_step (doc t ∷ ws) ws (inner_doc_at t ws e))) (source_complete r)
     source_complete (inner_attribute {h = h} {e = e} {s = s} {inside = inside} {ws = ws} r) = like_finds ty (ap (items_at ty) (inner_step (sign Hash h ∷ sign Exclamation e ∷ group Square inside s ∷ ws) ws refl)) (source_complete r)
     source_complete (items {ws = ws} r) = like_finds ty (ap (items_at ty) (inner_stop ws (items_no_inner r))) (items_complete r)
-
-    -- ---- what opens too deep
-    module _ (opens : (ws : List Word) (at : Span) → OpensType most_levels ws at → IsDeep ty (ty ws)) where
-      named_opens : (ws : List Word) (at : Span) → OpensNamed ws at → (0 < length ws) × IsDeep ty (named_field_at ty ws)
-      named_opens ws at (in_named {x = x} {attrs = attrs} {us = us} {vs = vs} d v o) =
-          let f : Written × List Word → Read FieldItem = λ t. Ok (field_of attrs (Some x) us t) in
-          (omega (arith, attributes_no_longer d, visibility_no_longer v), like_deep ty (named_head d v) (bind_deep ty (ty vs) f (opens vs at o)))
-
-      unnamed_opens : (ws : List Word) (at : Span) → OpensUnnamed ws at → (0 < length ws) × IsDeep ty (unnamed_field_at ty ws)
-      unnamed_opens ws at (in_unnamed {attrs = attrs} {us = us} {vs = vs} d v o) =
-          let f : Written × List Word → Read FieldItem = λ t. Ok (field_of attrs None us t) in
-          let b = opens_begins o in
-          let more : length vs ≡ suc (length b.1) = ap length b.2 in
-          let passed = type_visibility v b (λ g s more is h. absurd (scope_shallow o is h)) in
-          (omega (arith, attributes_no_longer d, visibility_no_longer v), like_deep ty (unnamed_head d v (begins_type_alone vs b) passed) (bind_deep ty (ty vs) f (opens vs at o)))
-
-      fields_open : {ws : List Word} {at : Span} → OpensFields ws at → IsDeep ty (fields_at ty ws)
-      unfolding fields_at
-      fields_open (in_named_fields {inside = inside} {rest = rest} o) =
-          let f : List FieldItem → Read FieldItems = λ fs. Ok (named fs, rest) in
-          bind_deep ty (list_of (named_field_at ty) (words_of inside)) f (list_opens (named_field_at ty) IsNamedField (named_shortens ty sound) (λ ws rest x r. named_shorter r) named_complete OpensNamed named_opens o)
-      fields_open (in_unnamed_fields {inside = inside} {rest = rest} o) =
-          let f : List FieldItem → Read FieldItems = λ fs. sign_at Semicolon rest >>= λ end. Ok (unnamed fs, end.1) in
-          bind_deep ty (list_of (unnamed_field_at ty) (words_of inside)) f (list_opens (unnamed_field_at ty) IsUnnamedField (unnamed_shortens ty sound) (λ ws rest x r. unnamed_shorter r) unnamed_complete OpensUnnamed unnamed_opens o)
-
-      items_open : {ws : List Word} {at : Span} → OpensItems ws at → IsDeep ty (items_at ty ws)
-      items_open (in_struct {y = y} {attrs = attrs} {ws = ws} {us = us} {vs = vs} d v o) =
-          let f : FieldItems × List Word → Read DeclaredItem = λ fs. Ok (declared_of attrs y us fs) in
-          let g : DeclaredItem × List Word → Read (Option DeclaredItem) = λ d. Ok (Some d.0, d.1) in
-          first_deep ty kept (item_at ty) (item_shortens ty sound) ws (omega (arith, attributes_no_longer d, visibility_no_longer v)) (like_deep ty (struct_head d v) (bind_deep ty (struct_tail ty attrs y us vs) g (bind_deep ty (fields_at ty vs) f (fields_open o))))
-      items_open (behind_use {ws = ws} {rest = rest} r o) = more_deep ty kept (item_at ty) (item_shortens ty sound) ws rest None (use_shorter r) (inl (use_head r)) (items_open o)
-      items_open (behind_struct {ws = ws} {rest = rest} {d = d} r o) = more_deep ty kept (item_at ty) (item_shortens ty sound) ws rest (Some d) (struct_shorter r) (struct_complete r) (items_open o)
-
-      pub source_opens : {ws : List Word} {at : Span} → OpensSource ws at → IsDeep ty (source_at ty ws)
-      unfolding source_at
-      source_opens (behind_inner_doc {t = t} {ws = ws} e r) = like_deep ty (ap (items_at ty) (inner_step (doc t ∷ ws) ws (inner_doc_at t ws e))) (source_opens r)
-      source_opens (behind_inner_attribute {h = h} {e = e} {s = s} {inside = inside} {ws = ws} r) =
-          like_deep ty (ap (items_at ty) (inner_step (sign Hash h ∷ sign Exclamation e ∷ group Square inside s ∷ ws) ws refl)) (source_opens r)
-      source_opens (in_items {ws = ws} r) = like_deep ty (ap (items_at ty) (inner_stop ws (opens_no_inner r))) (items_open r)

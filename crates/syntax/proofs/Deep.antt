@@ -1,5 +1,5 @@
--- Where readers of items stop for depth, a type nests too deep.
-use Rattle.std.proofs.Common.{◌≡◌, ◌∙◌, ℕ, zero, suc, inl, inr, List, [], ◌∷◌, ◌++◌, length, refl, ap, sym, subst, Bool, true, false, cond, Option, Some, None, Result, Ok, Err}
+-- Readers of items stop for depth at the first type that nests too deep, and nowhere else.
+use Rattle.std.proofs.Common.{◌≡◌, ◌∙◌, ℕ, zero, suc, ◌<◌, inl, inr, List, [], ◌∷◌, ◌++◌, length, refl, ap, sym, subst, arith, Bool, true, false, cond, Option, Some, None, Result, Ok, Err}
 use Rattle.texts.specs.declared.span.Span.{Span}
 use Rattle.tokens.specs.declared.token.Bracket.{Bracket}
 use Rattle.tokens.specs.declared.token.Bracket.TheVariants.{Round, Square, Curly}
@@ -9,28 +9,59 @@ use Rattle.words.specs.declared.vocabulary.Keyword.TheVariants.{Struct, Use}
 use Rattle.words.specs.declared.vocabulary.Sign.TheVariants.{Colon, Comma, Semicolon, Hash, Exclamation}
 use Rattle.words.specs.Words.{Word, name, underscore, keyword, sign, lifetime, literal, doc, group, words_of}
 use Rattle.words.specs.Reading.{Fault, deep, Read, ◌>>=◌, first_as, as_name, as_keyword, as_sign, keyword_at, sign_at, group_at}
+use Rattle.type_grammar.specs.Starts.{Stops}
+use Rattle.type_grammar.specs.Grammar.{IsType}
+use Rattle.type_grammar.specs.Opening.{OpensList, in_first, behind}
 use Rattle.type_grammar.specs.Reading.{type_at}
+use Rattle.type_grammar.proofs.Complete.{Reaches}
+use Rattle.type_grammar.proofs.Deep.{Agrees, read_passes, passed_reads}
 use Rattle.words.specs.Lists.{after_comma, turn_at, many_at, many_of, itself, list_of}
 use Rattle.attributes.specs.Attributes.{AttributeItem}
 use Rattle.attributes.specs.AttributeWords.{is_inner_doc}
 use Rattle.attributes.specs.AttributeGrammar.{IsAttributes}
 use Rattle.attributes.specs.AttributeReading.{attributes_at}
-use Rattle.attributes.proofs.Whole.{attributes_sound, attributes_shallow}
-use Rattle.syntax.specs.Items.{FieldItems, unit, DeclaredItem}
+use Rattle.attributes.proofs.Whole.{attributes_sound, attributes_shallow, attributes_no_longer}
+use Rattle.syntax.specs.Items.{FieldItem, FieldItems, named, unnamed, unit, DeclaredItem}
 use Rattle.syntax.specs.ItemWords.{after_semicolon}
-use Rattle.syntax.specs.ItemGrammar.{IsVisibility, IsNamedField, IsUnnamedField}
-use Rattle.syntax.specs.ItemDepth.{most_levels, OpensNamed, in_named, OpensUnnamed, in_unnamed, OpensList, in_first, behind, OpensFields, in_named_fields, in_unnamed_fields, OpensItems, in_struct, behind_use, behind_struct, OpensSource, behind_inner_doc, behind_inner_attribute, in_items}
-use Rattle.syntax.specs.ItemReading.{after_visibility, named_field_at, unnamed_field_at, fields_in, fields_at, struct_at, left_by, use_or_struct, item_at, kept, after_inner_attribute, inner_at, inner_from, after_inner_within, after_inner, source_at}
+use Rattle.syntax.specs.ItemGrammar.{IsVisibility, IsNamedField, IsUnnamedField, use_line, struct_item}
+use Rattle.syntax.specs.ItemDepth.{most_levels, OpensNamed, in_named, OpensUnnamed, in_unnamed, OpensFields, in_named_fields, in_unnamed_fields, OpensStruct, in_fields, OpensItems, in_struct, behind_use, behind_struct, OpensSource, behind_inner_doc, behind_inner_attribute, in_items}
+use Rattle.syntax.specs.ItemReading.{after_visibility, field_of, named_field_at, unnamed_field_at, fields_in, fields_at, declared_of, struct_at, left_by, use_or_struct, item_at, kept, after_inner_attribute, inner_at, inner_from, after_inner_within, after_inner, items_at, source_at}
 use Rattle.words.proofs.Read.{bind_ok, bind_err, ok_is, first_shallow}
 use Rattle.words.proofs.Stands.{name-is, keyword-is, sign-is, group-is}
-use Rattle.syntax.proofs.Fronts.{visibility_sound}
-use Rattle.syntax.proofs.Types.{type_sound, deep_opens}
-use Rattle.words.proofs.Sound.{comma_read, turn_sound}
-use Rattle.syntax.proofs.Sound.{ItemRead}
+use Rattle.syntax.proofs.Fronts.{visibility_sound, visibility_no_longer, NoInner, attributes_no_inner, visibility_no_inner}
+use Rattle.syntax.proofs.Inner.{inner_step, inner_stop}
+use Rattle.syntax.proofs.Types.{type_sound, type_complete, type_agrees, opens_begins, scope_shallow}
+use Rattle.words.proofs.Many.{Shortens}
+use Rattle.words.proofs.Sound.{comma_read, turn_sound, turn_shortens}
+use Rattle.words.proofs.Complete.{Ends, at_comma, turn_finds, turn_deep, more_deep, first_deep}
+use Rattle.words.proofs.Complete as lists
+use Rattle.syntax.proofs.Sound.{ItemRead, named_shorter, unnamed_shorter, use_shorter, struct_shorter, named_shortens, unnamed_shortens, item_shortens}
 use Rattle.syntax.proofs.Sound as sound
+use Rattle.syntax.proofs.Complete.{type_visibility, begins_type_alone, inner_doc_at, named_head, unnamed_head, use_head, struct_head}
+use Rattle.syntax.proofs.Complete as complete
 
 abbrev ty : List Word → Read Written
 ty = type_at most_levels
+
+pub type_found : (n : ℕ) (ws rest : List Word) (t : Written) → IsType ws t rest → Stops rest → lists.Finds (type_at n) (type_at n ws) (t, rest)
+type_found n ws rest t r stops = elim (type_complete r stops n) [
+  | inl e ↦ inl e
+  | inr d ↦ inr (d.0, d.1, (ws, d.1))
+]
+
+reaches : {A : Type 0} {r : Result A Fault} {x : A} → lists.Finds ty r x → Reaches r x
+reaches (inl e) = inl e
+reaches (inr d) = inr (d.0, d.1)
+
+-- what is deep for a type that is deep at one place alone is deep there
+abbrev only : Span → List Word → Read Written
+only at us = Err (deep at)
+
+there : {A : Type 0} (r : Result A Fault) (at : Span) → lists.IsDeep (only at) r → r ≡ Err (deep at)
+there r at d = let both : ◌≡◌ {A = Read Written} (Err (deep at)) (Err (deep d.0)) = d.2.1 in let place : d.0 ≡ at = cc in d.1 ∙ ap (λ v. Err (deep v)) place
+
+told : {A : Type 0} (r : Result A Fault) (at : Span) → r ≡ Err (deep at) → lists.IsDeep (only at) r
+told r at e = (at, e, ([], refl))
 
 -- what reads on after a word that is never deep
 past : {A B : Type 0} (kind : Word → Option A) (ws : List Word) (f : A × List Word → Result B Fault) (at : Span) → (first_as kind ws >>= f) ≡ Err (deep at) → (p : A × List Word) × (first_as kind ws ≡ Ok p) × (f p ≡ Err (deep at))
@@ -54,9 +85,9 @@ comma_shallow : (ws : List Word) (at : Span) → after_comma ws ≡ Err (deep at
 comma_shallow [] at e = cc
 comma_shallow (w ∷ ws) at e = first_shallow (as_sign Comma) (w ∷ ws) at (handed_on (sign_at Comma (w ∷ ws)) (λ p. p.1) at e)
 
-turn_deep : {A : Type 0} (item : List Word → Read A) (ws : List Word) (at : Span) → turn_at item ws ≡ Err (deep at) → item ws ≡ Err (deep at)
+turn_from : {A : Type 0} (item : List Word → Read A) (ws : List Word) (at : Span) → turn_at item ws ≡ Err (deep at) → item ws ≡ Err (deep at)
 unfolding turn_at
-turn_deep item ws at e = elim (bind_err (item ws) e) [
+turn_from item ws at e = elim (bind_err (item ws) e) [
   | inl h ↦ h
   | inr h ↦ absurd (comma_shallow h.0.1 at (handed_on (after_comma h.0.1) (λ rest. (h.0.0, rest)) at h.2))
 ]
@@ -66,27 +97,39 @@ unfolding many_at
 none_deep keep item zero at e = cc
 none_deep keep item (suc n) at e = cc
 
-module _ {A : Type 0} (item : List Word → Read A) (IsItem : List Word → A → List Word → Type 0) (Opens : List Word → Span → Type 0)
-    (item_sound : (ws : List Word) (x : A) (rest : List Word) → item ws ≡ Ok (x, rest) → IsItem ws x rest) (item_deep : (ws : List Word) (at : Span) → item ws ≡ Err (deep at) → Opens ws at) where
+-- ---- lists
+module _ {A : Type 0} (item : List Word → Read A) (IsItem : List Word → A → List Word → Type 0) (Opens : List Word → Span → Type 0) (agrees : Agrees item Opens) (shortens : Shortens item)
+    (item_sound : (ws : List Word) (x : A) (rest : List Word) → item ws ≡ Ok (x, rest) → IsItem ws x rest) (shorter : (ws rest : List Word) (x : A) → IsItem ws x rest → length rest < length ws)
+    (item_complete : (ws rest : List Word) (x : A) → IsItem ws x rest → Ends rest → lists.Finds ty (item ws) (x, rest)) (some : (ws : List Word) (at : Span) → Opens ws at → 0 < length ws) where
   list_within : (n : ℕ) (ws : List Word) (at : Span) → many_at itself (turn_at item) n ws ≡ Err (deep at) → OpensList IsItem Opens ws at
   unfolding many_at
   list_within zero ws at e = cc
   list_within (suc n) [] at e = cc
   list_within (suc n) (w ∷ ws) at e = elim (bind_err (turn_at item (w ∷ ws)) e) [
-    | inl h ↦ in_first (item_deep (w ∷ ws) at (turn_deep item (w ∷ ws) at h))
+    | inl h ↦ in_first ((agrees (w ∷ ws) at).0 (turn_from item (w ∷ ws) at h))
     | inr h ↦
         let others = handed_on (many_at itself (turn_at item) n h.0.1) (λ xs. h.0.0 ∷ xs) at h.2 in
         let t = turn_sound item (w ∷ ws) h.0.0 h.0.1 h.1 in
         elim (comma_read t.0 h.0.1 t.2) [
           | inl k ↦ absurd (none_deep itself (turn_at item) n at (subst (λ v. many_at itself (turn_at item) n v ≡ Err (deep at)) k.1 others))
-          | inr k ↦ behind (item_sound (w ∷ ws) h.0.0 _ (subst (λ v. item (w ∷ ws) ≡ Ok (h.0.0, v)) k.1 t.1)) (list_within n h.0.1 at others)
+          | inr k ↦ behind (item_sound (w ∷ ws) h.0.0 _ (subst (λ v. item (w ∷ ws) ≡ Ok (h.0.0, v)) k.1 t.1)) (read_passes agrees (w ∷ ws) (h.0.0, t.0) t.1) (list_within n h.0.1 at others)
         ]
   ]
 
-  pub list_deep : (ws : List Word) (at : Span) → list_of item ws ≡ Err (deep at) → OpensList IsItem Opens ws at
-  unfolding many_of
-  list_deep ws at e = list_within (suc (length ws)) ws at e
+  list_opens : {ws : List Word} {at : Span} → OpensList IsItem Opens ws at → list_of item ws ≡ Err (deep at)
+  list_opens (in_first {at = at} {ws = ws} o) =
+      there (list_of item ws) at (first_deep (only at) itself (turn_at item) (turn_shortens item shortens) ws (some ws at o) (turn_deep (only at) item ws (told (item ws) at ((agrees ws at).1 o))))
+  list_opens (behind {s = s} {at = at} {ws = ws} {mid = mid} {x = x} r passes o) =
+      let less = shorter ws (sign Comma s ∷ mid) x r in
+      let read = passed_reads agrees ws (x, sign Comma s ∷ mid) (reaches (item_complete ws (sign Comma s ∷ mid) x r at_comma)) passes in
+      there (list_of item ws) at
+      (more_deep (only at) itself (turn_at item) (turn_shortens item shortens) ws mid x (omega arith) (turn_finds (only at) item ws (sign Comma s ∷ mid) mid x (inl read) refl) (told (list_of item mid) at (list_opens o)))
 
+  list_agrees : Agrees (list_of item) (OpensList IsItem Opens)
+  unfolding many_of
+  list_agrees ws at = (λ e. list_within (suc (length ws)) ws at e, λ o. list_opens o)
+
+-- ---- fields
 named_deep : (ws : List Word) (at : Span) → named_field_at ty ws ≡ Err (deep at) → OpensNamed ws at
 unfolding named_field_at
 named_deep ws at e =
@@ -95,20 +138,51 @@ named_deep ws at e =
     let x = past as_name us _ at d.2 in
     let c = past (as_sign Colon) x.0.1 _ at x.2 in
     let is : us ≡ name x.0.0 ∷ sign Colon c.0.0 ∷ c.0.1 = name-is us x.0 x.1 ∙ ap (λ v. name x.0.0 ∷ v) (sign-is Colon x.0.1 c.0 c.1) in
-    in_named (attributes_sound ws d.0.0 d.0.1 d.1) (subst (λ v. IsVisibility d.0.1 v) is (visibility_sound false d.0.1)) (deep_opens most_levels c.0.1 at (handed_on (ty c.0.1) _ at c.2))
+    in_named (attributes_sound ws d.0.0 d.0.1 d.1) (subst (λ v. IsVisibility d.0.1 v) is (visibility_sound false d.0.1)) ((type_agrees most_levels c.0.1 at).0 (handed_on (ty c.0.1) _ at c.2))
+
+named_opens : {ws : List Word} {at : Span} → OpensNamed ws at → named_field_at ty ws ≡ Err (deep at)
+named_opens (in_named {x = x} {at = at} {attrs = attrs} {us = us} {vs = vs} d v o) =
+    let f : Written × List Word → Read FieldItem = λ t. Ok (field_of attrs (Some x) us t) in
+    named_head ty d v ∙ ap (λ r. r >>= f) ((type_agrees most_levels vs at).1 o)
+
+named_some : (ws : List Word) (at : Span) → OpensNamed ws at → 0 < length ws
+named_some ws at (in_named d v o) = omega (arith, attributes_no_longer d, visibility_no_longer v)
+
+list_named : Agrees (list_of (named_field_at ty)) (OpensList IsNamedField OpensNamed)
+list_named =
+    list_agrees (named_field_at ty) IsNamedField OpensNamed (λ ws at. (λ e. named_deep ws at e, λ o. named_opens o)) (named_shortens ty (type_sound most_levels)) (sound.named_sound ty (type_sound most_levels)) (λ ws rest x r. named_shorter r)
+    (complete.named_complete ty (type_sound most_levels) (type_found most_levels)) named_some
 
 unnamed_deep : (ws : List Word) (at : Span) → unnamed_field_at ty ws ≡ Err (deep at) → OpensUnnamed ws at
 unfolding unnamed_field_at
 unnamed_deep ws at e =
     let d = past_attributes ws _ at e in
     let us = after_visibility true d.0.1 in
-    in_unnamed (attributes_sound ws d.0.0 d.0.1 d.1) (visibility_sound true d.0.1) (deep_opens most_levels us at (handed_on (ty us) _ at d.2))
+    in_unnamed (attributes_sound ws d.0.0 d.0.1 d.1) (visibility_sound true d.0.1) ((type_agrees most_levels us at).0 (handed_on (ty us) _ at d.2))
 
+unnamed_opens : {ws : List Word} {at : Span} → OpensUnnamed ws at → unnamed_field_at ty ws ≡ Err (deep at)
+unnamed_opens (in_unnamed {at = at} {attrs = attrs} {us = us} {vs = vs} d v o) =
+    let f : Written × List Word → Read FieldItem = λ t. Ok (field_of attrs None us t) in
+    let b = opens_begins vs at o in
+    let passed = type_visibility v b (λ g s more is h. absurd (scope_shallow vs more at s g o is h)) in
+    unnamed_head ty d v (begins_type_alone vs b) passed ∙ ap (λ r. r >>= f) ((type_agrees most_levels vs at).1 o)
+
+unnamed_some : (ws : List Word) (at : Span) → OpensUnnamed ws at → 0 < length ws
+unnamed_some ws at (in_unnamed {vs = vs} d v o) =
+    let b = opens_begins vs at o in
+    let more : length vs ≡ suc (length b.1) = ap length b.2 in
+    omega (arith, attributes_no_longer d, visibility_no_longer v)
+
+list_unnamed : Agrees (list_of (unnamed_field_at ty)) (OpensList IsUnnamedField OpensUnnamed)
+list_unnamed =
+    list_agrees (unnamed_field_at ty) IsUnnamedField OpensUnnamed (λ ws at. (λ e. unnamed_deep ws at e, λ o. unnamed_opens o)) (unnamed_shortens ty (type_sound most_levels)) (sound.unnamed_sound ty (type_sound most_levels))
+    (λ ws rest x r. unnamed_shorter r) (complete.unnamed_complete ty (type_sound most_levels) (type_found most_levels)) unnamed_some
+
+-- ---- structs
 fields_in_deep : (b : Bracket) (inside : Trees) (s : Span) (ws : List Word) (at : Span) → fields_in ty b (words_of inside) ws ≡ Err (deep at) → OpensFields (group b inside s ∷ ws) at
-fields_in_deep Curly inside s ws at e =
-    in_named_fields (list_deep (named_field_at ty) IsNamedField OpensNamed (sound.named_sound ty (type_sound most_levels)) named_deep (words_of inside) at (handed_on (list_of (named_field_at ty) (words_of inside)) _ at e))
+fields_in_deep Curly inside s ws at e = in_named_fields ((list_named (words_of inside) at).0 (handed_on (list_of (named_field_at ty) (words_of inside)) _ at e))
 fields_in_deep Round inside s ws at e = elim (bind_err (list_of (unnamed_field_at ty) (words_of inside)) e) [
-  | inl h ↦ in_unnamed_fields (list_deep (unnamed_field_at ty) IsUnnamedField OpensUnnamed (sound.unnamed_sound ty (type_sound most_levels)) unnamed_deep (words_of inside) at h)
+  | inl h ↦ in_unnamed_fields ((list_unnamed (words_of inside) at).0 h)
   | inr h ↦ absurd (first_shallow (as_sign Semicolon) ws at (handed_on (sign_at Semicolon ws) _ at h.2))
 ]
 fields_in_deep Square inside s ws at e = cc
@@ -131,40 +205,75 @@ fields_deep (literal t ∷ ws) at e = unit_deep (literal t ∷ ws) at e
 fields_deep (doc t ∷ ws) at e = unit_deep (doc t ∷ ws) at e
 fields_deep (group b inside s ∷ ws) at e = fields_in_deep b inside s ws at e
 
-struct_deep : (ws us : List Word) (attrs : List AttributeItem) (start : List Word) (at : Span) → IsAttributes ws attrs start → IsVisibility start us → struct_at ty attrs start us ≡ Err (deep at) → OpensItems ws at
+fields_open : {ws : List Word} {at : Span} → OpensFields ws at → fields_at ty ws ≡ Err (deep at)
+unfolding fields_at
+fields_open (in_named_fields {inside = inside} {at = at} {rest = rest} o) =
+    let f : List FieldItem → Read FieldItems = λ fs. Ok (named fs, rest) in
+    ap (λ r. r >>= f) ((list_named (words_of inside) at).1 o)
+fields_open (in_unnamed_fields {inside = inside} {at = at} {rest = rest} o) =
+    let f : List FieldItem → Read FieldItems = λ fs. sign_at Semicolon rest >>= λ end. Ok (unnamed fs, end.1) in
+    ap (λ r. r >>= f) ((list_unnamed (words_of inside) at).1 o)
+
+struct_deep : (ws us : List Word) (attrs : List AttributeItem) (start : List Word) (at : Span) → IsAttributes ws attrs start → IsVisibility start us → struct_at ty attrs start us ≡ Err (deep at) → OpensStruct ws at
 unfolding struct_at
 struct_deep ws us attrs start at ds v e =
     let k = past (as_keyword Struct) us _ at e in
     let x = past as_name k.0.1 _ at k.2 in
     let word = keyword-is Struct us k.0 k.1 in
     let is : us ≡ keyword Struct word.0 ∷ name x.0.0 ∷ x.0.1 = word.1 ∙ ap (λ v. keyword Struct word.0 ∷ v) (name-is k.0.1 x.0 x.1) in
-    in_struct ds (subst (λ v. IsVisibility start v) is v) (fields_deep x.0.1 at (handed_on (fields_at ty x.0.1) _ at x.2))
+    in_fields ds (subst (λ v. IsVisibility start v) is v) (fields_deep x.0.1 at (handed_on (fields_at ty x.0.1) _ at x.2))
 
 left_shallow : (r : Option (List Word)) (at : Span) → left_by r ≡ Err (deep at) → ⊥
 left_shallow None at e = cc
 left_shallow (Some rest) at e = cc
 
-item_from_deep : (ws start us : List Word) (attrs : List AttributeItem) (at : Span) (r : Read Span) → IsAttributes ws attrs start → IsVisibility start us → use_or_struct ty attrs start us r ≡ Err (deep at) → OpensItems ws at
+item_from_deep : (ws start us : List Word) (attrs : List AttributeItem) (at : Span) (r : Read Span) → IsAttributes ws attrs start → IsVisibility start us → use_or_struct ty attrs start us r ≡ Err (deep at) → OpensStruct ws at
 item_from_deep ws start us attrs at (Ok u) ds v e = absurd (left_shallow (after_semicolon u.1) at e)
 item_from_deep ws start us attrs at (Err f) ds v e = struct_deep ws us attrs start at ds v (handed_on (struct_at ty attrs start us) _ at e)
 
-item_deep : (ws : List Word) (at : Span) → item_at ty ws ≡ Err (deep at) → OpensItems ws at
+item_deep : (ws : List Word) (at : Span) → item_at ty ws ≡ Err (deep at) → OpensStruct ws at
 unfolding item_at
 item_deep ws at e = let d = past_attributes ws _ at e in let us = after_visibility false d.0.1 in item_from_deep ws d.0.1 us d.0.0 at (keyword_at Use us) (attributes_sound ws d.0.0 d.0.1 d.1) (visibility_sound false d.0.1) d.2
 
-more_deep : (ws rest : List Word) (o : Option DeclaredItem) (at : Span) → ItemRead ws o rest → OpensItems rest at → OpensItems ws at
-more_deep ws rest None at r h = behind_use r h
-more_deep ws rest (Some d) at r h = behind_struct r h
+struct_opens : {ws : List Word} {at : Span} → OpensStruct ws at → item_at ty ws ≡ Err (deep at)
+struct_opens (in_fields {y = y} {at = at} {attrs = attrs} {us = us} {vs = vs} d v o) =
+    let f : FieldItems × List Word → Read DeclaredItem = λ fs. Ok (declared_of attrs y us fs) in
+    let g : DeclaredItem × List Word → Read (Option DeclaredItem) = λ d. Ok (Some d.0, d.1) in
+    struct_head ty d v ∙ ap (λ r. r >>= f >>= g) (fields_open o)
+
+item_agrees : Agrees (item_at ty) OpensStruct
+item_agrees ws at = (λ e. item_deep ws at e, λ o. struct_opens o)
+
+-- ---- items
+behind_item : (ws rest : List Word) (o : Option DeclaredItem) (at : Span) → item_at ty ws ≡ Ok (o, rest) → ItemRead ws o rest → OpensItems rest at → OpensItems ws at
+behind_item ws rest None at e r h = behind_use r h
+behind_item ws rest (Some d) at e r h = behind_struct r (read_passes item_agrees ws (Some d, rest) e) h
 
 items_within : (n : ℕ) (ws : List Word) (at : Span) → many_at kept (item_at ty) n ws ≡ Err (deep at) → OpensItems ws at
 unfolding many_at
 items_within zero ws at e = cc
 items_within (suc n) [] at e = cc
 items_within (suc n) (w ∷ ws) at e = elim (bind_err (item_at ty (w ∷ ws)) e) [
-  | inl h ↦ item_deep (w ∷ ws) at h
-  | inr h ↦ more_deep (w ∷ ws) h.0.1 h.0.0 at (sound.item_sound ty (type_sound most_levels) (w ∷ ws) h.0.0 h.0.1 h.1)
+  | inl h ↦ in_struct (item_deep (w ∷ ws) at h)
+  | inr h ↦ behind_item (w ∷ ws) h.0.1 h.0.0 at h.1 (sound.item_sound ty (type_sound most_levels) (w ∷ ws) h.0.0 h.0.1 h.1)
       (items_within n h.0.1 at (handed_on (many_at kept (item_at ty) n h.0.1) (λ xs. kept h.0.0 ++ xs) at h.2))
 ]
+
+struct_some : {ws : List Word} {at : Span} → OpensStruct ws at → 0 < length ws
+struct_some (in_fields d v o) = omega (arith, attributes_no_longer d, visibility_no_longer v)
+
+items_open : {ws : List Word} {at : Span} → OpensItems ws at → items_at ty ws ≡ Err (deep at)
+items_open (in_struct {at = at} {ws = ws} o) = there (items_at ty ws) at (first_deep (only at) kept (item_at ty) (item_shortens ty (type_sound most_levels)) ws (struct_some o) (told (item_at ty ws) at (struct_opens o)))
+items_open (behind_use {at = at} {ws = ws} {rest = rest} r o) =
+    there (items_at ty ws) at (more_deep (only at) kept (item_at ty) (item_shortens ty (type_sound most_levels)) ws rest None (use_shorter r) (inl (use_head ty r)) (told (items_at ty rest) at (items_open o)))
+items_open (behind_struct {at = at} {ws = ws} {rest = rest} {d = d} r passes o) =
+    let read = passed_reads item_agrees ws (Some d, rest) (reaches (complete.struct_complete ty (type_sound most_levels) (type_found most_levels) r)) passes in
+    there (items_at ty ws) at (more_deep (only at) kept (item_at ty) (item_shortens ty (type_sound most_levels)) ws rest (Some d) (struct_shorter r) (inl read) (told (items_at ty rest) at (items_open o)))
+
+opens_no_inner : {ws : List Word} {at : Span} → OpensItems ws at → NoInner ws
+opens_no_inner (in_struct (in_fields d v o)) = attributes_no_inner d (visibility_no_inner v refl)
+opens_no_inner (behind_use (use_line d v e) o) = attributes_no_inner d (visibility_no_inner v refl)
+opens_no_inner (behind_struct (struct_item d v r) passes o) = attributes_no_inner d (visibility_no_inner v refl)
 
 -- ---- a source
 inner_doc_from : (w : Word) (ws : List Word) (at : Span) → is_inner_doc w ≡ true → OpensSource ws at → OpensSource (w ∷ ws) at
@@ -205,6 +314,15 @@ unfolding after_inner_within
 inner_within_opens zero ws at h = h
 inner_within_opens (suc n) ws at h = inner_from_opens (after_inner_within n) ws at (inner_at ws) refl (λ us r. inner_within_opens n us at r) h
 
-pub source_deep : (ws : List Word) (at : Span) → source_at ty ws ≡ Err (deep at) → OpensSource ws at
+source_deep : (ws : List Word) (at : Span) → source_at ty ws ≡ Err (deep at) → OpensSource ws at
 unfolding source_at many_of after_inner
 source_deep ws at e = inner_within_opens (length ws) ws at (in_items (items_within _ (after_inner_within (length ws) ws) at e))
+
+source_opens : {ws : List Word} {at : Span} → OpensSource ws at → source_at ty ws ≡ Err (deep at)
+unfolding source_at
+source_opens (behind_inner_doc {t = t} {ws = ws} e r) = ap (items_at ty) (inner_step (doc t ∷ ws) ws (inner_doc_at t ws e)) ∙ source_opens r
+source_opens (behind_inner_attribute {h = h} {e = e} {s = s} {inside = inside} {ws = ws} r) = ap (items_at ty) (inner_step (sign Hash h ∷ sign Exclamation e ∷ group Square inside s ∷ ws) ws refl) ∙ source_opens r
+source_opens (in_items {ws = ws} r) = ap (items_at ty) (inner_stop ws (opens_no_inner r)) ∙ items_open r
+
+pub source_agrees : Agrees (source_at ty) OpensSource
+source_agrees ws at = (λ e. source_deep ws at e, λ o. source_opens o)

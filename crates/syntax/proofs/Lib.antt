@@ -3,8 +3,8 @@ mod Inner
 mod Types
 mod Fronts
 mod Sound
-mod Deep
 mod Complete
+mod Deep
 mod Answered
 mod TypeText
 mod Named

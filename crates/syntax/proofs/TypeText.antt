@@ -4,7 +4,7 @@ use Rattle.texts.specs.declared.span.Span.{Span}
 use Rattle.diag.specs.declared.error.DeriveError.{DeriveError}
 use Rattle.diag.specs.declared.error.DeriveError.TheVariants as errors
 use Rattle.tokens.specs.Trees.{Trees, depth}
-use Rattle.lexing.specs.Cut.{IsCut, OpensTooDeep, IsDepthError, IsSyntaxError}
+use Rattle.lexing.specs.Cut.{IsCut, OpensTooDeep, IsDepthError, IsSyntaxError, most_open}
 use Rattle.written_types.specs.Written.{Written}
 use Rattle.words.specs.declared.stopping.Stop.{Stop}
 use Rattle.words.specs.declared.stopping.Stop.TheVariants as stop
@@ -28,7 +28,7 @@ one_type unique text t u r s = (type_one (subst (λ v. IsType (words_of v) t [])
 
 pub type_shallow : OneCut → DeepNest → (text : List ℕ) (ts : Trees) (at : Span) → IsCut text ts → depth ts ≤ 64 → ((at : Span) → OpensType 64 (words_of ts) at → ⊥) → TypeNestsTooDeep text at → ⊥
 type_shallow unique deeper text ts at cut low none (inl o) = let h = deeper text ts at cut o in absurd (omega arith)
-type_shallow unique deeper text ts at cut low none (inr h) = none at (subst (λ v. OpensType most_levels (words_of v) at) (unique text h.0 ts h.1 cut) h.2)
+type_shallow unique deeper text ts at cut low none (inr h) = none at (subst (λ v. OpensType most_levels (words_of v) at) (unique text h.0 ts h.1 cut) h.3)
 
 -- where the text has no trees, it is no type
 pub type_passed_on : (text : List ℕ) (e : DeriveError) → (e ≡ errors.Memory) ⊎ IsDepthError text e ⊎ IsSyntaxError text e → (e ≡ errors.Memory) ⊎ IsDeepType text e ⊎ IsNoType text e
@@ -36,7 +36,7 @@ type_passed_on text e (inl h) = inl h
 type_passed_on text e (inr (inl h)) = inr (inl (h.0, h.1, inl h.2))
 type_passed_on text e (inr (inr h)) = inr (inr (h.0, h.1, h.2.0, λ t r. h.2.1 r.0 r.1))
 
-module _ (unique : OneCut) (text : List ℕ) (ts : Trees) (cut : IsCut text ts) where
+module _ (unique : OneCut) (text : List ℕ) (ts : Trees) (cut : IsCut text ts) (low : depth ts ≤ most_open) where
   no_type : ((t : Written) → IsType (words_of ts) t [] → ⊥) → (t : Written) → ReadsType text t → ⊥
   no_type none t r = none t (subst (λ v. IsType (words_of v) t []) (unique text r.0 ts r.1 cut) r.2)
 
@@ -48,4 +48,4 @@ module _ (unique : OneCut) (text : List ℕ) (ts : Trees) (cut : IsCut text ts) 
   type_unread (stop.Unexpected at) e deep wrong (inl h) = inl h
   type_unread (stop.Unexpected at) e deep wrong (inr h) = inr (inr (h.0, h.1, h.2, no_type (wrong tt)))
   type_unread (stop.Deep at) e deep wrong (inl h) = inl h
-  type_unread (stop.Deep at) e deep wrong (inr h) = inr (inl (at, h, inr (ts, cut, deep at refl)))
+  type_unread (stop.Deep at) e deep wrong (inr h) = inr (inl (at, h, inr (ts, cut, low, deep at refl)))

@@ -47,14 +47,11 @@ group_alone (sliced r) e = cc
 group_alone (arrayed r) e = cc
 group_alone (object l q p b) e = cc
 
-pub deep_opens : (n : ℕ) (ws : List Word) (at : Span) → type_at n ws ≡ Err (deep at) → OpensType n ws at
-deep_opens n ws at e = opening.deep_type n Any ws at e
+pub type_agrees : (n : ℕ) → opening.Agrees (type_at n) (OpensType n)
+type_agrees n = opening.type_agrees n Any
 
-pub opens_deep : {n : ℕ} {ws : List Word} {at : Span} → OpensType n ws at → (found : Span) × (type_at n ws ≡ Err (deep found))
-opens_deep o = opening.opens_type o
-
-pub opens_begins : {n : ℕ} {ws : List Word} {at : Span} → OpensType n ws at → Begins ws
-opens_begins o = opening.opens_begins o
+pub opens_begins : (ws : List Word) (at : Span) → OpensType most_levels ws at → Begins ws
+opens_begins ws at o = opening.opens_begins most_levels Any ws at o
 
 -- the group that restricts `pub` is no deep type
 abbrev with_rest : List Word → Written → Read Written
@@ -79,12 +76,12 @@ scope_read (literal t ∷ us) s more at r e = cc
 scope_read (doc t ∷ us) s more at r e = cc
 scope_read (group b g a ∷ us) s more at r e = cc
 
-pub scope_shallow : {ws more : List Word} {at s : Span} {g : Trees} → OpensType most_levels ws at → ws ≡ group Round g s ∷ more → is_restriction (words_of g) ≡ true → ⊥
+pub scope_shallow : (ws more : List Word) (at s : Span) (g : Trees) → OpensType most_levels ws at → ws ≡ group Round g s ∷ more → is_restriction (words_of g) ≡ true → ⊥
 unfolding type_in type_step
-scope_shallow {ws = ws} {more = more} {s = s} {g = g} o e h = let d = opens_deep o in scope_read (words_of g) s more d.0 h (ap (type_at 64) (sym e) ∙ d.1)
+scope_shallow ws more at s g o e h = scope_read (words_of g) s more at h (ap (type_at 64) (sym e) ∙ (type_agrees most_levels ws at).1 o)
 
 -- with enough levels, nothing is too deep
 pub deep_enough : (ws : List Word) → (n : ℕ) × ((at : Span) → type_at n ws ≡ Err (deep at) → ⊥)
 deep_enough ws =
     let n = measures.total unique.inside ws in
-    (n, λ at e. let less : n < n = unique.opens_light (deep_opens n ws at e) in absurd (omega arith))
+    (n, λ at e. let less : n < n = unique.opens_light n Any ws at ((type_agrees n ws at).0 e) in absurd (omega arith))

@@ -1,4 +1,4 @@
--- Where types of items nest too deep. Read from the left by the grammar, a part of a type begins at level 65, at the span.
+-- Where types of items nest too deep. Read from the left by the grammar, the first part of a type that begins at level 65 begins at the span.
 use Rattle.std.specs.Prelude.{◌≡◌, ℕ, List, ◌∷◌, true}
 use Rattle.texts.specs.declared.span.Span.{Span}
 use Rattle.tokens.specs.declared.token.Token.{Token}
@@ -6,9 +6,9 @@ use Rattle.tokens.specs.declared.token.Bracket.TheVariants.{Round, Square, Curly
 use Rattle.tokens.specs.Trees.{Trees}
 use Rattle.written_types.specs.declared.written.Ident.{Ident}
 use Rattle.words.specs.declared.vocabulary.Keyword.TheVariants.{Struct}
-use Rattle.words.specs.declared.vocabulary.Sign.TheVariants.{Colon, Comma, Hash, Exclamation}
+use Rattle.words.specs.declared.vocabulary.Sign.TheVariants.{Colon, Hash, Exclamation}
 use Rattle.words.specs.Words.{Word, name, keyword, sign, doc, group, words_of}
-use Rattle.type_grammar.specs.Opening.{OpensType}
+use Rattle.type_grammar.specs.Opening.{Passes, OpensList, OpensType}
 use Rattle.attributes.specs.Attributes.{AttributeItem}
 use Rattle.attributes.specs.AttributeWords.{is_inner_text}
 use Rattle.attributes.specs.AttributeGrammar.{IsAttributes}
@@ -25,21 +25,20 @@ pub data OpensNamed : List Word → Span → Type 0 where
 pub data OpensUnnamed : List Word → Span → Type 0 where
   in_unnamed : {at : Span} {attrs : List AttributeItem} {ws us vs : List Word} → IsAttributes ws attrs us → IsVisibility us vs → OpensType most_levels vs at → OpensUnnamed ws at
 
--- in a list: in its first item, or in those behind it
-pub data OpensList {A : Type 0} (IsItem : List Word → A → List Word → Type 0) (Opens : List Word → Span → Type 0) : List Word → Span → Type 0 where
-  in_first : {at : Span} {ws : List Word} → Opens ws at → OpensList IsItem Opens ws at
-  behind : {s at : Span} {ws mid : List Word} {x : A} → IsItem ws x (sign Comma s ∷ mid) → OpensList IsItem Opens mid at → OpensList IsItem Opens ws at
-
 -- in what follows the name of a struct
 pub data OpensFields : List Word → Span → Type 0 where
   in_named_fields : {inside : Trees} {s at : Span} {rest : List Word} → OpensList IsNamedField OpensNamed (words_of inside) at → OpensFields (group Curly inside s ∷ rest) at
   in_unnamed_fields : {inside : Trees} {s at : Span} {rest : List Word} → OpensList IsUnnamedField OpensUnnamed (words_of inside) at → OpensFields (group Round inside s ∷ rest) at
 
--- in items
+-- in a struct
+pub data OpensStruct : List Word → Span → Type 0 where
+  in_fields : {x y : Ident} {at : Span} {attrs : List AttributeItem} {ws us vs : List Word} → IsAttributes ws attrs us → IsVisibility us (keyword Struct x ∷ name y ∷ vs) → OpensFields vs at → OpensStruct ws at
+
+-- in items: in their first struct, or where nothing opens there, in those behind it
 pub data OpensItems : List Word → Span → Type 0 where
-  in_struct : {x y : Ident} {at : Span} {attrs : List AttributeItem} {ws us vs : List Word} → IsAttributes ws attrs us → IsVisibility us (keyword Struct x ∷ name y ∷ vs) → OpensFields vs at → OpensItems ws at
+  in_struct : {at : Span} {ws : List Word} → OpensStruct ws at → OpensItems ws at
   behind_use : {at : Span} {ws rest : List Word} → IsUse ws rest → OpensItems rest at → OpensItems ws at
-  behind_struct : {at : Span} {ws rest : List Word} {d : DeclaredItem} → IsStruct ws d rest → OpensItems rest at → OpensItems ws at
+  behind_struct : {at : Span} {ws rest : List Word} {d : DeclaredItem} → IsStruct ws d rest → Passes OpensStruct ws → OpensItems rest at → OpensItems ws at
 
 -- in a source
 pub data OpensSource : List Word → Span → Type 0 where

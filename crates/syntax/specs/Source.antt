@@ -3,9 +3,9 @@ use Rattle.std.specs.Prelude.{ℕ, ◌≤◌, ◌⊎◌, List, [], length}
 use Rattle.diag.specs.Refusal.{IsSyntaxRefusal, IsDepthRefusal}
 use Rattle.diag.specs.declared.error.DeriveError.{DeriveError}
 use Rattle.texts.specs.declared.span.Span.{Span}
-use Rattle.tokens.specs.Trees.{Trees}
+use Rattle.tokens.specs.Trees.{Trees, depth}
 use Rattle.words.specs.Words.{words_of}
-use Rattle.lexing.specs.Cut.{IsCut, OpensTooDeep}
+use Rattle.lexing.specs.Cut.{IsCut, OpensTooDeep, most_open}
 use Rattle.syntax.specs.Items.{DeclaredItem}
 use Rattle.syntax.specs.ItemGrammar.{IsSource}
 use Rattle.syntax.specs.ItemDepth.{most_levels, OpensSource}
@@ -17,9 +17,9 @@ use Rattle.type_grammar.specs.Opening.{OpensType}
 abbrev pub Reads : List ℕ → List DeclaredItem → Type 0
 Reads source ds = (trees : Trees) × IsCut source trees × IsSource (words_of trees) ds
 
--- brackets or types nest deeper than 64 levels at the span
+-- brackets nest deeper than 64 levels, or else types do, and the first that is too deep begins at the span
 abbrev pub NestsTooDeep : List ℕ → Span → Type 0
-NestsTooDeep source span = OpensTooDeep source span ⊎ ((trees : Trees) × IsCut source trees × OpensSource (words_of trees) span)
+NestsTooDeep source span = OpensTooDeep source span ⊎ ((trees : Trees) × IsCut source trees × (depth trees ≤ most_open) × OpensSource (words_of trees) span)
 
 -- the error refuses a source that has no reading, at a span of it
 abbrev pub IsUnreadable : List ℕ → DeriveError → Type 0
@@ -33,9 +33,9 @@ IsTooDeep source e = (span : Span) × IsDepthRefusal span e × NestsTooDeep sour
 abbrev pub ReadsType : List ℕ → Written → Type 0
 ReadsType text t = (trees : Trees) × IsCut text trees × IsType (words_of trees) t []
 
--- brackets or parts of the type nest deeper than 64 levels at the span
+-- brackets nest deeper than 64 levels, or else parts of the type do, and the first that is too deep begins at the span
 abbrev pub TypeNestsTooDeep : List ℕ → Span → Type 0
-TypeNestsTooDeep text span = OpensTooDeep text span ⊎ ((trees : Trees) × IsCut text trees × OpensType most_levels (words_of trees) span)
+TypeNestsTooDeep text span = OpensTooDeep text span ⊎ ((trees : Trees) × IsCut text trees × (depth trees ≤ most_open) × OpensType most_levels (words_of trees) span)
 
 -- the error refuses a text that is no type, at a span of it
 abbrev pub IsNoType : List ℕ → DeriveError → Type 0

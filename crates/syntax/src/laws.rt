@@ -1,7 +1,11 @@
 //! Laws of the definitions that contracts cite.
 
 ghost use Rattle.std.specs.Prelude.{◌≡◌, ℕ, List};
+ghost use Rattle.texts.specs.declared.span.Span.{Span};
+ghost use Rattle.words.specs.Words.{Word};
+ghost use Rattle.type_grammar.specs.Opening.{OpensType};
 ghost use Rattle.syntax.specs.Items.{DeclaredItem};
+ghost use Rattle.syntax.specs.ItemDepth.{most_levels, OpensSource};
 ghost use Rattle.syntax.specs.Named.{ReadFieldsAreNamed};
 ghost use Rattle.syntax.specs.Source.{Reads, ReadsType};
 ghost use Rattle.written_types.specs.Written.{Written};
@@ -27,3 +31,10 @@ pub fn one_type_reading()
 {
     one_cut();
 }
+
+/// Types nest too deep at one place at most, in a source and in a type.
+pub fn one_deep_place()
+    ensures sources { (ws : List Word) (a b : Span) → OpensSource ws a → OpensSource ws b → a ≡ b }
+    ensures types { (ws : List Word) (a b : Span) → OpensType most_levels ws a
+        → OpensType most_levels ws b → a ≡ b }
+{}

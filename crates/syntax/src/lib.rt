@@ -24,7 +24,7 @@ mod scope;
 
 pub use attributes::{Attribute, CommentAttributes, Meta};
 pub use item::{Body, Declaration, Declarations, Field, Fields};
-pub use laws::{one_reading, one_type_reading, read_fields_are_named};
+pub use laws::{one_deep_place, one_reading, one_type_reading, read_fields_are_named};
 pub use lexing::{lex, one_cut};
 pub use literal_values::{LiteralValue, literal_value};
 pub use parse::{parse_declarations, parse_type};

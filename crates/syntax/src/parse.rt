@@ -65,8 +65,8 @@ fn source_of(alloc: Global, trees: &[TokenTree]) -> Result<List<Declaration>, St
 ///
 /// A refusal of kind `Syntax` has a span of the source: where it cannot be cut, as `lex` says; or that of the token or
 /// opening bracket that reading could not go on with, of the closing bracket of a group that ended too soon, or of the
-/// end of the source. One of kind `TooDeep` has the span of a bracket that opens inside 64 others, or of the first token
-/// of a part of a type that begins 64 levels further in.
+/// end of the source. One of kind `TooDeep` has the span of the first bracket that opens inside 64 others or, where there
+/// is none, of the first token of the first part of a type that begins 64 levels further in.
 pub fn parse_declarations(alloc: Global, source: &str) -> Result<Declarations, DeriveError>
     ensures found { IfOk result (λ ds. Reads source.now (declarations_view ds)) }
     ensures shallow { IfOk result (λ _. (span : Span) → ¬ (NestsTooDeep source.now span)) }

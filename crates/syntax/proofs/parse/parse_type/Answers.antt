@@ -26,8 +26,9 @@ returns-in-Ok-clause-shallow c = λ span nests.
 pub returns-clause-refused : goal.returns-clause-refused
 returns-clause-refused c =
     let cut = subst (λ v. IsCut c.args.text.now (trees_view v)) (sym c.as_slice.ensures) c.in_ok-trees.ensures.found in
+    let low = subst (λ v. depth (trees_view v) ≤ 64) (sym c.as_slice.ensures) c.in_ok-trees.ensures.shallow in
     let err : Stop → Result WrittenType Stop = λ s. Err s in
-    type_unread c.one_cut.ensures c.args.text.now (trees_view c.as_slice.result.now) cut c.in-Err.stop c.refusal.result
+    type_unread c.one_cut.ensures c.args.text.now (trees_view c.as_slice.result.now) cut low c.in-Err.stop c.refusal.result
     (λ at is. c.in-Err.ensures.deep at (ap err is))
     (λ wrong. c.in-Err.ensures.wrong c.in-Err.stop refl wrong)
     c.refusal.ensures
