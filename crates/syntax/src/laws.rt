@@ -2,15 +2,12 @@
 
 ghost use Rattle.std.specs.Prelude.{◌≡◌, ℕ, List};
 ghost use Rattle.texts.specs.declared.span.Span.{Span};
-ghost use Rattle.words.specs.Words.{Word};
-ghost use Rattle.type_grammar.specs.Opening.{OpensType};
 ghost use Rattle.syntax.specs.Items.{DeclaredItem};
-ghost use Rattle.syntax.specs.ItemDepth.{most_levels, OpensSource};
 ghost use Rattle.syntax.specs.Named.{ReadFieldsAreNamed};
-ghost use Rattle.syntax.specs.Source.{Reads, ReadsType};
+ghost use Rattle.syntax.specs.Source.{Reads, ReadsType, NestsTooDeep, TypeNestsTooDeep};
 ghost use Rattle.written_types.specs.Written.{Written};
 
-use lexing::one_cut;
+use lexing::{deep_brackets_nest_deep, one_cut, one_deep_bracket};
 
 /// A source reads as at most one list of declarations.
 pub fn one_reading()
@@ -32,9 +29,14 @@ pub fn one_type_reading()
     one_cut();
 }
 
-/// Types nest too deep at one place at most, in a source and in a type.
+/// A source, and the text of a type, nests too deep at one place at most: the first that does.
 pub fn one_deep_place()
-    ensures sources { (ws : List Word) (a b : Span) → OpensSource ws a → OpensSource ws b → a ≡ b }
-    ensures types { (ws : List Word) (a b : Span) → OpensType most_levels ws a
-        → OpensType most_levels ws b → a ≡ b }
-{}
+    ensures sources { (source : List ℕ) (here there : Span) → NestsTooDeep source here
+        → NestsTooDeep source there → here ≡ there }
+    ensures types { (text : List ℕ) (here there : Span) → TypeNestsTooDeep text here
+        → TypeNestsTooDeep text there → here ≡ there }
+{
+    one_cut();
+    one_deep_bracket();
+    deep_brackets_nest_deep();
+}
