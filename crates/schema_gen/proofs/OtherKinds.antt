@@ -1,5 +1,5 @@
 -- Refusals of a source have another kind than those of a configuration.
-use Rattle.std.proofs.Common.{◌≡◌, ◌∙◌, ◌⊎◌, ℕ, List, [], ◌∷◌, inl, inr, sym, subst, codes, Option, Some, None, Result, Ok, Err, IsSomeAnd, Any}
+use Rattle.std.proofs.Common.{◌≡◌, ◌∙◌, ◌⊎◌, ℕ, List, [], ◌∷◌, inl, inr, sym, subst, codes, Option, Some, None, Result, Ok, Err, IsSomeAnd}
 use Rattle.diag.specs.Diagnostics.{HasFirst, diagnostic}
 use Rattle.diag.specs.Refusal.{IsRefusal}
 use Rattle.texts.specs.Span.{no_span}
@@ -16,7 +16,7 @@ use Rattle.attributes.specs.declared.serde_item.SerdeItem.{SerdeItem}
 use Rattle.attributes.specs.declared.serde_item.SerdeText.{SerdeText}
 use Rattle.serde_rules.specs.declared.enum_repr.SerdeEnumRepr.{SerdeEnumRepr}
 use Rattle.serde_rules.specs.Items.{literal_for}
-use Rattle.serde_rules.specs.Container.{TagFault, representation, rule_named, unknown_rule, IsTagRefusal, IsRuleRefusal, IsContainerRefusal}
+use Rattle.serde_rules.specs.Container.{TagFault, with_item, rule_named, unknown_rule, IsTagRefusal, IsContainerRefusal}
 use Rattle.written_types.specs.declared.written.Ident.{Ident}
 use Rattle.syntax.specs.Items.{FieldItem, named, unnamed, unit, BodyItem, struct_body, DeclaredItem}
 use Rattle.scopes.specs.Names.{IsGivenTwice}
@@ -79,12 +79,9 @@ module _ (ds : List DiangosticsInner) (first : HasFirst ds (λ d. d.kind ≡ Bad
   ruled None h = absurd h
   ruled (Some literal) h = other BadValue _ _ (λ e. cc) h.1
 
-  none_of : {A : Type 0} (P : A → Type 0) (xs : List A) → ((x : A) → P x → ⊥) → Any P xs → ⊥
-  none_of P xs none h = none h.1 h.4
-
   disallowed : (items : List SerdeItem) → IsContainerRefusal items (Refused ds) → ⊥
-  disallowed items (inl h) = tagged (representation items) h
-  disallowed items (inr h) = none_of (λ item. IsRuleRefusal item (Refused ds)) items (λ item. ruled (literal_for (codes "rename_all") item)) h
+  disallowed items (before, item, behind, whole, so_far, are, inl tag) = tagged (with_item item so_far.enum_repr) tag
+  disallowed items (before, item, behind, whole, so_far, are, inr rule) = ruled (literal_for (codes "rename_all") item) rule
 
   typed : (around : Around) (f : FieldItem) → IsFaultyType around f (Refused ds) → ⊥
   typed around f (fault, found, is) = other_for fault is

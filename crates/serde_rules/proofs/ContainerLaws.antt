@@ -1,17 +1,20 @@
 -- What items say of a struct or an enum, with one item more.
-use Rattle.std.proofs.Common.{◌≡◌, ◌≢◌, ◌<◌, ℕ, zero, suc, arith, IsSomeAnd, option_map, List, [], ◌∷◌, ◌++◌, length, take, drop, get_or, Bool, true, false, ◌||◌, cond, Option, Some, None, IsSome, is_some, MatchOption, Result, Ok, Err, refl, ap, sym, subst, ◌∙◌, ◌⊎◌, inl, inr, codes, fold, find, bytes_eq, map, append_assoc}
+use Rattle.std.proofs.Common.{◌≡◌, ◌≢◌, ◌<◌, ℕ, suc, IsSomeAnd, option_map, List, [], ◌∷◌, ◌++◌, length, take, drop, get_or, Bool, true, false, ◌||◌, cond, Option, Some, None, IsSome, is_some, MatchOption, Result, Ok, Err, refl, ap, sym, subst, ◌∙◌, ◌&&◌, ◌⊎◌, inl, inr, codes, fold, find, bytes_eq, map, append-nil, append_assoc}
 use Rattle.std.proofs.lemmas.Bool.{and_parts, and_from, false_from_ne_true}
-use Rattle.std.specs.List.{list_all, Any}
+use Rattle.std.specs.List.{list_all}
 use Rattle.std.specs.Option.{option_or, option_and_then, option_map_or}
 use Rattle.std.proofs.Common.{drop-cons}
 use Rattle.std.proofs.lemmas.List.{take-append-drop, map-append}
-use Rattle.std.proofs.lemmas.List.Quantifiers.{Any-push}
+use Rattle.std.proofs.lemmas.List.Folds.{list_all-append}
 use Rattle.std.proofs.lemmas.List.Sums.{fold-append}
 use Rattle.std.proofs.lemmas.Slice.Eq.{bytes_eq-Decides}
-use Rattle.diag.specs.Refusal.{IsRefusal}
-use Rattle.diag.specs.declared.kind.Kind.TheVariants.{BadValue}
+use Rattle.diag.specs.Diagnostics.{diagnostic}
+use Rattle.diag.specs.Refusal.{IsErrorFor, IsRefusal}
+use Rattle.diag.specs.declared.kind.Kind.{Kind}
+use Rattle.diag.specs.declared.kind.Kind.TheVariants.{BadValue, SerdeTag}
 use Rattle.diag.specs.declared.error.DeriveError.{DeriveError}
-use Rattle.diag.specs.declared.error.DeriveError.TheVariants.{Memory}
+use Rattle.diag.specs.declared.error.DeriveError.TheVariants.{Refused, Memory}
+use Rattle.texts.specs.declared.span.Span.{Span}
 use Rattle.attributes.specs.Attributes.{attribute_view, serde_items}
 use Rattle.attributes.specs.declared.attribute.Attribute.{Attribute}
 use Rattle.attributes.specs.declared.serde_item.SerdeItem.{SerdeItem}
@@ -23,9 +26,9 @@ use Rattle.diag.specs.declared.rename_rule.RenameRule.{RenameRule}
 use Rattle.diag.specs.declared.rename_rule.RenameRule.TheVariants.{Lower, Upper, Pascal, Camel, Snake, ScreamingSnake, Kebab, ScreamingKebab}
 use Rattle.serde_rules.specs.declared.container.SerdeContainer.{SerdeContainer}
 use Rattle.serde_rules.specs.declared.enum_repr.SerdeEnumRepr.{SerdeEnumRepr}
-use Rattle.serde_rules.specs.declared.enum_repr.SerdeEnumRepr.TheVariants.{ExternallyTagged}
+use Rattle.serde_rules.specs.declared.enum_repr.SerdeEnumRepr.TheVariants.{ExternallyTagged, Untagged}
 use Rattle.serde_rules.specs.Items.{is_named, literal_for, text_for, last_text}
-use Rattle.serde_rules.specs.Container.{TagFault, with_item, further, representation, all_rules, rule_named, unknown_rule, names_known_rule, AreContainerRules, IsTagRefusal, IsRuleRefusal, IsContainerRefusal}
+use Rattle.serde_rules.specs.Container.{TagFault, with_literals, with_item, further, representation, all_rules, rule_named, unknown_rule, names_known_rule, AreContainerRules, IsTagRefusal, IsRuleRefusal, IsItemRefusal, IsContainerRefusal}
 use Rattle.serde_rules.proofs.ItemLaws.{any_more, all_more, last_more, items_joined}
 
 -- ---- rename rules
@@ -104,43 +107,20 @@ rules_more so_far rules before item next is = record {
 
 -- ---- refusals
 
-stays : (why : TagFault) (after : List SerdeItem) → fold further (Err why) after ≡ Err why
-stays why [] = refl
-stays why (item ∷ after) = stays why after
-
-refused_on : (r : Result SerdeEnumRepr TagFault) (after : List SerdeItem) (e : DeriveError) → IsTagRefusal r e → IsTagRefusal (fold further r after) e
-refused_on (Ok repr) after e h = absurd h
-refused_on (Err why) after e h = subst (λ r. IsTagRefusal r e) (sym (stays why after)) h
-
--- what refuses items refuses more of them
-any_front : {A : Type 0} (P : A → Type 0) (xs ys : List A) → Any P xs → Any P (xs ++ ys)
-any_front P [] ys (k, x, l, at, p) = absurd (omega arith)
-any_front P (z ∷ xs) ys (zero, x, l, at, p) = (zero, x, omega arith, at, p)
-any_front P (z ∷ xs) ys (suc k, x, l, at, p) = let r = any_front P xs ys (k, x, omega arith, at, p) in (suc r.0, r.1, omega (arith, r.2), r.3, r.4)
-
+-- the first item at fault is that of more items
 refused_more : (xs ys : List SerdeItem) (e : DeriveError) → IsContainerRefusal xs e → IsContainerRefusal (xs ++ ys) e
-refused_more xs ys e (inl tag) = inl (subst (λ r. IsTagRefusal r e) (sym (fold-append further (Ok ExternallyTagged) xs ys)) (refused_on (representation xs) ys e tag))
-refused_more xs ys e (inr rule) = inr (any_front (λ item. IsRuleRefusal item e) xs ys rule)
-
--- what refuses an item after others refuses them all
-last_refused : (before : List SerdeItem) (item : SerdeItem) (so_far : SerdeContainer) (e : DeriveError) → AreContainerRules before so_far
-    → (e ≡ Memory) ⊎ IsTagRefusal (with_item item so_far.enum_repr) e ⊎ IsRuleRefusal item e → (e ≡ Memory) ⊎ IsContainerRefusal (before ++ item ∷ []) e
-last_refused before item so_far e is (inl memory) = inl memory
-last_refused before item so_far e is (inr (inl tag)) = inr (inl (subst (λ r. IsTagRefusal r e) (sym (representation_more before item ∙ ap (λ r. further r item) is.enum_repr)) tag))
-last_refused before item so_far e is (inr (inr rule)) = inr (inr (Any-push (λ item. IsRuleRefusal item e) before item rule))
+refused_more xs ys e (before, item, behind, whole, so_far, are, why) = (before, item, behind ++ ys, ap (λ zs. zs ++ ys) whole ∙ append_assoc before (item ∷ behind) ys, so_far, are, why)
 
 whole_at : {A : Type 0} (xs : List A) (i : ℕ) (x : A) → i < length xs → x ≡ get_or xs i x → take i xs ++ x ∷ drop (suc i) xs ≡ xs
 whole_at xs i x l at = ap (λ ys. take i xs ++ ys) (ap (λ y. y ∷ drop (suc i) xs) at ∙ sym (drop-cons xs i x l)) ∙ take-append-drop i xs
 
--- what refuses the item at a place refuses these and those before them
+-- what refuses the item at a place, behind items that say rules, refuses these and those before them
 pub refuses : (before items : List SerdeItem) (i : ℕ) (item : SerdeItem) (so_far : SerdeContainer) (e : DeriveError) → i < length items → item ≡ get_or items i item
-    → AreContainerRules (before ++ take i items) so_far → (e ≡ Memory) ⊎ IsTagRefusal (with_item item so_far.enum_repr) e ⊎ IsRuleRefusal item e → (e ≡ Memory) ⊎ IsContainerRefusal (before ++ items) e
-refuses before items i item so_far e l at is why = elim (last_refused (before ++ take i items) item so_far e is why) [
-  | inl memory ↦ inl memory
-  | inr refused ↦ inr (subst (λ xs. IsContainerRefusal xs e)
-      (append_assoc (before ++ take i items) (item ∷ []) (drop (suc i) items) ∙ append_assoc before (take i items) (item ∷ drop (suc i) items) ∙ ap (λ xs. before ++ xs) (whole_at items i item l at))
-      (refused_more ((before ++ take i items) ++ item ∷ []) (drop (suc i) items) e refused))
-]
+    → AreContainerRules (before ++ take i items) so_far → IsErrorFor (IsItemRefusal so_far item) e → IsErrorFor (IsContainerRefusal (before ++ items)) e
+refuses before items i item so_far e l at are (inl memory) = inl memory
+refuses before items i item so_far e l at are (inr why) =
+    let after = drop (suc i) items in
+    inr (before ++ take i items, item, after, sym (append_assoc before (take i items) (item ∷ after) ∙ ap (λ xs. before ++ xs) (whole_at items i item l at)), so_far, are, why)
 
 abbrev items_on : List Attribute → List SerdeItem
 items_on attributes = serde_items (map attribute_view attributes)
@@ -170,21 +150,139 @@ rules_are_one items rules others one other =
     same_rules _ _ _ _ _ _ _ _ (one.rename_all ∙ sym other.rename_all) (ok_is rules.enum_repr others.enum_repr (sym one.enum_repr ∙ other.enum_repr))
     (one.default ∙ sym other.default) (one.deny_unknown_fields ∙ sym other.deny_unknown_fields)
 
-no_tag_refusal : (r : Result SerdeEnumRepr TagFault) (repr : SerdeEnumRepr) (e : DeriveError) → r ≡ Ok repr → ¬ IsTagRefusal r e
-no_tag_refusal (Ok other) repr e is h = h
-no_tag_refusal (Err why) repr e is h = cc
+stays : (why : TagFault) (after : List SerdeItem) → fold further (Err why) after ≡ Err why
+stays why [] = refl
+stays why (item ∷ after) = stays why after
 
-known_at : (p : SerdeItem → Bool) (items : List SerdeItem) (i : ℕ) (d : SerdeItem) → list_all p items ≡ true → i < length items → p (get_or items i d) ≡ true
-known_at p [] i d all l = absurd (omega arith)
-known_at p (x ∷ items) zero d all l = (and_parts (p x) (list_all p items) all).0
-known_at p (x ∷ items) (suc i) d all l = known_at p items i d (and_parts (p x) (list_all p items) all).1 (omega arith)
+no_tag_refusal : (r : Result SerdeEnumRepr TagFault) (after : List SerdeItem) (repr : SerdeEnumRepr) (e : DeriveError) → fold further r after ≡ Ok repr → ¬ IsTagRefusal r e
+no_tag_refusal (Ok other) after repr e is h = h
+no_tag_refusal (Err why) after repr e is h = let same : ◌≡◌ {A = Result SerdeEnumRepr TagFault} (Err why) (Ok repr) = sym (stays why after) ∙ is in cc
 
 no_rule_refusal : (literal : Option SerdeText) (e : DeriveError) → option_map_or (λ text. is_some (rule_named text)) (option_map (λ l. l.text) literal) true ≡ true
     → ¬ IsSomeAnd literal (λ l. (rule_named l.text ≡ None) × IsRefusal BadValue l.span unknown_rule e)
 no_rule_refusal None e known h = h
 no_rule_refusal (Some literal) e known h = let none : false ≡ true = sym (ap is_some h.0) ∙ known in cc
 
+-- items that say rules have none at fault
+none_refused : (before behind : List SerdeItem) (item : SerdeItem) (so_far rules : SerdeContainer) (e : DeriveError)
+    → AreContainerRules before so_far → AreContainerRules (before ++ item ∷ behind) rules → ¬ IsItemRefusal so_far item e
+none_refused before behind item so_far rules e is are (inl tag) =
+    no_tag_refusal (with_item item so_far.enum_repr) behind rules.enum_repr e
+    (ap (λ r. fold further (further r item) behind) (sym is.enum_repr) ∙ sym (fold-append further (Ok ExternallyTagged) before (item ∷ behind)) ∙ are.enum_repr) tag
+none_refused before behind item so_far rules e is are (inr rule) =
+    let known : (list_all names_known_rule before && (names_known_rule item && list_all names_known_rule behind)) ≡ true =
+    sym (list_all-append names_known_rule before (item ∷ behind)) ∙ are.known in
+    no_rule_refusal (literal_for (codes "rename_all") item) e
+    (and_parts (names_known_rule item) (list_all names_known_rule behind) (and_parts (list_all names_known_rule before) (names_known_rule item && list_all names_known_rule behind) known).1).0 rule
+
 pub rules_are_not_refused : (items : List SerdeItem) (rules : SerdeContainer) (e : DeriveError) → AreContainerRules items rules → ¬ IsContainerRefusal items e
-rules_are_not_refused items rules e are (inl tag) = no_tag_refusal (representation items) rules.enum_repr e are.enum_repr tag
-rules_are_not_refused items rules e are (inr (i, item, l, at, rule)) =
-    no_rule_refusal (literal_for (codes "rename_all") item) e (subst (λ x. names_known_rule x ≡ true) at (known_at names_known_rule items i item are.known l)) rule
+rules_are_not_refused items rules e are (before, item, behind, whole, so_far, is, why) =
+    none_refused before behind item so_far rules e is (subst (λ xs. AreContainerRules xs rules) whole are) why
+
+-- ---- items say rules, or one of them is the first at fault
+
+abbrev refused_for : Kind → Span → List ℕ → DeriveError
+refused_for kind span message = Refused (diagnostic kind span message ∷ [])
+
+tag_decided : (r : Result SerdeEnumRepr TagFault) → ((repr : SerdeEnumRepr) × (r ≡ Ok repr)) ⊎ ((e : DeriveError) × IsTagRefusal r e)
+tag_decided (Ok repr) = inl (repr, refl)
+tag_decided (Err why) = inr (refused_for SerdeTag why.span why.message, refl)
+
+rule_decided : (so_far : Option RenameRule) (literal : Option SerdeText)
+    → ((rule : Option RenameRule) × MatchOption (option_map (λ l. l.text) literal) (rule ≡ so_far) (λ text. (rule_named text ≡ rule) × IsSome rule))
+    ⊎ ((e : DeriveError) × IsSomeAnd literal (λ l. (rule_named l.text ≡ None) × IsRefusal BadValue l.span unknown_rule e))
+rule_decided so_far None = inl (so_far, refl)
+rule_decided so_far (Some literal) = by (rule_named literal.text) refl
+  where
+    by : (o : Option RenameRule) → rule_named literal.text ≡ o → ((rule : Option RenameRule) × ((rule_named literal.text ≡ rule) × IsSome rule))
+        ⊎ ((e : DeriveError) × ((rule_named literal.text ≡ None) × IsRefusal BadValue literal.span unknown_rule e))
+    by (Some rule) is = inl (Some rule, (is, refl))
+    by None is = inr (refused_for BadValue literal.span unknown_rule, (is, refl))
+
+item_decided : (so_far : SerdeContainer) (item : SerdeItem) → ((rules : SerdeContainer) × IsNext so_far item rules) ⊎ ((e : DeriveError) × IsItemRefusal so_far item e)
+item_decided so_far item = elim (tag_decided (with_item item so_far.enum_repr)) [
+  | inr tag ↦ inr (tag.0, inl tag.1)
+  | inl repr ↦ elim (rule_decided so_far.rename_all (literal_for (codes "rename_all") item)) [
+    | inr rule ↦ inr (rule.0, inr rule.1)
+    | inl rule ↦ inl (
+      record {
+        rename_all = rule.0;
+        enum_repr = repr.0;
+        default = so_far.default || is_named (codes "default") item;
+        deny_unknown_fields = so_far.deny_unknown_fields || is_named (codes "deny_unknown_fields") item;
+      },
+      record { rename_all = rule.1; enum_repr = repr.1; default = refl; deny_unknown_fields = refl },
+    )
+  ]
+]
+
+abbrev IsDecided : List SerdeItem → Type 0
+IsDecided items = ((rules : SerdeContainer) × AreContainerRules items rules) ⊎ ((e : DeriveError) × IsContainerRefusal items e)
+
+decided_behind : (before behind : List SerdeItem) (so_far : SerdeContainer) → AreContainerRules before so_far → IsDecided (before ++ behind)
+decided_behind before [] so_far are = inl (so_far, subst (λ xs. AreContainerRules xs so_far) (sym (append-nil before)) are)
+decided_behind before (item ∷ behind) so_far are = elim (item_decided so_far item) [
+  | inr refused ↦ inr (refused.0, (before, item, behind, refl, so_far, are, refused.1))
+  | inl next ↦ subst IsDecided (append_assoc before (item ∷ []) behind) (decided_behind (before ++ item ∷ []) behind next.0 (rules_more so_far next.0 before item next.1 are))
+]
+
+pub decided : (items : List SerdeItem) → IsDecided items
+decided items = decided_behind [] items (record { rename_all = None; enum_repr = ExternallyTagged; default = false; deny_unknown_fields = false })
+    (record { rename_all = refl; known = refl; enum_repr = refl; default = refl; deny_unknown_fields = refl })
+
+-- ---- the first item at fault is one
+
+-- of two places in a list of which neither stands before the other
+same_place : {A : Type 0} (x y : A) (xs behind ys after : List A) → xs ++ x ∷ behind ≡ ys ++ y ∷ after
+    → ((between : List A) → ¬ (ys ≡ xs ++ x ∷ between)) → ((between : List A) → ¬ (xs ≡ ys ++ y ∷ between)) → (xs ≡ ys) × (x ≡ y)
+same_place x y [] behind [] after e one other = (refl, cc)
+same_place x y [] behind (z ∷ ys) after e one other = absurd (one ys (let same : z ≡ x = cc in ap (λ w. w ∷ ys) same))
+same_place x y (z ∷ xs) behind [] after e one other = absurd (other xs (let same : z ≡ y = cc in ap (λ w. w ∷ xs) same))
+same_place {A = A} x y (z ∷ xs) behind (w ∷ ys) after e one other =
+    let front : z ≡ w = cc in
+    let behind_it : xs ++ x ∷ behind ≡ ys ++ y ∷ after = cc in
+    let one_on : (between : List A) → ¬ (ys ≡ xs ++ x ∷ between) = λ between is. one between (ap (λ v. v ∷ ys) (sym front) ∙ ap (λ vs. z ∷ vs) is) in
+    let other_on : (between : List A) → ¬ (xs ≡ ys ++ y ∷ between) = λ between is. other between (ap (λ v. v ∷ xs) front ∙ ap (λ vs. w ∷ vs) is) in
+    let rest : (xs ≡ ys) × (x ≡ y) = same_place x y xs behind ys after behind_it one_on other_on in
+    (ap (λ v. v ∷ xs) front ∙ ap (λ vs. w ∷ vs) rest.0, rest.1)
+
+same_refusal : (kind : Kind) (span : Span) (message : List ℕ) (e other : DeriveError) → IsRefusal kind span message e → IsRefusal kind span message other → e ≡ other
+same_refusal kind span message (Refused d) (Refused other) one two = ap Refused (one ∙ sym two)
+same_refusal kind span message (Refused d) Memory one two = absurd two
+same_refusal kind span message Memory other one two = absurd one
+
+same_tag : (r : Result SerdeEnumRepr TagFault) (e other : DeriveError) → IsTagRefusal r e → IsTagRefusal r other → e ≡ other
+same_tag (Ok repr) e other one two = absurd one
+same_tag (Err why) e other one two = same_refusal SerdeTag why.span why.message e other one two
+
+same_rule : (literal : Option SerdeText) (e other : DeriveError) → IsSomeAnd literal (λ l. (rule_named l.text ≡ None) × IsRefusal BadValue l.span unknown_rule e)
+    → IsSomeAnd literal (λ l. (rule_named l.text ≡ None) × IsRefusal BadValue l.span unknown_rule other) → e ≡ other
+same_rule None e other one two = absurd one
+same_rule (Some literal) e other one two = same_refusal BadValue literal.span unknown_rule e other one.1 two.1
+
+-- an item that names a rename rule contradicts nothing
+one_cause : (item : SerdeItem) (repr : SerdeEnumRepr) (e other : DeriveError) → IsRuleRefusal item e → ¬ IsTagRefusal (with_item item repr) other
+one_cause item repr e other rule tag = by (is_named (codes "rename_all") item) refl rule
+  where
+    by : (b : Bool) → is_named (codes "rename_all") item ≡ b → IsSomeAnd (cond b item.value None) (λ l. (rule_named l.text ≡ None) × IsRefusal BadValue l.span unknown_rule e) → ⊥
+    by false is h = h
+    by true is h =
+        let same : with_item item repr ≡ Ok repr =
+        ap (λ name. cond (bytes_eq name (codes "untagged")) (Ok Untagged) (with_literals (cond (bytes_eq name (codes "tag")) item.value None) (cond (bytes_eq name (codes "content")) item.value None) repr))
+        ((bytes_eq-Decides item.name.text (codes "rename_all")).0 is) in
+        subst (λ r. IsTagRefusal r other) same tag
+
+same_item : (so_far : SerdeContainer) (item : SerdeItem) (e other : DeriveError) → IsItemRefusal so_far item e → IsItemRefusal so_far item other → e ≡ other
+same_item so_far item e other (inl one) (inl two) = same_tag (with_item item so_far.enum_repr) e other one two
+same_item so_far item e other (inr one) (inr two) = same_rule (literal_for (codes "rename_all") item) e other one two
+same_item so_far item e other (inl one) (inr two) = absurd (one_cause item so_far.enum_repr other e two one)
+same_item so_far item e other (inr one) (inl two) = absurd (one_cause item so_far.enum_repr e other one two)
+
+pub refusals_are_one : (items : List SerdeItem) (e other : DeriveError) → IsContainerRefusal items e → IsContainerRefusal items other → e ≡ other
+refusals_are_one items e other (xs, x, behind, at, rules, are, why) (ys, y, after, at_other, others, are_other, why_other) =
+    let same = same_place x y xs behind ys after (sym at ∙ at_other)
+    (λ between is. rules_are_not_refused ys others e are_other (xs, x, between, is, rules, are, why))
+    (λ between is. rules_are_not_refused xs rules other are (ys, y, between, is, others, are_other, why_other)) in
+    same_item rules x e other why
+    (subst (λ r. IsItemRefusal r x other) (rules_are_one xs others rules (subst (λ zs. AreContainerRules zs others) (sym same.0) are_other) are)
+    (subst (λ z. IsItemRefusal others z other) (sym same.1) why_other))

@@ -1,5 +1,5 @@
 -- What serde's items say of a struct or an enum (serde.rs, "Container attributes", "Enum representations").
-use Rattle.std.specs.Prelude.{◌≡◌, ◌⊎◌, ℕ, List, [], ◌∷◌, ◌++◌, Bool, true, cond, IsTrue, Option, Some, None, is_some, IsSomeAnd, Result, Ok, Err, Any, fold, find, bytes_eq, codes}
+use Rattle.std.specs.Prelude.{◌≡◌, ◌⊎◌, ℕ, List, [], ◌∷◌, ◌++◌, Bool, true, cond, IsTrue, Option, Some, None, is_some, IsSomeAnd, Result, Ok, Err, fold, find, bytes_eq, codes}
 use Rattle.std.specs.List.{list_all, join_by}
 use Rattle.std.specs.Option.{option_and_then, option_map_or}
 use Rattle.diag.specs.Refusal.{IsRefusal}
@@ -98,6 +98,12 @@ IsTagRefusal (Err why) e = IsRefusal SerdeTag why.span why.message e
 abbrev pub IsRuleRefusal : SerdeItem → DeriveError → Type 0
 IsRuleRefusal item e = IsSomeAnd (literal_for (codes "rename_all") item) (λ literal. (rule_named literal.text ≡ None) × IsRefusal BadValue literal.span unknown_rule e)
 
--- the items contradict each other, or one names a rename rule that there is not
+-- the error refuses an item behind others: it contradicts the rules that they say, or names a rename rule that there is not
+abbrev pub IsItemRefusal : SerdeContainer → SerdeItem → DeriveError → Type 0
+IsItemRefusal so_far item e = IsTagRefusal (with_item item so_far.enum_repr) e ⊎ IsRuleRefusal item e
+
+-- the error refuses the first item at fault, from the left: those before it say rules, so that none of them is
 abbrev pub IsContainerRefusal : List SerdeItem → DeriveError → Type 0
-IsContainerRefusal items e = IsTagRefusal (representation items) e ⊎ Any (λ item. IsRuleRefusal item e) items
+IsContainerRefusal items e =
+    (before : List SerdeItem) × (item : SerdeItem) × (behind : List SerdeItem) × (items ≡ before ++ item ∷ behind)
+    × (so_far : SerdeContainer) × AreContainerRules before so_far × IsItemRefusal so_far item e

@@ -1,11 +1,11 @@
 //! What serde's items say of a struct or an enum.
 
-ghost use Rattle.std.specs.Prelude.{◌≡◌, ◌⊎◌, List, [], ◌∷◌, ◌++◌, map, IfOk, OnOk, IfErr, MatchOption, IsSome, codes};
-ghost use Rattle.diag.specs.Refusal.{Refuses};
+ghost use Rattle.std.specs.Prelude.{◌≡◌, List, [], ◌∷◌, ◌++◌, map, IfOk, OnOk, IfErr, MatchOption, IsSome, codes};
+ghost use Rattle.diag.specs.Refusal.{IsErrorFor, Refuses};
 ghost use Rattle.attributes.specs.Attributes.{attribute_view, serde_items};
 ghost use Rattle.attributes.specs.declared.serde_item.SerdeItem.{SerdeItem as AnyItem};
 ghost use Rattle.diag.specs.declared.error.DeriveError.{DeriveError as AnyError};
-ghost use Rattle.serde_rules.specs.Container.{rule_named, with_item, IsTagRefusal, IsRuleRefusal, IsContainerRefusal, AreContainerRules};
+ghost use Rattle.serde_rules.specs.Container.{rule_named, IsRuleRefusal, IsItemRefusal, IsContainerRefusal, AreContainerRules};
 ghost use Rattle.serde_rules.specs.Items.{text_for};
 
 use crate::enum_repr::{SerdeEnumRepr, refusal, with_item};
@@ -68,8 +68,7 @@ fn read_item(
 ) -> Result<SerdeContainer, DeriveError>
     ensures read { IfOk result (λ rules. (before : List AnyItem) → AreContainerRules before so_far
         → AreContainerRules (before ++ item.now ∷ []) rules) }
-    ensures refused { Refuses result (λ e. IsTagRefusal (with_item item.now so_far.enum_repr) e
-        ⊎ IsRuleRefusal item.now e) }
+    ensures refused { Refuses result (IsItemRefusal so_far item.now) }
 {
     Ok(SerdeContainer {
         rename_all: later_rule(alloc, so_far.rename_all, item)?,
@@ -88,7 +87,7 @@ fn read_items(
     ensures read { IfOk result (λ rules. (before : List AnyItem) → AreContainerRules before so_far
         → AreContainerRules (before ++ items.now) rules) }
     ensures refused { IfErr result (λ e. (before : List AnyItem) → AreContainerRules before so_far
-        → (e ≡ DeriveError.Memory) ⊎ IsContainerRefusal (before ++ items.now) e) }
+        → IsErrorFor (IsContainerRefusal (before ++ items.now)) e) }
 {
     let mut rules = so_far;
     for item in items {
@@ -98,8 +97,8 @@ fn read_items(
 }
 
 /// What serde's attributes say of the struct or the enum that has them. A tag or a content that the items before it rule out
-/// is refused with the kind `SerdeTag`, and the name of a rename rule that there is not with `BadValue`.
-#[tactic(auto, using(crate::proofs::ContainerLaws::rules_are_not_refused))]
+/// is refused with the kind `SerdeTag`, and the name of a rename rule that there is not with `BadValue`. Of several items at
+/// fault the first is told.
 pub fn parse_container(
     alloc: Global,
     attributes: &[Attribute],

@@ -1,6 +1,6 @@
 //! Laws of the definitions that contracts cite.
 
-ghost use Rattle.std.specs.Prelude.{◌≡◌, ℕ, List, [], ◌∷◌, ◌++◌, Some};
+ghost use Rattle.std.specs.Prelude.{◌≡◌, ◌⊎◌, ℕ, List, [], ◌∷◌, ◌++◌, Some};
 ghost use Rattle.diag.specs.declared.error.DeriveError.{DeriveError};
 ghost use Rattle.attributes.specs.Attributes.{AttributeItem, serde_items};
 ghost use Rattle.attributes.specs.declared.serde_item.SerdeItem.{SerdeItem};
@@ -32,11 +32,16 @@ pub fn rules_are_found_by_name()
         → name_of rule ≡ text }
 {}
 
-/// Items say one thing of a struct or an enum, and what says one is not refused.
-#[tactic(auto, using(crate::proofs::ContainerLaws::rules_are_one, crate::proofs::ContainerLaws::rules_are_not_refused))]
+/// Items say one thing of a struct or an enum, or are refused for one: what says one is not refused, and what says none is.
+#[tactic(auto, using(crate::proofs::ContainerLaws::rules_are_one))]
 pub fn container_rules_are_one()
     ensures one { (items : List SerdeItem) (rules others : SerdeContainer)
         → AreContainerRules items rules → AreContainerRules items others → rules ≡ others }
     ensures allowed { (items : List SerdeItem) (rules : SerdeContainer) (e : DeriveError)
         → AreContainerRules items rules → ¬ IsContainerRefusal items e }
+    ensures decided { (items : List SerdeItem)
+        → ((rules : SerdeContainer) × AreContainerRules items rules)
+        ⊎ ((e : DeriveError) × IsContainerRefusal items e) }
+    ensures one_refusal { (items : List SerdeItem) (e other : DeriveError)
+        → IsContainerRefusal items e → IsContainerRefusal items other → e ≡ other }
 {}
