@@ -1,12 +1,12 @@
 -- Places of names in a list that grows at its end.
-use Rattle.std.proofs.Common.{ℕ, zero, suc, ◌<◌, List, [], ◌∷◌, ◌++◌, Option, Some, None, option_map, Bool, true, false, cond, ◌||◌, bytes_eq, length, take, drop, get_or, map, ◌≡◌, refl, ap, sym, subst, ◌∙◌, arith, rules, ◌⊎◌, inl, inr, IsTrue, Result, Ok, Err, MatchResult, is_ok}
+use Rattle.std.proofs.Common.{ℕ, zero, suc, ◌<◌, List, [], ◌∷◌, ◌++◌, Option, Some, None, option_map, Bool, true, false, cond, ◌||◌, bytes_eq, length, take, drop, get_or, map, ◌≡◌, refl, ap, sym, subst, ◌∙◌, arith, rules, ◌⊎◌, inl, inr, IsTrue, Result, Ok, Err, MatchResult, is_ok, append-nil, append_assoc}
 use Rattle.std.specs.Map.{update}
 use Rattle.std.proofs.lemmas.Slice.Eq.{bytes_eq-Decides}
 use Rattle.std.proofs.lemmas.Bool.{false≢true, cases_Bool}
 use Rattle.texts.specs.Names.{is_in, IsDistinct, place_in}
 use Rattle.written_types.specs.declared.written.Ident.{Ident}
 use Rattle.diag.specs.Refusal.{RefusesNone}
-use Rattle.scopes.specs.Names.{texts, IsGivenTwice}
+use Rattle.scopes.specs.Names.{texts, Repeats, IsGivenTwice}
 
 pub none≢some : {A : Type 0} {x : A} → None ≡ Some x → ⊥
 none≢some e = search rules
@@ -139,4 +139,43 @@ twice x (y ∷ before) behind d h = by (bytes_eq x.text y.text) refl h (twice x 
     by false t g rest = rest g
 
 pub distinct_once : (xs : List Ident) → IsDistinct (texts xs) → RefusesNone (IsGivenTwice xs)
-distinct_once xs d e (x, r, is) = twice x r.0 r.1 (subst (λ ys. IsDistinct (texts ys)) r.2 d) r.3
+distinct_once xs d e (x, r, is) = twice x r.0 r.1 (subst (λ ys. IsDistinct (texts ys)) r.2 d) r.4
+
+-- ---- the first name that repeats one
+
+one_more : (before : List Ident) (x : Ident) → IsDistinct (texts before) → IsDistinct (texts (before ++ x ∷ [])) ⊎ IsTrue (is_in x.text (texts before))
+one_more before x d = by (place_in x.text (texts before)) refl
+  where
+    by : (o : Option ℕ) → place_in x.text (texts before) ≡ o → IsDistinct (texts (before ++ x ∷ [])) ⊎ IsTrue (is_in x.text (texts before))
+    by (Some p) is = inr (is_in-from_place x.text (texts before) p is)
+    by None is = inl (subst IsDistinct (sym (texts-push before x)) (distinct-push (texts before) x.text d is))
+
+repeated_behind : (before behind : List Ident) → IsDistinct (texts before) → IsDistinct (texts (before ++ behind)) ⊎ ((x : Ident) × Repeats (before ++ behind) x)
+repeated_behind before [] d = inl (subst (λ xs. IsDistinct (texts xs)) (sym (append-nil before)) d)
+repeated_behind before (x ∷ behind) d = elim (one_more before x d) [
+  | inl distinct ↦ subst (λ xs. IsDistinct (texts xs) ⊎ ((y : Ident) × Repeats xs y)) (append_assoc before (x ∷ []) behind) (repeated_behind (before ++ x ∷ []) behind distinct)
+  | inr repeated ↦ inr (x, (before, behind, refl, d, repeated))
+]
+
+pub distinct_or_repeated : (xs : List Ident) → IsDistinct (texts xs) ⊎ ((x : Ident) × Repeats xs x)
+distinct_or_repeated xs = repeated_behind [] xs tt
+
+-- of two places in a list of which neither stands before the other
+same_place : {A : Type 0} (x y : A) (xs behind ys after : List A) → xs ++ x ∷ behind ≡ ys ++ y ∷ after
+    → ((between : List A) → ¬ (ys ≡ xs ++ x ∷ between)) → ((between : List A) → ¬ (xs ≡ ys ++ y ∷ between)) → (xs ≡ ys) × (x ≡ y)
+same_place x y [] behind [] after e one other = (refl, cc)
+same_place x y [] behind (z ∷ ys) after e one other = absurd (one ys (let same : z ≡ x = cc in ap (λ w. w ∷ ys) same))
+same_place x y (z ∷ xs) behind [] after e one other = absurd (other xs (let same : z ≡ y = cc in ap (λ w. w ∷ xs) same))
+same_place {A = A} x y (z ∷ xs) behind (w ∷ ys) after e one other =
+    let front : z ≡ w = cc in
+    let behind_it : xs ++ x ∷ behind ≡ ys ++ y ∷ after = cc in
+    let one_on : (between : List A) → ¬ (ys ≡ xs ++ x ∷ between) = λ between is. one between (ap (λ v. v ∷ ys) (sym front) ∙ ap (λ vs. z ∷ vs) is) in
+    let other_on : (between : List A) → ¬ (xs ≡ ys ++ y ∷ between) = λ between is. other between (ap (λ v. v ∷ xs) front ∙ ap (λ vs. w ∷ vs) is) in
+    let rest : (xs ≡ ys) × (x ≡ y) = same_place x y xs behind ys after behind_it one_on other_on in
+    (ap (λ v. v ∷ xs) front ∙ ap (λ vs. w ∷ vs) rest.0, rest.1)
+
+pub repeats_once : (xs : List Ident) (x y : Ident) → Repeats xs x → Repeats xs y → x ≡ y
+repeats_once xs x y one other =
+    (same_place x y one.0 one.1 other.0 other.1 (sym one.2 ∙ other.2)
+    (λ between is. twice x one.0 between (subst (λ zs. IsDistinct (texts zs)) is other.3) one.4)
+    (λ between is. twice y other.0 between (subst (λ zs. IsDistinct (texts zs)) is one.3) other.4)).1

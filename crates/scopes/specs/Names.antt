@@ -1,6 +1,6 @@
 -- The names that declarations give, and the places where they stand.
 use Rattle.std.specs.Prelude.{◌≡◌, ℕ, List, [], ◌∷◌, ◌++◌, Option, IsTrue, codes}
-use Rattle.texts.specs.Names.{is_in, place_in}
+use Rattle.texts.specs.Names.{is_in, IsDistinct, place_in}
 use Rattle.diag.specs.Refusal.{IsRefusal}
 use Rattle.diag.specs.declared.error.DeriveError.{DeriveError}
 use Rattle.diag.specs.declared.kind.Kind.TheVariants.{DuplicateName}
@@ -23,13 +23,14 @@ abbrev pub texts : List Ident → List (List ℕ)
 texts [] = []
 texts (x ∷ xs) = x.text ∷ texts xs
 
--- the identifier stands in the list, and one of its name stands before it
+-- the identifier is the first in the list whose name stands before it: the names before it are distinct, and its own is one of them
 abbrev pub Repeats : List Ident → Ident → Type 0
-Repeats xs x = (before : List Ident) × (behind : List Ident) × (xs ≡ before ++ x ∷ behind) × IsTrue (is_in x.text (texts before))
+Repeats xs x =
+    (before : List Ident) × (behind : List Ident) × (xs ≡ before ++ x ∷ behind) × IsDistinct (texts before) × IsTrue (is_in x.text (texts before))
 
 abbrev pub duplicate_message : List ℕ → List ℕ
 duplicate_message name = codes "name " ++ (name ++ codes " is given twice")
 
--- the error refuses an identifier whose name is given before
+-- the error refuses the first identifier whose name is given before
 abbrev pub IsGivenTwice : List Ident → DeriveError → Type 0
 IsGivenTwice xs e = (x : Ident) × Repeats xs x × IsRefusal DuplicateName x.span (duplicate_message x.text) e

@@ -1,12 +1,12 @@
 //! Names and their places.
 
-ghost use Rattle.std.specs.Prelude.{◌≡◌, ℕ, List, map, IfOk};
+ghost use Rattle.std.specs.Prelude.{◌≡◌, ◌⊎◌, ℕ, List, map, IfOk};
 ghost use Rattle.std.specs.BTreeMap.{get_by_text};
 ghost use Rattle.diag.specs.Refusal.{IsErrorFor, IsRefusal, Refuses, RefusesNone};
 ghost use Rattle.texts.specs.Names.{IsDistinct, place_in};
 ghost use Rattle.written_types.specs.declared.written.Ident.{Ident as AnyIdent};
 ghost use Rattle.syntax.specs.Items.{declarations_view};
-ghost use Rattle.scopes.specs.Names.{place_among, declared_names, declared_idents, texts, duplicate_message, IsGivenTwice};
+ghost use Rattle.scopes.specs.Names.{place_among, declared_names, declared_idents, texts, duplicate_message, Repeats, IsGivenTwice};
 
 use diag::{DeriveError, Kind};
 use std::alloc::{AllocError, Global};
@@ -41,7 +41,7 @@ fn duplicate_name(alloc: Global, ident: &Ident) -> Result<DeriveError, AllocErro
 }
 
 /// The place of each name, where no two are equal. A name given twice is refused with the kind `DuplicateName`, at the
-/// second identifier.
+/// first identifier whose name stands before it.
 pub fn places_of<T: Named>(
     alloc: Global,
     items: &[T],
@@ -79,3 +79,10 @@ pub fn declared_places(
 {
     places_of(alloc, declarations.items.as_slice())
 }
+
+/// Names are distinct, or one identifier is the first that repeats one.
+pub fn names_repeat_or_not()
+    ensures decided { (xs : List AnyIdent)
+        → IsDistinct (texts xs) ⊎ ((x : AnyIdent) × Repeats xs x) }
+    ensures one { (xs : List AnyIdent) (x y : AnyIdent) → Repeats xs x → Repeats xs y → x ≡ y }
+{}

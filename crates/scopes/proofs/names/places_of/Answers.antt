@@ -31,7 +31,7 @@ returns-in-Some-clause-refused g c =
       | inl memory ↦ inl memory
       | inr refusal ↦ inr (
         x,
-        (map f (take at items), map f (drop (suc at) items), split, is_in-from_place x.text _ _ placed),
+        (map f (take at items), map f (drop (suc at) items), split, c.loop-at.invariant.1, is_in-from_place x.text _ _ placed),
         subst (λ i. IsRefusal DuplicateName i.span (duplicate_message i.text) c.in_ok-duplicate_name.field-0) c.ident-ident.ensures refusal,
       )
     ]
