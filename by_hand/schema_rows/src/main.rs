@@ -50,7 +50,6 @@ fn told(alloc: Global, call: &str, given: &Value) -> anyhow::Result<String> {
         "place_term" => Ok(remarks::argument_form(alloc, given)?),
         "description" => Ok(remarks::description(alloc, given)?),
         "noted" => Ok(remarks::noted_form(alloc, given)?),
-        "any_object" => Ok(remarks::object_form(alloc, given)?),
         "null_default" => Ok(remarks::null_form(alloc, given)?),
         "resolved_declarations" => of_source(alloc, None, given),
         _ => of_source(alloc, Some(question(call)?), given),

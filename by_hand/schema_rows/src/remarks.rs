@@ -3,7 +3,7 @@
 use crate::forms::form_text;
 use crate::notes::text;
 use crate::terms::term_text;
-use component::{Place, any_object, noted, null_default, place_term};
+use component::{Place, noted, null_default, place_term};
 use open_types::OpenType;
 use rows::given::{count_at, is_said, items_at};
 use schema_core::{Notes, RefLeaf, Tree};
@@ -46,12 +46,6 @@ pub(crate) fn noted_form(alloc: Global, given: &Value) -> Result<String, AllocEr
     let notes = notes_of(alloc, given)?;
     let name = Text::new(alloc, "A")?;
     form_text(alloc, Tree::Leaf(RefLeaf { name, notes }))
-}
-
-/// The JSON of any object with the row's notes.
-pub(crate) fn object_form(alloc: Global, given: &Value) -> Result<String, AllocError> {
-    let notes = notes_of(alloc, given)?;
-    term_text(alloc, any_object(alloc, is_said(given, "nullable"), notes)?)
 }
 
 /// The JSON of null as a default.

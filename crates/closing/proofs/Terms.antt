@@ -1,5 +1,5 @@
 -- The terms of places and of declarations: no object names a property twice, and what holds of each leaf.
-use Rattle.std.proofs.Common.{ℕ, List, [], ◌∷◌, Bool, true, false, cond, Option, Some, None, ◌≡◌, refl, ap, sym, subst, ◌∙◌, inl, inr}
+use Rattle.std.proofs.Common.{ℕ, List, [], ◌∷◌, length, Bool, true, false, cond, Option, Some, None, ◌≡◌, refl, ap, sym, subst, ◌∙◌, inl, inr}
 use Rattle.schema_core.specs.declared.notes.Notes.{Notes}
 use Rattle.schema_core.specs.Notes.{no_notes, described}
 use Rattle.schema_core.specs.Schema.{SchemaOf, property_names, EachLeaf, EachSchemaLeaf, EachPropertyLeaf}
@@ -13,7 +13,7 @@ use Rattle.component.specs.Places.{or_null, in_place, declared, argument, place,
 use Rattle.shapes.specs.declared.remarks.Remarks.{Remarks}
 use Rattle.shapes.specs.Declarations.{MemberOf, FormOf, named_fields, unnamed_fields, no_fields, names_of, member_names, member_types, types_of}
 use Rattle.shapes.specs.Plain.{StandsIn, StandsAmong, StandsInOne, IsTextKey, IsPlainType, ArePlainTypes, AreAllPlain, IsPlainForm}
-use Rattle.shapes.specs.Terms.{field_term, properties_of, are_all, any_object, unnamed_term, form_term}
+use Rattle.shapes.specs.Terms.{properties_of, are_all, alike_term, field_terms, mixed_term, unnamed_term, form_term}
 
 -- ---- no property is named twice
 
@@ -61,15 +61,19 @@ names-are : (ms : List MemberOf) → property_names (properties_of ms) ≡ membe
 names-are [] = refl
 names-are (m ∷ ms) = ap (λ ns. m.name ∷ ns) (names-are ms)
 
+fields-proper : (ts : List Open) → AreProper (field_terms ts)
+fields-proper [] = tt
+fields-proper (t ∷ ts) = (place-proper false false false None t, fields-proper ts)
+
 either-proper : (b : Bool) (s t : SchemaOf LeafOf) → IsProper s → IsProper t → IsProper (cond b s t)
 either-proper true s t h k = h
 either-proper false s t h k = k
 
 unnamed-proper : (r : Remarks) (ts : List Open) → IsProper (unnamed_term r ts)
-unnamed-proper r [] = (tt, (tt, (tt, (tt, tt))))
+unnamed-proper r [] = (tt, tt)
 unnamed-proper r (t ∷ []) = place-proper false false r.deprecated r.description t
 unnamed-proper r (t ∷ u ∷ us) =
-    (tt, either-proper (are_all t (u ∷ us)) (field_term r t) (any_object r.deprecated) (place-proper false false r.deprecated r.description t) (tt, (tt, (tt, tt))))
+    either-proper (are_all t (u ∷ us)) (alike_term r (length (t ∷ u ∷ us)) t) (mixed_term r (t ∷ u ∷ us)) (tt, place-proper false false r.deprecated r.description t) (fields-proper (t ∷ u ∷ us), tt)
 
 -- The term of a declaration is proper where its members' names differ.
 pub form-proper : (r : Remarks) (form : FormOf) → IsDistinct (names_of form) → IsProper (form_term r form)
@@ -88,7 +92,7 @@ key-plain _ h = absurd h
 
 pub plain-types : (form : FormOf) → IsPlainForm form → AreAllPlain (types_of form)
 plain-types (named_fields denies ms) h = h
-plain-types (unnamed_fields ts) h = h.0
+plain-types (unnamed_fields ts) h = h
 plain-types no_fields h = tt
 
 -- A fact that holds of each declaration which stands in the types, and of each parameter unless the types are to be plain, holds of each leaf.
@@ -135,15 +139,20 @@ module _ (Q : LeafOf → Type 0) (ToBePlain : Type 0) (P : ℕ → Type 0) (at_n
   properties-leaves [] w p = tt
   properties-leaves (m ∷ ms) w p = (place-leaves false false m.remarks.deprecated m.remarks.description m.of (λ e s. w e (inl s)) (λ a. (p a).0), properties-leaves ms (λ e s. w e (inr s)) (λ a. (p a).1))
 
+  fields-leaves : (ts : List Open) → ((e : ℕ) → StandsInOne e ts → P e) → (ToBePlain → AreAllPlain ts) → EachSchemaLeaf Q (field_terms ts)
+  fields-leaves [] w p = tt
+  fields-leaves (t ∷ ts) w p = (place-leaves false false false None t (λ e s. w e (inl s)) (λ a. (p a).0), fields-leaves ts (λ e s. w e (inr s)) (λ a. (p a).1))
+
   either-leaves : (b : Bool) (s t : SchemaOf LeafOf) → EachLeaf Q s → EachLeaf Q t → EachLeaf Q (cond b s t)
   either-leaves true s t h k = h
   either-leaves false s t h k = k
 
   unnamed-leaves : (r : Remarks) (ts : List Open) → ((e : ℕ) → StandsInOne e ts → P e) → (ToBePlain → AreAllPlain ts) → EachLeaf Q (unnamed_term r ts)
-  unnamed-leaves r [] w p = (tt, (tt, (tt, tt)))
+  unnamed-leaves r [] w p = (tt, tt)
   unnamed-leaves r (t ∷ []) w p = place-leaves false false r.deprecated r.description t (λ e s. w e (inl s)) (λ a. (p a).0)
   unnamed-leaves r (t ∷ u ∷ us) w p =
-      (tt, either-leaves (are_all t (u ∷ us)) (field_term r t) (any_object r.deprecated) (place-leaves false false r.deprecated r.description t (λ e s. w e (inl s)) (λ a. (p a).0)) (tt, (tt, tt)))
+      either-leaves (are_all t (u ∷ us)) (alike_term r (length (t ∷ u ∷ us)) t) (mixed_term r (t ∷ u ∷ us))
+      (tt, place-leaves false false r.deprecated r.description t (λ e s. w e (inl s)) (λ a. (p a).0)) (fields-leaves (t ∷ u ∷ us) w p, tt)
 
   pub form-leaves : (r : Remarks) (form : FormOf) → ((e : ℕ) → StandsInOne e (types_of form) → P e) → (ToBePlain → AreAllPlain (types_of form)) → EachLeaf Q (form_term r form)
   form-leaves r (named_fields true ms) w p = (properties-leaves ms w p, (tt, tt))

@@ -89,7 +89,7 @@ pub(crate) fn only_word(alloc: Global, ty: TypeWord, notes: Notes) -> Result<Ter
 }
 
 /// Any object, or null where it may be.
-pub fn any_object(alloc: Global, nullable: bool, notes: Notes) -> Result<Term, AllocError>
+pub(crate) fn any_object(alloc: Global, nullable: bool, notes: Notes) -> Result<Term, AllocError>
     ensures { IfOk result
         (λ s. term_view s ≡ only_word (type_word nullable SchemaTypeInner.Object) notes) }
 {

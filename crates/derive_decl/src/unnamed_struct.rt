@@ -7,8 +7,9 @@ ghost use Rattle.texts.specs.Lists.{Somewhere};
 ghost use Rattle.open_types.specs.Open.{open_view};
 ghost use Rattle.resolving.specs.Resolved.{type_of};
 ghost use Rattle.syntax.specs.Items.{field_view, unnamed};
-ghost use Rattle.component.specs.Leaves.{term_view};
-ghost use Rattle.shapes.specs.Terms.{are_all, list_of_length, unnamed_term, form_term};
+ghost use Rattle.schema_core.specs.Schema.{tree_views, array_items_view};
+ghost use Rattle.component.specs.Leaves.{leaf_view, term_view};
+ghost use Rattle.shapes.specs.Terms.{are_all, list_of_length, alike_term, field_terms, mixed_term, unnamed_term, form_term};
 ghost use Rattle.derive_decl.specs.Fields.{FieldRules as AnyRules};
 ghost use Rattle.derive_decl.specs.Resolved.{all_of, form_of, remarks_of};
 ghost use Rattle.derive_decl.specs.Faults.{IsFaultyType, AreFaultyTypes, fieldless_message};
@@ -17,7 +18,7 @@ ghost use Rattle.derive_decl.specs.Views.{attributes_of, known, unnamed_view};
 use crate::field_term::field_term;
 use crate::remarks::remarks_of;
 use crate::root::Root;
-use component::{Term, ToTerm, any_object, noted};
+use component::{Term, TermLeaf, ToTerm, noted};
 use diag::{DeriveError, Kind};
 use open_types::OpenType;
 use schema_core::{Array, ArrayItems, Bound, Notes, Tree};
@@ -107,19 +108,22 @@ fn are_all(first: &OpenType, others: &[OpenType]) -> bool
     true
 }
 
-/// A list of so many elements that the schema accepts.
+/// A list of so many elements; the schemas in front accept the first of them by position, the rest accepts the others.
 fn list_of_length(
     alloc: Global,
     count: usize,
     notes: Notes,
-    items: Term,
+    front: List<Term>,
+    rest: ArrayItems<TermLeaf>,
 ) -> Result<Term, AllocError>
-    ensures { IfOk result (λ s. term_view s ≡ list_of_length count notes (term_view items)) }
+    ensures { IfOk result
+        (λ s. term_view s ≡ list_of_length count notes (tree_views leaf_view front)
+        (array_items_view leaf_view rest)) }
 {
     let array = Array {
         nullable: false,
-        items: ArrayItems::Each(items),
-        prefix_items: List::new(alloc),
+        items: rest,
+        prefix_items: front,
         unique: false,
         max_items: Bound::new(count as i128),
         min_items: Bound::new(count as i128),
@@ -154,15 +158,55 @@ impl ToTerm for UnnamedStructSchema {
     }
 }
 
+/// The schema of so many fields of one type.
+fn alike_term(
+    alloc: Global,
+    remarks: &Remarks,
+    count: usize,
+    ty: &OpenType,
+) -> Result<Term, AllocError>
+    ensures { IfOk result
+        (λ s. term_view s ≡ alike_term remarks.now count (open_view ty.now)) }
+{
+    let notes = noted(alloc, false, &remarks.description)?;
+    let each = ArrayItems::Each(field_term(alloc, remarks, ty)?);
+    list_of_length(alloc, count, notes, List::new(alloc), each)
+}
+
+/// The schemas of fields of these types, of which nothing is said.
+fn field_terms(alloc: Global, types: &[OpenType]) -> Result<List<Term>, AllocError>
+    ensures { IfOk result
+        (λ ss. tree_views leaf_view ss ≡ field_terms (map open_view types.now)) }
+{
+    let nothing = Remarks {
+        deprecated: false,
+        description: None,
+    };
+    let mut terms = List::new(alloc);
+    for ty in types {
+        terms.push(field_term(alloc, &nothing, ty)?)?;
+    }
+    Ok(terms)
+}
+
+/// The schema of fields of these types: a list of just these, in their order.
+fn mixed_term(alloc: Global, remarks: &Remarks, types: &[OpenType]) -> Result<Term, AllocError>
+    ensures { IfOk result (λ s. term_view s ≡ mixed_term remarks.now (map open_view types.now)) }
+{
+    let notes = noted(alloc, remarks.deprecated, &remarks.description)?;
+    let front = field_terms(alloc, types)?;
+    list_of_length(alloc, types.len(), notes, front, ArrayItems::False)
+}
+
 /// The schema of unnamed fields of these types.
 fn unnamed_term(alloc: Global, remarks: &Remarks, types: &[OpenType]) -> Result<Term, AllocError>
     ensures { IfOk result (λ s. term_view s ≡ unnamed_term remarks.now (map open_view types.now)) }
 {
-    let items = match types {
-        [ty] => return field_term(alloc, remarks, ty),
-        [first, others @ ..] if are_all(first, others) => field_term(alloc, remarks, first)?,
-        _ => any_object(alloc, false, noted(alloc, remarks.deprecated, &None)?)?,
-    };
-    let notes = noted(alloc, false, &remarks.description)?;
-    list_of_length(alloc, types.len(), notes, items)
+    match types {
+        [ty] => field_term(alloc, remarks, ty),
+        [first, others @ ..] if are_all(first, others) => {
+            alike_term(alloc, remarks, types.len(), first)
+        }
+        _ => mixed_term(alloc, remarks, types),
+    }
 }

@@ -25,8 +25,8 @@ use Rattle.component.specs.Places.{word_of, minimum_of, type_word, null_alone, o
 use Rattle.shapes.specs.declared.remarks.Remarks.{Remarks}
 use Rattle.shapes.specs.Declarations.{MemberOf, FormOf, named_fields, unnamed_fields, no_fields, member_types, member_names}
 use Rattle.shapes.specs.Shape.{is_null, is_text, is_boolean, is_number, is_list, is_map, reads, type_shape, items_fit, member_fits, no_others, elements_fit, unnamed_shape, form_shape}
-use Rattle.shapes.specs.Plain.{IsTextKey, IsPlainType, ArePlainTypes, AreAllPlain, AreAlike, IsPlainForm}
-use Rattle.shapes.specs.Terms.{field_term, properties_of, required_names, object_of, list_of_length, are_all, any_object, unnamed_term, form_term}
+use Rattle.shapes.specs.Plain.{IsTextKey, IsPlainType, ArePlainTypes, AreAllPlain, IsPlainForm}
+use Rattle.shapes.specs.Terms.{properties_of, required_names, object_of, are_all, alike_term, field_terms, mixed_term, unnamed_term, form_term}
 use Rattle.shapes.specs.Meaning.{leaf_shape, TermsAccept}
 
 -- ---- conditions
@@ -187,14 +187,14 @@ distinct-accept n v p =
     ∙ (λ i. word_accepts (array_word n) v && on_list v (λ vs. and-swap (distinct vs) (p vs) i))
     ∙ list-accepts n v (λ vs. p vs && distinct vs)
 
--- elements that all pass, no more of them and no fewer
-exactly-accept : (v : Json) (more fewer p : List Json → Bool) →
-    (word_accepts (array_word false) v && (on_list v more && (on_list v fewer && (on_list v (λ vs. true) && on_list v p)))) ≡ is_list v (λ vs. more vs && (fewer vs && p vs))
-exactly-accept v more fewer p =
-    (λ i. word_accepts (array_word false) v && (on_list v more && (on_list v fewer && both-lists v (λ vs. true) p i)))
-    ∙ (λ i. word_accepts (array_word false) v && (on_list v more && both-lists v fewer p i))
-    ∙ (λ i. word_accepts (array_word false) v && both-lists v more (λ vs. fewer vs && p vs) i)
-    ∙ list-accepts false v (λ vs. more vs && (fewer vs && p vs))
+-- no more elements and no fewer, of which those in front pass and the others do
+exactly-accept : (v : Json) (more fewer front rest : List Json → Bool) →
+    (word_accepts (array_word false) v && (on_list v more && (on_list v fewer && (on_list v front && on_list v rest)))) ≡ is_list v (λ vs. more vs && (fewer vs && (front vs && rest vs)))
+exactly-accept v more fewer front rest =
+    (λ i. word_accepts (array_word false) v && (on_list v more && (on_list v fewer && both-lists v front rest i)))
+    ∙ (λ i. word_accepts (array_word false) v && (on_list v more && both-lists v fewer (λ vs. front vs && rest vs) i))
+    ∙ (λ i. word_accepts (array_word false) v && both-lists v more (λ vs. fewer vs && (front vs && rest vs)) i)
+    ∙ list-accepts false v (λ vs. more vs && (fewer vs && (front vs && rest vs)))
 
 -- a map whose values pass, and whose names
 map-accepts : (n : Bool) (v : Json) (p q : List (List ℕ × Json) → Bool) →
@@ -332,19 +332,47 @@ module _ (instance : ℕ → Json → Bool) where
       ∙ and-third (int_le (pos (length vs)) (pos (length us))) (int_le (pos (length us)) (pos (length vs))) (type_shape instance t v) (list_all (type_shape instance t) vs)
       ∙ (λ i. type_shape instance (equal i) v && elements-accept same t us (and-right (same_type t u) (are_all t us) h) vs i)
 
-  -- one place is the schema itself; of several alike, a list of so many
-  unnamed-accepts : SameIsEqual → (r : Remarks) (ts : List Open) → AreAllPlain ts → AreAlike ts → (v : Json) →
-      tree_accepts (leaf_shape instance) (unnamed_term r ts) v ≡ unnamed_shape instance ts v
-  unnamed-accepts same r [] h alike v = absurd alike
-  unnamed-accepts same r (t ∷ []) h alike v = place-accepts false false r.deprecated r.description t h.0 v
-  unnamed-accepts same r (t ∷ u ∷ us) h alike v =
-      let all_t : IsTrue (are_all t (t ∷ u ∷ us)) = and-both (same_type t t) (are_all t (u ∷ us)) ((same t t).1 refl) alike in
-      let n : ℕ = length (t ∷ u ∷ us) in
-      (λ i. tree_accepts (leaf_shape instance) (list_of_length n (described r.description) (cond (alike i) (field_term r t) (any_object r.deprecated))) v)
-      ∙ (λ i. word_accepts (array_word false) v && (on_list v (λ vs. int_le (pos (length vs)) (pos n)) && (on_list v (λ vs. int_le (pos n) (pos (length vs)))
-      && (on_list v (λ vs. true) && on_list v (list_all (λ w. place-accepts false false r.deprecated r.description t h.0 w i))))))
-      ∙ exactly-accept v (λ vs. int_le (pos (length vs)) (pos n)) (λ vs. int_le (pos n) (pos (length vs))) (list_all (type_shape instance t))
-      ∙ (λ i. is_list v (λ vs. elements-accept same t (t ∷ u ∷ us) all_t vs i))
+  -- Elements that the fields' schemas accept by position, as many as there are types, fit the types.
+  in_order-accept : (ts : List Open) → AreAllPlain ts → (vs : List Json) →
+      (int_le (pos (length vs)) (pos (length ts)) && (int_le (pos (length ts)) (pos (length vs))
+      && (each_in_order (leaf_shape instance) (field_terms ts) vs && list_all (λ w. false) (drop (schema_count (field_terms ts)) vs)))) ≡ elements_fit instance ts vs
+  in_order-accept [] h [] = refl
+  in_order-accept [] h (v ∷ vs) = λ i. leb-suc-zero (length vs) i && (int_le (pos 0) (pos (suc (length vs))) && (true && list_all (λ w. false) (v ∷ vs)))
+  in_order-accept (t ∷ ts) h [] = λ i. leb-zero (suc (length ts)) i && (leb-suc-zero (length ts) i && (true && true))
+  in_order-accept (t ∷ ts) h (v ∷ vs) =
+      let more : Bool = int_le (pos (length vs)) (pos (length ts)) in
+      let fewer : Bool = int_le (pos (length ts)) (pos (length vs)) in
+      let front : Bool = each_in_order (leaf_shape instance) (field_terms ts) vs in
+      let rest : Bool = list_all (λ w. false) (drop (schema_count (field_terms ts)) vs) in
+      (λ i. leb-suc-suc (length vs) (length ts) i && (leb-suc-suc (length ts) (length vs) i && ((place-accepts false false false None t h.0 v i && front) && rest)))
+      ∙ (λ i. more && (fewer && and-assoc (type_shape instance t v) front rest i))
+      ∙ and-third more fewer (type_shape instance t v) (front && rest)
+      ∙ (λ i. type_shape instance t v && in_order-accept ts h.1 vs i)
+
+  alike-accepts : SameIsEqual → (r : Remarks) (t : Open) (ts : List Open) → IsPlainType t → IsTrue (are_all t ts) → (v : Json) →
+      tree_accepts (leaf_shape instance) (alike_term r (length ts) t) v ≡ is_list v (elements_fit instance ts)
+  alike-accepts same r t ts h alike v =
+      (λ i. word_accepts (array_word false) v && (on_list v (λ vs. int_le (pos (length vs)) (pos (length ts))) && (on_list v (λ vs. int_le (pos (length ts)) (pos (length vs)))
+      && (on_list v (λ vs. true) && on_list v (list_all (λ w. place-accepts false false r.deprecated r.description t h w i))))))
+      ∙ exactly-accept v (λ vs. int_le (pos (length vs)) (pos (length ts))) (λ vs. int_le (pos (length ts)) (pos (length vs))) (λ vs. true) (list_all (type_shape instance t))
+      ∙ (λ i. is_list v (λ vs. elements-accept same t ts alike vs i))
+
+  mixed-accepts : (r : Remarks) (ts : List Open) → AreAllPlain ts → (v : Json) → tree_accepts (leaf_shape instance) (mixed_term r ts) v ≡ is_list v (elements_fit instance ts)
+  mixed-accepts r ts h v =
+      exactly-accept v (λ vs. int_le (pos (length vs)) (pos (length ts))) (λ vs. int_le (pos (length ts)) (pos (length vs)))
+      (each_in_order (leaf_shape instance) (field_terms ts)) (λ vs. list_all (λ w. false) (drop (schema_count (field_terms ts)) vs))
+      ∙ (λ i. is_list v (λ vs. in_order-accept ts h vs i))
+
+  -- one place is the schema itself, several are a list
+  unnamed-accepts : SameIsEqual → (r : Remarks) (ts : List Open) → AreAllPlain ts → (v : Json) → tree_accepts (leaf_shape instance) (unnamed_term r ts) v ≡ unnamed_shape instance ts v
+  unnamed-accepts same r [] h v = mixed-accepts r [] h v
+  unnamed-accepts same r (t ∷ []) h v = place-accepts false false r.deprecated r.description t h.0 v
+  unnamed-accepts same r (t ∷ u ∷ us) h v = by (are_all t (u ∷ us)) refl
+    where
+      by : (b : Bool) → are_all t (u ∷ us) ≡ b →
+          tree_accepts (leaf_shape instance) (cond b (alike_term r (length (t ∷ u ∷ us)) t) (mixed_term r (t ∷ u ∷ us))) v ≡ is_list v (elements_fit instance (t ∷ u ∷ us))
+      by true alike = alike-accepts same r t (t ∷ u ∷ us) h.0 (and-both (same_type t t) (are_all t (u ∷ us)) ((same t t).1 refl) alike) v
+      by false others = mixed-accepts r (t ∷ u ∷ us) h v
 
   -- ---- declarations
 
@@ -356,7 +384,7 @@ module _ (instance : ℕ → Json → Bool) where
   form-accepts same r (named_fields denies ms) h (number m) = refl
   form-accepts same r (named_fields denies ms) h (text t) = refl
   form-accepts same r (named_fields denies ms) h (list xs) = refl
-  form-accepts same r (unnamed_fields ts) h v = unnamed-accepts same r ts h.0 h.1 v
+  form-accepts same r (unnamed_fields ts) h v = unnamed-accepts same r ts h v
   form-accepts same r no_fields h v = absurd h
 
 -- The term of a plain declaration accepts what has its shape.

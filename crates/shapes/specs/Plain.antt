@@ -1,10 +1,9 @@
 -- Declarations whose schema can say their whole shape: what stands in the places that they reach.
-use Rattle.std.specs.Prelude.{◌≡◌, ◌≢◌, ◌⊎◌, ℕ, List, [], ◌∷◌, IsTrue}
+use Rattle.std.specs.Prelude.{◌≡◌, ◌≢◌, ◌⊎◌, ℕ, List, [], ◌∷◌}
 use Rattle.leaves.specs.Leaves.{kind_of}
 use Rattle.leaves.specs.declared.leaf.LeafKind.TheVariants as kinds
 use Rattle.open_types.specs.Open.{Open, Opens, leaf, any_value, free_object, unit, tuple, items, set, map_of, option, through, param, named, no_types, more_types}
 use Rattle.shapes.specs.Declarations.{FormOf, named_fields, unnamed_fields, no_fields, DeclarationOf, declaration_at, types_of}
-use Rattle.shapes.specs.Terms.{are_all}
 
 -- the declaration stands in the type
 abbrev mutual
@@ -61,14 +60,9 @@ abbrev pub AreAllPlain : List Open → Type 0
 AreAllPlain [] = Unit {0}
 AreAllPlain (t ∷ ts) = IsPlainType t × AreAllPlain ts
 
--- one unnamed field, or several of one type
-abbrev pub AreAlike : List Open → Type 0
-AreAlike [] = ⊥
-AreAlike (t ∷ ts) = IsTrue (are_all t ts)
-
 abbrev pub IsPlainForm : FormOf → Type 0
 IsPlainForm (named_fields denies ms) = AreAllPlain (types_of (named_fields denies ms))
-IsPlainForm (unnamed_fields ts) = AreAllPlain ts × AreAlike ts
+IsPlainForm (unnamed_fields ts) = AreAllPlain ts
 IsPlainForm no_fields = ⊥
 
 -- places lead from one declaration to another, or to itself

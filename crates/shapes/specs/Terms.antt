@@ -1,9 +1,9 @@
 -- The schemas of declarations, over the declarations that their types name.
-use Rattle.std.specs.Prelude.{ℕ, List, [], ◌∷◌, Bool, true, false, ◌&&◌, cond, pos, length, Some, None}
+use Rattle.std.specs.Prelude.{ℕ, List, [], ◌∷◌, Bool, true, false, ◌&&◌, cond, pos, length, map, Some}
 use Rattle.schema_core.specs.declared.tree.SchemaTypeInner.TheVariants as word
 use Rattle.schema_core.specs.declared.tree.TypeWord.TheVariants.{Any, One}
 use Rattle.schema_core.specs.declared.notes.Notes.{Notes}
-use Rattle.schema_core.specs.Schema.{SchemaOf, object, array, no_schemas, PropertiesOf, no_properties, property, PartOf, no_part, truth, part}
+use Rattle.schema_core.specs.Schema.{SchemaOf, object, array, SchemasOf, no_schemas, schemas_of, PropertiesOf, no_properties, property, PartOf, no_part, truth, part}
 use Rattle.open_types.specs.Open.{Open}
 use Rattle.open_types.specs.Same.{same_type}
 use Rattle.component.specs.Leaves.{LeafOf}
@@ -11,7 +11,7 @@ use Rattle.schema_core.specs.Notes.{noted, described, null_default}
 use Rattle.schema_core.specs.Objects.{word_facts, with_required, only_word}
 use Rattle.component.specs.Places.{place}
 use Rattle.shapes.specs.declared.remarks.Remarks.{Remarks}
-use Rattle.shapes.specs.Declarations.{MemberOf, FormOf, named_fields, unnamed_fields, no_fields, DeclarationOf}
+use Rattle.shapes.specs.Declarations.{MemberOf, FormOf, named_fields, unnamed_fields, no_fields, DeclarationOf, no_remarks}
 
 -- the schema of a field
 abbrev pub field_term : Remarks → Open → SchemaOf LeafOf
@@ -35,25 +35,32 @@ abbrev pub object_of : {X : Type 0} → Notes → Bool → List (List ℕ) → P
 object_of notes denies required ps =
     object (with_required required (word_facts (One word.Object) notes)) ps (others_of denies) no_part
 
--- a list of so many elements that the schema accepts
-abbrev pub list_of_length : {X : Type 0} → ℕ → Notes → SchemaOf X → SchemaOf X
-list_of_length n notes s = array (record { nullable = false; unique = false; max_items = Some (pos n); min_items = Some (pos n); notes = notes }) no_schemas (part s)
+-- a list of so many elements; the schemas in front accept the first of them by position, the rest accepts the others
+abbrev pub list_of_length : {X : Type 0} → ℕ → Notes → SchemasOf X → PartOf X → SchemaOf X
+list_of_length n notes front rest = array (record { nullable = false; unique = false; max_items = Some (pos n); min_items = Some (pos n); notes = notes }) front rest
 
 -- the types are all the same
 abbrev pub are_all : Open → List Open → Bool
 are_all t [] = true
 are_all t (u ∷ us) = same_type t u && are_all t us
 
-abbrev pub any_object : {X : Type 0} → Bool → SchemaOf X
-any_object deprecated = only_word (One word.Object) (noted deprecated None)
+-- several fields of one type: a list of so many of that type; what stands in the list is deprecated, not the list
+abbrev pub alike_term : Remarks → ℕ → Open → SchemaOf LeafOf
+alike_term remarks n t = list_of_length n (described remarks.description) no_schemas (part (field_term remarks t))
 
--- One field is read as its content; several of one type as so many of that type, and several others as so many objects. What stands in the list is deprecated, not the list.
+-- the schemas of fields of which nothing is said
+abbrev pub field_terms : List Open → SchemasOf LeafOf
+field_terms ts = schemas_of (map (field_term no_remarks) ts)
+
+-- fields of any types: a list of just these, in their order
+abbrev pub mixed_term : Remarks → List Open → SchemaOf LeafOf
+mixed_term remarks ts = list_of_length (length ts) (noted remarks.deprecated remarks.description) (field_terms ts) (truth false)
+
+-- One field is read as its content, several as a list of them.
 abbrev pub unnamed_term : Remarks → List Open → SchemaOf LeafOf
-unnamed_term remarks [] = list_of_length 0 (described remarks.description) (any_object remarks.deprecated)
+unnamed_term remarks [] = mixed_term remarks []
 unnamed_term remarks (t ∷ []) = field_term remarks t
-unnamed_term remarks (t ∷ u ∷ us) =
-    list_of_length (length (t ∷ u ∷ us)) (described remarks.description)
-    (cond (are_all t (u ∷ us)) (field_term remarks t) (any_object remarks.deprecated))
+unnamed_term remarks (t ∷ u ∷ us) = cond (are_all t (u ∷ us)) (alike_term remarks (length (t ∷ u ∷ us)) t) (mixed_term remarks (t ∷ u ∷ us))
 
 -- null as the default is not deprecated
 abbrev pub form_term : Remarks → FormOf → SchemaOf LeafOf
