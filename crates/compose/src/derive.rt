@@ -25,7 +25,7 @@ use derive_decl::{Resolved, resolved_declarations};
 use diag::DeriveError;
 use open_types::ClosedType;
 use schema_core::Components;
-use scopes::declared_places;
+use scopes::{Places, declared_places};
 use std::alloc::Global;
 use std::collections::BTreeMap;
 use syntax::{Declaration, Declarations, parse_declarations};
@@ -63,9 +63,16 @@ fn settle(
         (AreAtFault config.now.renames (declarations_view declarations.now)) }
 {
     only_derivable(alloc, declarations)?;
-    let places = declared_places(alloc, declarations)?;
-    let resolved = resolved_declarations(alloc, declarations, &places, config)?;
-    Ok(Settled { resolved, places })
+    let by_name = declared_places(alloc, declarations)?;
+    let places = Places {
+        declarations,
+        by_name,
+    };
+    let resolved = resolved_declarations(alloc, &places, config)?;
+    Ok(Settled {
+        resolved,
+        places: places.by_name,
+    })
 }
 
 /// The components of the declarations, where nothing is beyond its bound.

@@ -1,12 +1,11 @@
 //! All declarations of a source.
 
-ghost use Rattle.std.specs.Prelude.{◌≡◌, ℕ, List as Items, length, map, IfOk, Some};
-ghost use Rattle.std.specs.BTreeMap.{get_by_text};
+ghost use Rattle.std.specs.Prelude.{◌≡◌, length, map, IfOk, Some};
 ghost use Rattle.diag.specs.Refusal.{Refuses, RefusesNone};
 ghost use Rattle.texts.specs.Names.{IsDistinct};
 ghost use Rattle.syntax.specs.Items.{declaration_view, declarations_view};
 ghost use Rattle.syntax.specs.Named.{AreNamed, IsNamedBody};
-ghost use Rattle.scopes.specs.Names.{declared_names, place_among};
+ghost use Rattle.scopes.specs.Names.{declared_names};
 ghost use Rattle.shapes.specs.Declarations.{declaration_names, names_of, AreWithin, MembersDiffer};
 ghost use Rattle.derive_decl.specs.Resolved.{resolved_of};
 ghost use Rattle.derive_decl.specs.Faults.{IsFaultyItem, AreFaultyItems};
@@ -17,10 +16,9 @@ use crate::resolved::Resolved;
 use crate::schema::Schema;
 use configuration::Config;
 use diag::DeriveError;
-use scopes::{Container, Scope};
+use scopes::{Container, Places, Scope};
 use std::alloc::Global;
-use std::collections::BTreeMap;
-use syntax::{Declaration, Declarations};
+use syntax::Declaration;
 use texts::List;
 
 /// What the declaration is resolved to.
@@ -48,46 +46,38 @@ fn resolved_of(
     schema.resolve(alloc)
 }
 
-/// What the declarations are resolved to, in their order, where `places` has the places of their names, and each field in
-/// braces has a name.
+/// What the declarations are resolved to, in their order, where each field in braces has a name.
 ///
 /// It refuses a declaration that `Schema::resolve` refuses, as that does.
 pub fn resolved_declarations(
     alloc: Global,
-    declarations: &Declarations,
-    places: &BTreeMap<String, usize>,
+    places: &Places<'_>,
     config: &Config,
 ) -> Result<List<Resolved>, DeriveError>
-    requires places { (name : Items ℕ)
-        → get_by_text places.now name ≡ place_among (declarations_view declarations.now) name }
-    requires named { AreNamed (declarations_view declarations.now) }
+    requires { AreNamed (declarations_view places.now.declarations.now) }
     ensures resolved { IfOk result
-        (λ ss. resolved_declarations config.now.renames (declarations_view declarations.now)
+        (λ ss. resolved_declarations config.now.renames (declarations_view places.now.declarations.now)
         ≡ Some (map resolved_view ss)) }
     ensures names { IfOk result (λ ss. declaration_names (map resolved_view ss)
-        ≡ declared_names (declarations_view declarations.now)) }
+        ≡ declared_names (declarations_view places.now.declarations.now)) }
     ensures distinct { IfOk result (λ ss. MembersDiffer (map resolved_view ss)) }
     ensures within { IfOk result
         (λ ss. AreWithin (length (map resolved_view ss)) (map resolved_view ss)) }
     ensures faultless { IfOk result
         (λ _. RefusesNone
-        (AreFaultyItems config.now.renames (declarations_view declarations.now))) }
+        (AreFaultyItems config.now.renames (declarations_view places.now.declarations.now))) }
     ensures refused { Refuses result
-        (AreFaultyItems config.now.renames (declarations_view declarations.now)) }
+        (AreFaultyItems config.now.renames (declarations_view places.now.declarations.now)) }
 {
     resolving::resolved_are_within();
     let mut resolved = List::new(alloc);
-    for owner in 0..declarations.items.len() {
-        let scope = Scope {
-            declarations,
-            places,
-            owner,
-        };
+    for owner in 0..places.declarations.items.len() {
+        let scope = Scope { places, owner };
         let container = Container {
             scope: &scope,
             config,
         };
-        let declaration = &declarations.items.as_slice()[owner];
+        let declaration = &places.declarations.items.as_slice()[owner];
         resolved.push(resolved_of(alloc, &container, declaration)?)?;
     }
     Ok(resolved)

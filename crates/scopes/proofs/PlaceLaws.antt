@@ -1,6 +1,7 @@
 -- Places of names in a list that grows at its end.
-use Rattle.std.proofs.Common.{ℕ, zero, suc, ◌<◌, List, [], ◌∷◌, ◌++◌, Option, Some, None, option_map, Bool, true, false, cond, ◌||◌, bytes_eq, length, take, drop, get_or, map, ◌≡◌, refl, ap, sym, subst, ◌∙◌, arith, rules, ◌⊎◌, inl, inr, IsTrue, Result, Ok, Err, MatchResult, is_ok, append-nil, append_assoc}
+use Rattle.std.proofs.Common.{ℕ, zero, suc, ◌+◌, ◌<◌, List, [], ◌∷◌, ◌++◌, Option, Some, None, option_map, Bool, true, false, cond, ◌||◌, bytes_eq, length, take, drop, get_or, map, ◌≡◌, refl, ap, sym, subst, ◌∙◌, arith, rules, ◌⊎◌, inl, inr, IsTrue, Result, Ok, Err, MatchResult, is_ok, append-nil, append_assoc}
 use Rattle.std.specs.Map.{update}
+use Rattle.std.proofs.lemmas.List.{take_more, map_push}
 use Rattle.std.proofs.lemmas.Slice.Eq.{bytes_eq-Decides}
 use Rattle.std.proofs.lemmas.Bool.{false≢true, cases_Bool}
 use Rattle.texts.specs.Names.{is_in, IsDistinct, place_in}
@@ -63,6 +64,16 @@ places_more ns n f g before new after k = after k ∙ by (cases_Bool (bytes_eq n
         ∙ sym (or_at-none (place_in k ns))
         ∙ sym (ap (λ b. or_at (place_in k ns) (cond b (Some (length ns)) None)) (bytes_eq-false n k t))
 
+-- and after one that has a place already
+pub places_stay : (ns : List (List ℕ)) (n : List ℕ) (p : ℕ) (f : List ℕ → Option ℕ) → ((k : List ℕ) → f k ≡ place_in k ns) → f n ≡ Some p → (k : List ℕ) → f k ≡ place_in k (ns ++ n ∷ [])
+places_stay ns n p f before old k = before k ∙ by (cases_Bool (bytes_eq k n)) ∙ sym (place_in-push k ns n)
+  where
+    by : (bytes_eq k n ≡ true) ⊎ (bytes_eq k n ≡ false) → place_in k ns ≡ or_at (place_in k ns) (cond (bytes_eq k n) (Some (length ns)) None)
+    by (inl t) =
+        let here : place_in k ns ≡ Some p = ap (λ m. place_in m ns) ((bytes_eq-Decides k n).0 t) ∙ sym (before n) ∙ old in
+        here ∙ sym (ap (λ q. or_at q (cond (bytes_eq k n) (Some (length ns)) None)) here)
+    by (inr e) = sym (or_at-none (place_in k ns)) ∙ sym (ap (λ b. or_at (place_in k ns) (cond b (Some (length ns)) None)) e)
+
 -- ---- distinct names
 
 is_in-push : (k : List ℕ) (ns : List (List ℕ)) (n : List ℕ) → is_in k ns ≡ false → bytes_eq k n ≡ false → is_in k (ns ++ n ∷ []) ≡ false
@@ -100,6 +111,12 @@ is_in-from_place k (m ∷ ns) p e = by (bytes_eq k m) (place_in k ns) e (is_in-f
 pub texts-push : (xs : List Ident) (x : Ident) → texts (xs ++ x ∷ []) ≡ texts xs ++ x.text ∷ []
 texts-push [] x = refl
 texts-push (y ∷ xs) x = ap (λ ns. y.text ∷ ns) (texts-push xs x)
+
+-- the texts of one item more
+pub texts_grown : {A : Type 0} (f : A → Ident) (items : List A) (at : ℕ) (item : A) → at < length items → item ≡ get_or items at item → texts (map f (take (at + 1) items)) ≡ texts (map f (take at items)) ++ (f item).text ∷ []
+texts_grown f items at item lt is =
+    ap texts (ap (map f) (take_more items at item lt) ∙ map_push f (take at items) (get_or items at item) ∙ ap (λ y. map f (take at items) ++ f y ∷ []) (sym is))
+    ∙ texts-push (map f (take at items)) (f item)
 
 pub length-texts : (xs : List Ident) → length (texts xs) ≡ length xs
 length-texts [] = refl

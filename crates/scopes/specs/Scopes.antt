@@ -5,4 +5,4 @@ use Rattle.scopes.specs.declared.scope.Scope.{Scope}
 
 -- the declarations of the source
 abbrev pub declared_in : Scope → List DeclaredItem
-declared_in scope = declarations_view scope.declarations.now
+declared_in scope = declarations_view scope.places.now.declarations.now

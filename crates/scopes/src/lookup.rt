@@ -39,5 +39,5 @@ pub fn resolve(
 {
     resolved_are_within();
     resolved_have_no_fault();
-    resolve_type(alloc, scope.places, ty)
+    resolve_type(alloc, &scope.places.by_name, ty)
 }

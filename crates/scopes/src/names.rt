@@ -63,6 +63,26 @@ pub fn places_of<T: Named>(
     Ok(places)
 }
 
+/// The place of each name; of several that are equal, that of the first.
+pub fn first_places<T: Named>(
+    alloc: Global,
+    items: &[T],
+) -> Result<BTreeMap<String, usize>, AllocError>
+    ensures { IfOk result (λ places. (name : List ℕ)
+        → get_by_text places name ≡ place_in name (texts (map T.ident_of items.now))) }
+{
+    let mut places = BTreeMap::new(alloc);
+    for at in 0..items.len() {
+        let name = items[at].ident().text.as_str();
+        if let Some(_) = places.get(name) {
+            continue;
+        }
+        let name = String::from_str(alloc, name)?;
+        let _ = places.insert(name, at).map_err(AllocError::from)?;
+    }
+    Ok(places)
+}
+
 /// The place of the name of each declaration, as `places_of`.
 pub fn declared_places(
     alloc: Global,

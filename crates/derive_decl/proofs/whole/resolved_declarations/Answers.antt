@@ -19,7 +19,7 @@ use Rattle.derive_decl.proofs.whole.resolved_declarations.Goals as goal
 pub returns-in_err-resolved_of-clause-refused : goal.returns-in_err-resolved_of-clause-refused
 returns-in_err-resolved_of-clause-refused c =
     let p = err_from_is_err_and c.from_residual.result c.from_residual.ensures.1 in
-    let items = c.args.declarations.now.items in
+    let items = c.args.places.now.declarations.now.items in
     let at = c.loop-owner.owner in
     let d = c.index-as_slice-owner.result in
     let lt : at < length items = omega arith in
@@ -27,56 +27,56 @@ returns-in_err-resolved_of-clause-refused c =
     rw (p.1, p.2)
     (elim c.in_err-resolved_of.ensures.refused [
       | inl memory ↦ inl memory
-      | inr fault ↦ inr (somewhere (λ x. IsFaultyItem (around_of c.args.config.now.renames (declarations_view c.args.declarations.now)) x c.in_err-resolved_of.field-0.0) declaration_view items at d lt is fault)
+      | inr fault ↦ inr (somewhere (λ x. IsFaultyItem (around_of c.args.config.now.renames (declarations_view c.args.places.now.declarations.now)) x c.in_err-resolved_of.field-0.0) declaration_view items at d lt is fault)
     ])
 
 pub loop-owner-preserved : goal.loop-owner-preserved
 loop-owner-preserved c =
-    let items = c.args.declarations.now.items in
+    let items = c.args.places.now.declarations.now.items in
     let at = c.loop-owner.owner in
     let d = c.index-as_slice-owner.result in
     let lt : at < length items = omega arith in
     let is : d ≡ get_or items at d = c.index-as_slice-owner.is ∙ ap (λ (xs : List Declaration). get_or xs at d) c.as_slice.ensures in
     rw c.in_ok-push.ensures.ok (
-      all_more (resolved_of (around_of c.args.config.now.renames (declarations_view c.args.declarations.now))) declaration_view resolved_view items at d c.loop-owner.resolved _ lt is c.loop-owner.invariant.0 c.in_ok-resolved_of.ensures.resolved,
+      all_more (resolved_of (around_of c.args.config.now.renames (declarations_view c.args.places.now.declarations.now))) declaration_view resolved_view items at d c.loop-owner.resolved _ lt is c.loop-owner.invariant.0 c.in_ok-resolved_of.ensures.resolved,
       subst MembersDiffer (sym (map_push resolved_view c.loop-owner.resolved _)) (differ-push (map resolved_view c.loop-owner.resolved) _ c.loop-owner.invariant.1 c.in_ok-resolved_of.ensures.distinct),
-      facts_more (λ x. RefusesNone (IsFaultyItem (around_of c.args.config.now.renames (declarations_view c.args.declarations.now)) x)) declaration_view items at d lt is c.loop-owner.invariant.2
+      facts_more (λ x. RefusesNone (IsFaultyItem (around_of c.args.config.now.renames (declarations_view c.args.places.now.declarations.now)) x)) declaration_view items at d lt is c.loop-owner.invariant.2
           c.in_ok-resolved_of.ensures.faultless,
     )
 
 pub resolved_of-requires : goal.resolved_of-requires
 resolved_of-requires c =
-    let items = c.args.declarations.now.items in
+    let items = c.args.places.now.declarations.now.items in
     let at = c.loop-owner.owner in
     let d = c.index-as_slice-owner.result in
     let lt : at < length items = omega arith in
     let is : d ≡ get_or items at d = c.index-as_slice-owner.is ∙ ap (λ (xs : List Declaration). get_or xs at d) c.as_slice.ensures in
-    fact_at (λ x. IsNamedBody x.body) declaration_view items at d lt is c.requires.named
+    fact_at (λ x. IsNamedBody x.body) declaration_view items at d lt is c.requires
 
 -- all of them, where the loop has ended
 pub returns-clause-resolved : goal.returns-clause-resolved
 returns-clause-resolved c =
-    let whole : take c.loop-owner.owner c.args.declarations.now.items ≡ c.args.declarations.now.items = grind (arith, common_steps) in
+    let whole : take c.loop-owner.owner c.args.places.now.declarations.now.items ≡ c.args.places.now.declarations.now.items = grind (arith, common_steps) in
     let rows = c.args.config.now.renames in
-    subst (λ ds. all_of (resolved_of (around_of rows (declarations_view c.args.declarations.now))) (map declaration_view ds) ≡ Some (map resolved_view c.loop-owner.resolved)) whole c.loop-owner.invariant.0
+    subst (λ ds. all_of (resolved_of (around_of rows (declarations_view c.args.places.now.declarations.now))) (map declaration_view ds) ≡ Some (map resolved_view c.loop-owner.resolved)) whole c.loop-owner.invariant.0
 
 pub returns-clause-names : goal.returns-clause-names
 returns-clause-names c =
-    let whole : take c.loop-owner.owner c.args.declarations.now.items ≡ c.args.declarations.now.items = grind (arith, common_steps) in
+    let whole : take c.loop-owner.owner c.args.places.now.declarations.now.items ≡ c.args.places.now.declarations.now.items = grind (arith, common_steps) in
     let rows = c.args.config.now.renames in
-    let ds = declarations_view c.args.declarations.now in
+    let ds = declarations_view c.args.places.now.declarations.now in
     names_are rows ds (map resolved_view c.loop-owner.resolved) (subst (λ xs. all_of (resolved_of (around_of rows ds)) (map declaration_view xs) ≡ Some (map resolved_view c.loop-owner.resolved)) whole c.loop-owner.invariant.0)
 
 pub returns-clause-within : goal.returns-clause-within
 returns-clause-within c =
-    let whole : take c.loop-owner.owner c.args.declarations.now.items ≡ c.args.declarations.now.items = grind (arith, common_steps) in
+    let whole : take c.loop-owner.owner c.args.places.now.declarations.now.items ≡ c.args.places.now.declarations.now.items = grind (arith, common_steps) in
     let rows = c.args.config.now.renames in
-    let ds = declarations_view c.args.declarations.now in
+    let ds = declarations_view c.args.places.now.declarations.now in
     all_within c.resolved_are_within.ensures rows ds (map resolved_view c.loop-owner.resolved) (subst (λ xs. all_of (resolved_of (around_of rows ds)) (map declaration_view xs) ≡ Some (map resolved_view c.loop-owner.resolved)) whole c.loop-owner.invariant.0)
 
 pub returns-clause-faultless : goal.returns-clause-faultless
 returns-clause-faultless c =
-    let whole : take c.loop-owner.owner c.args.declarations.now.items ≡ c.args.declarations.now.items = grind (arith, common_steps) in
-    let around = around_of c.args.config.now.renames (declarations_view c.args.declarations.now) in
-    none_somewhere (IsFaultyItem around) (declarations_view c.args.declarations.now)
+    let whole : take c.loop-owner.owner c.args.places.now.declarations.now.items ≡ c.args.places.now.declarations.now.items = grind (arith, common_steps) in
+    let around = around_of c.args.config.now.renames (declarations_view c.args.places.now.declarations.now) in
+    none_somewhere (IsFaultyItem around) (declarations_view c.args.places.now.declarations.now)
     (subst (λ xs. AllByRecursion (λ x. RefusesNone (IsFaultyItem around x)) (map declaration_view xs)) whole c.loop-owner.invariant.2)

@@ -11,6 +11,6 @@ use Rattle.derive_decl.proofs.whole.resolved_declarations.Given as goal
 -- the declarations so far are resolved, and none of them is at fault
 abbrev pub invariant-loop-owner : goal.invariant-loop-owner
 invariant-loop-owner l =
-    (all_of (resolved_of (around_of l.config.renames (declarations_view l.declarations))) (map declaration_view (take l.owner l.declarations.items)) ≡ Some (map resolved_view l.resolved))
+    (all_of (resolved_of (around_of l.config.renames (declarations_view l.places.declarations.now))) (map declaration_view (take l.owner l.places.declarations.now.items)) ≡ Some (map resolved_view l.resolved))
     × MembersDiffer (map resolved_view l.resolved)
-    × AllByRecursion (λ d. RefusesNone (IsFaultyItem (around_of l.config.renames (declarations_view l.declarations)) d)) (map declaration_view (take l.owner l.declarations.items))
+    × AllByRecursion (λ d. RefusesNone (IsFaultyItem (around_of l.config.renames (declarations_view l.places.declarations.now)) d)) (map declaration_view (take l.owner l.places.declarations.now.items))

@@ -18,27 +18,27 @@ IfOk-both (Err e) P Q R f p q = tt
 
 pub returns-clause-resolved : goal.returns-clause-resolved
 returns-clause-resolved c =
-    subst (λ place_of. IfOk c.resolve_type.result (λ t. type_of place_of (written_view c.args.ty.now) ≡ Some (open_view t))) (fun_ext c.args.scope.now.placed) c.resolve_type.ensures.resolved
+    subst (λ place_of. IfOk c.resolve_type.result (λ t. type_of place_of (written_view c.args.ty.now) ≡ Some (open_view t))) (fun_ext c.args.scope.now.places.now.placed) c.resolve_type.ensures.resolved
 
 pub returns-clause-faultless : goal.returns-clause-faultless
 returns-clause-faultless c =
-    subst (λ place_of. IfOk c.resolve_type.result (λ _. (fault : Fault) → ¬ IsFault place_of (written_view c.args.ty.now) fault)) (fun_ext c.args.scope.now.placed)
+    subst (λ place_of. IfOk c.resolve_type.result (λ _. (fault : Fault) → ¬ IsFault place_of (written_view c.args.ty.now) fault)) (fun_ext c.args.scope.now.places.now.placed)
     (IfOk-both c.resolve_type.result _ _ _
-    (λ t found small. c.resolved_have_no_fault.ensures (get_by_text c.args.scope.now.places.now) (written_view c.args.ty.now) (open_view t) found small)
+    (λ t found small. c.resolved_have_no_fault.ensures (get_by_text c.args.scope.now.places.now.by_name) (written_view c.args.ty.now) (open_view t) found small)
     c.resolve_type.ensures.resolved c.resolve_type.ensures.small)
 
 pub returns-clause-within : goal.returns-clause-within
 returns-clause-within c =
     let ds = declared_in c.args.scope.now in
-    let place_of = get_by_text c.args.scope.now.places.now in
+    let place_of = get_by_text c.args.scope.now.places.now.by_name in
     IfOk-weaker c.resolve_type.result _ _
-    (λ t found. c.resolved_are_within.ensures place_of (length ds) (λ k d is. placed ds k d (sym (c.args.scope.now.placed k) ∙ is)) (written_view c.args.ty.now) (open_view t) found)
+    (λ t found. c.resolved_are_within.ensures place_of (length ds) (λ k d is. placed ds k d (sym (c.args.scope.now.places.now.placed k) ∙ is)) (written_view c.args.ty.now) (open_view t) found)
     c.resolve_type.ensures.resolved
 
 pub returns-clause-closed : goal.returns-clause-closed
 returns-clause-closed c =
-    IfOk-weaker c.resolve_type.result _ _ (λ t found. type_closed (get_by_text c.args.scope.now.places.now) (written_view c.args.ty.now) (open_view t) found) c.resolve_type.ensures.resolved
+    IfOk-weaker c.resolve_type.result _ _ (λ t found. type_closed (get_by_text c.args.scope.now.places.now.by_name) (written_view c.args.ty.now) (open_view t) found) c.resolve_type.ensures.resolved
 
 pub returns-clause-refused : goal.returns-clause-refused
 returns-clause-refused c =
-    subst (λ place_of. IfErr c.resolve_type.result (λ e. (e ≡ Memory) ⊎ ((fault : Fault) × IsFault place_of (written_view c.args.ty.now) fault × IsRefusedFor fault e))) (fun_ext c.args.scope.now.placed) c.resolve_type.ensures.refused
+    subst (λ place_of. IfErr c.resolve_type.result (λ e. (e ≡ Memory) ⊎ ((fault : Fault) × IsFault place_of (written_view c.args.ty.now) fault × IsRefusedFor fault e))) (fun_ext c.args.scope.now.places.now.placed) c.resolve_type.ensures.refused

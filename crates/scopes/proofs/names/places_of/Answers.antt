@@ -3,14 +3,14 @@ use Rattle.std.specs.BTreeMap.{get_by_text, UpdatesBy}
 use Rattle.std.specs.String.{string_cmp}
 use Rattle.std.specs.Map.{update}
 use Rattle.std.specs.Cmp.Lexicographic.{slice_cmp}
-use Rattle.std.proofs.lemmas.List.{take_more, map_push, length-map, length-take-le}
+use Rattle.std.proofs.lemmas.List.{length-map, length-take-le}
 use Rattle.std.proofs.lemmas.Grind.{common_steps}
 use Rattle.std.proofs.lemmas.Map.Text.{btree_map_updates_text}
 use Rattle.diag.specs.Refusal.{IsRefusal}
 use Rattle.diag.specs.declared.kind.Kind.TheVariants.{DuplicateName}
 use Rattle.texts.specs.Names.{IsDistinct, place_in}
 use Rattle.scopes.specs.Names.{texts, duplicate_message}
-use Rattle.scopes.proofs.PlaceLaws.{places_more, distinct-push, is_in-from_place, texts-push, length-texts, map-split, none_from, ok_before, distinct_once}
+use Rattle.scopes.proofs.PlaceLaws.{places_more, distinct-push, is_in-from_place, texts_grown, length-texts, map-split, none_from, ok_before, distinct_once}
 use Rattle.scopes.proofs.names.places_of.Goals as goal
 
 pub returns-in-Some-clause-refused : goal.returns-in-Some-clause-refused
@@ -55,8 +55,7 @@ loop-at-preserved g c =
     let name : string_bytes c.in_ok-name.name ≡ x.text = c.in_ok-name.ensures.ok ∙ c.as_str.ensures ∙ ap (λ i. i.text) c.ident-ident.ensures in
     let none : c.in_ok-map_err.field-0 ≡ None = none_from c.in_ok-map_err.field-0 c.in_default.not-Some in
     let old : get_by_text c.loop-at.places (string_bytes c.in_ok-name.name) ≡ None = sym (subst (λ r. IfOk r (λ o. o ≡ get_by_text c.loop-at.places (string_bytes c.in_ok-name.name))) ok c.insert.ensures.old) ∙ none in
-    let grown : map f (take (at + 1) items) ≡ map f (take at items) ++ x ∷ [] = ap (map f) (take_more items at c.index-items-at.result lt) ∙ map_push f (take at items) (get_or items at c.index-items-at.result) ∙ ap (λ y. map f (take at items) ++ f y ∷ []) (sym c.index-items-at.is) in
-    let here : texts (map f (take (at + 1) items)) ≡ ns ++ x.text ∷ [] = ap texts grown ∙ texts-push (map f (take at items)) x in
+    let here : texts (map f (take (at + 1) items)) ≡ ns ++ x.text ∷ [] = texts_grown f items at c.index-items-at.result lt c.index-items-at.is in
     let many : length ns ≡ at = length-texts (map f (take at items)) ∙ length-map (take at items) f ∙ length-take-le at items (omega arith) in
     let new : get_by_text c.loop-at.places x.text ≡ None = ap (get_by_text c.loop-at.places) (sym name) ∙ old in
     let after : (k : List ℕ) → get_by_text c.insert.new.self k ≡ update bytes_eq (get_by_text c.loop-at.places) x.text (Some (length ns)) k =
