@@ -1,14 +1,13 @@
 //! The schemas of declarations.
 
-
 use crate::structs::struct_text;
 use crate::terms::term_text;
 use component::ToTerm;
-use derive_decl::{NamedStructSchema, Root, Schema, UnitStructVariant, UnnamedStructSchema};
+use derive_decl::{Root, Schema, SchemaVariant};
 use diag::DeriveError;
 use open_types::OpenType;
 use std::alloc::{AllocError, Global};
-use syntax::{Body, Field, Fields};
+use syntax::Body;
 
 /// What is asked of a declaration.
 #[derive(Clone, Copy)]
@@ -19,12 +18,8 @@ pub(crate) enum OfDeclaration {
     Resolved,
     /// The JSON of that struct's schema.
     StructTerm,
-    /// The JSON of the schema of its fields as named ones.
-    NamedStruct,
-    /// The JSON of the schema of its fields as unnamed ones.
-    UnnamedStruct,
-    /// The JSON of the schema of a struct without fields.
-    UnitStruct,
+    /// The JSON of the schema of its body.
+    Form,
 }
 
 fn types_text(alloc: Global, types: &[OpenType]) -> Result<String, AllocError> {
@@ -36,14 +31,6 @@ fn types_text(alloc: Global, types: &[OpenType]) -> Result<String, AllocError> {
         text.push_str(format!(in alloc; "{ty:?}")?.as_str())?;
     }
     Ok(text)
-}
-
-fn fields_of(body: &Body) -> &[Field] {
-    let Body::Struct(fields) = body;
-    match fields {
-        Fields::Named(fields) | Fields::Unnamed(fields) => fields.as_slice(),
-        Fields::Unit => &[],
-    }
 }
 
 /// The JSON of what has a term.
@@ -61,18 +48,12 @@ pub(crate) fn of_declaration(
     body: &Body,
 ) -> Result<String, DeriveError> {
     let schema = Schema::new(body, root.attributes, root.ident, root.container);
-    let fields = fields_of(body);
     match question {
         OfDeclaration::PlaceTypes => {
             Ok(types_text(alloc, schema.place_types(alloc)?.as_slice())?)
         }
         OfDeclaration::Resolved => Ok(struct_text(alloc, &schema.resolve(alloc)?)?),
         OfDeclaration::StructTerm => text_of(alloc, &schema.resolve(alloc)?),
-        OfDeclaration::NamedStruct => text_of(alloc, &NamedStructSchema::new(alloc, root, fields)?),
-        OfDeclaration::UnnamedStruct => text_of(
-            alloc,
-            &UnnamedStructSchema::new(alloc, root, fields)?,
-        ),
-        OfDeclaration::UnitStruct => text_of(alloc, &UnitStructVariant::new(alloc, root)?),
+        OfDeclaration::Form => text_of(alloc, &SchemaVariant::new(alloc, body, root)?),
     }
 }

@@ -65,9 +65,7 @@ fn question(call: &str) -> anyhow::Result<OfFirst> {
         "place_types" => Ok(OfFirst::Declaration(OfDeclaration::PlaceTypes)),
         "resolve" => Ok(OfFirst::Declaration(OfDeclaration::Resolved)),
         "struct_term" => Ok(OfFirst::Declaration(OfDeclaration::StructTerm)),
-        "named_struct" => Ok(OfFirst::Declaration(OfDeclaration::NamedStruct)),
-        "unnamed_struct" => Ok(OfFirst::Declaration(OfDeclaration::UnnamedStruct)),
-        "unit_struct" => Ok(OfFirst::Declaration(OfDeclaration::UnitStruct)),
+        "form" => Ok(OfFirst::Declaration(OfDeclaration::Form)),
         other => bail!("no call {other}"),
     }
 }

@@ -1,10 +1,5 @@
 //! Sources, and what is asked of them.
 
-ghost use Rattle.std.specs.Prelude.{◌≡◌, ℕ, List};
-ghost use Rattle.std.specs.BTreeMap.{get_by_text};
-ghost use Rattle.scopes.specs.Names.{place_among};
-ghost use Rattle.syntax.specs.Items.{declarations_view};
-
 use crate::declared::{OfDeclaration, of_declaration};
 use crate::places::{OfPlace, of_place};
 use crate::structs::structs_text;
@@ -12,11 +7,10 @@ use configuration::Config;
 use derive_decl::{Root, resolved_declarations};
 use diag::DeriveError;
 use rows::refusal_text;
-use scopes::{Container, Scope, declared_places};
+use scopes::{Container, Places, Scope, declared_places};
 use serde_json::Value;
 use std::alloc::Global;
-use std::collections::BTreeMap;
-use syntax::{Declarations, parse_declarations};
+use syntax::parse_declarations;
 
 /// The source of a row that gives none.
 const SOURCE: &str = "struct A { x: u8 } struct B { y: u8 }";
@@ -34,20 +28,14 @@ pub(crate) enum OfFirst {
 fn first(
     alloc: Global,
     question: OfFirst,
-    declarations: &Declarations,
-    places: &BTreeMap<String, usize>,
+    places: &Places<'_>,
     given: &Value,
 ) -> Result<String, DeriveError>
-    requires { (name : List ℕ) → get_by_text places.now name ≡ place_among (declarations_view declarations.now) name }
 {
-    let [first, ..] = declarations.items.as_slice() else {
+    let [first, ..] = places.declarations.items.as_slice() else {
         return Ok(String::from_str(alloc, "no declaration")?);
     };
-    let scope = Scope {
-        declarations: &*declarations,
-        places: &*places,
-        owner: 0,
-    };
+    let scope = Scope::new(&*places, 0);
     let config = Config::new(alloc);
     let container = Container {
         scope: &scope,
@@ -67,13 +55,11 @@ fn first(
 /// The structs of all declarations.
 fn structs(
     alloc: Global,
-    declarations: &Declarations,
-    places: &BTreeMap<String, usize>,
+    places: &Places<'_>,
 ) -> Result<String, DeriveError>
-    requires { (name : List ℕ) → get_by_text places.now name ≡ place_among (declarations_view declarations.now) name }
 {
     let config = Config::new(alloc);
-    let structs = resolved_declarations(alloc, declarations, places, &config)?;
+    let structs = resolved_declarations(alloc, places, &config)?;
     Ok(structs_text(alloc, structs.as_slice())?)
 }
 
@@ -84,10 +70,14 @@ pub(crate) fn of_source(
     given: &Value,
 ) -> anyhow::Result<String> {
     let declarations = parse_declarations(alloc, given.as_str().unwrap_or(SOURCE))?;
-    let places = declared_places(alloc, &declarations)?;
+    let by_name = declared_places(alloc, &declarations)?;
+    let places = Places {
+        declarations: &declarations,
+        by_name,
+    };
     let told = match question {
-        Some(question) => first(alloc, question, &declarations, &places, given),
-        None => structs(alloc, &declarations, &places),
+        Some(question) => first(alloc, question, &places, given),
+        None => structs(alloc, &places),
     };
     match told {
         Ok(text) => Ok(text),

@@ -12,7 +12,7 @@ use open_types::{ClosedType, OpenType, closed_types_stay, substitute};
 use resolving::{resolve_type, resolved_have_no_fault};
 use rows::given::{count_of, pair_of, text_of};
 use rows::refusal_text;
-use scopes::{Scope, declared_places, resolve};
+use scopes::{Places, Scope, declared_places, resolve};
 use serde_json::Value;
 use std::alloc::{AllocError, Global};
 use std::collections::BTreeMap;
@@ -29,13 +29,11 @@ pub(crate) fn resolve_in(
     ensures closed { IfOk result (λ t. IsClosed (open_view t)) }
     ensures within { IfOk result (λ t. IsWithin (length (declarations_view declarations.now)) (open_view t)) }
 {
-    let places = declared_places(alloc, declarations)?;
-    let scope = Scope {
+    let places = Places {
         declarations,
-        places: &places,
-        owner: 0,
+        by_name: declared_places(alloc, declarations)?,
     };
-    resolve(alloc, &scope, ty, &Config::new(alloc))
+    resolve(alloc, &Scope::new(&places, 0), ty, &Config::new(alloc))
 }
 
 /// The type, which has no parameters.

@@ -1,8 +1,5 @@
 //! Terms of declarations and of places, of which an answer has the forms.
 
-ghost use Rattle.std.specs.Prelude.{◌≡◌, ℕ, List as Items};
-ghost use Rattle.std.specs.BTreeMap.{get_by_text};
-ghost use Rattle.scopes.specs.Names.{place_among};
 ghost use Rattle.syntax.specs.Items.{declaration_view, declarations_view};
 ghost use Rattle.syntax.specs.Named.{AreNamed, IsNamedBody};
 
@@ -14,11 +11,10 @@ use place_schemas::{ComponentSchema, ComponentSchemaProps};
 use rows::given::{is_said, pair_of, text_of};
 use rows::refusal_text;
 use schema_core::Tree;
-use scopes::{ComponentDescription, Container, Scope, declared_places};
+use scopes::{ComponentDescription, Container, Places, Scope};
 use serde_json::Value;
 use std::alloc::{AllocError, Global};
-use std::collections::BTreeMap;
-use syntax::{CommentAttributes, Declaration, Declarations, parse_declarations, parse_type};
+use syntax::{CommentAttributes, Declaration, parse_declarations, parse_type};
 use texts::List;
 use type_tree::TypeTree;
 
@@ -122,22 +118,15 @@ fn of_place(
 fn of_first(
     alloc: Global,
     call: &str,
-    declarations: &Declarations,
-    places: &BTreeMap<String, usize>,
+    places: &Places<'_>,
     given: &Value,
 ) -> Result<String, DeriveError>
-    requires places { (name : Items ℕ)
-        → get_by_text places.now name ≡ place_among (declarations_view declarations.now) name }
-    requires named { AreNamed (declarations_view declarations.now) }
+    requires { AreNamed (declarations_view places.now.declarations.now) }
 {
-    let [first, ..] = declarations.items.as_slice() else {
+    let [first, ..] = places.declarations.items.as_slice() else {
         return Ok(String::from_str(alloc, "no declaration")?);
     };
-    let scope = Scope {
-        declarations: &*declarations,
-        places: &*places,
-        owner: 0,
-    };
+    let scope = Scope::new(&*places, 0);
     let config = Config::new(alloc);
     let container = Container {
         scope: &scope,
@@ -154,8 +143,8 @@ pub(crate) fn of_source(alloc: Global, call: &str, given: &Value) -> anyhow::Res
     let (source, given) = pair_of(given)?;
     syntax::read_fields_are_named();
     let declarations = parse_declarations(alloc, text_of(source)?)?;
-    let places = declared_places(alloc, &declarations)?;
-    let told = match of_first(alloc, call, &declarations, &places, given) {
+    let places = Places::new(alloc, &declarations)?;
+    let told = match of_first(alloc, call, &places, given) {
         Ok(text) => Ok(text),
         Err(error) => refusal_text(alloc, &error),
     };

@@ -1,5 +1,5 @@
 -- The schema of a place by its type (JSON Schema 2020-12; OpenAPI 3.1, "Schema Object"), over parameters and declarations.
-use Rattle.std.specs.Prelude.{ℕ, List, [], Bool, true, false, cond, ℤ, pos, Option, Some, None}
+use Rattle.std.specs.Prelude.{ℕ, List, Bool, true, false, cond, ℤ, pos, Option, Some, None}
 use Rattle.schema_core.specs.declared.tree.SchemaTypeInner.{SchemaTypeInner}
 use Rattle.schema_core.specs.declared.tree.SchemaTypeInner.TheVariants as word
 use Rattle.schema_core.specs.declared.tree.TypeWord.{TypeWord}

@@ -1,5 +1,4 @@
 pub mod Along
 pub mod Bounded
-pub mod First
 pub mod Terms
 pub mod TypesFound

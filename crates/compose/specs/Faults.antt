@@ -1,47 +1,25 @@
 -- Why declarations have no components: an attribute that nothing is derived from, a name that two declarations have, a declaration at fault, or what is beyond a bound.
-use Rattle.std.specs.Prelude.{◌≡◌, ◌⊎◌, ◌||◌, ℕ, List, [], ◌∷◌, ◌++◌, Bool, Option, Some, None, cond, codes}
-use Rattle.std.specs.List.{flat_map}
-use Rattle.diag.specs.Refusal.{IsSyntaxRefusal, RefusesNone}
+use Rattle.std.specs.Prelude.{◌≡◌, ◌⊎◌, ℕ, List, Some}
+use Rattle.diag.specs.Refusal.{RefusesNone}
 use Rattle.diag.specs.declared.error.DeriveError.{DeriveError}
 use Rattle.texts.specs.declared.span.Span.{Span}
 use Rattle.diag.specs.declared.rename_row.RenameRow.{RenameRow}
 use Rattle.schema_core.specs.Document.{Entry}
-use Rattle.attributes.specs.Attributes.{AttributeItem, is_word}
-use Rattle.serde_rules.specs.Items.{has_item}
 use Rattle.syntax.specs.Items.{DeclaredItem}
 use Rattle.syntax.specs.Source.{Reads, IsUnreadable, IsTooDeep, NestsTooDeep}
 use Rattle.scopes.specs.Names.{declared_idents, IsGivenTwice}
 use Rattle.configuration.specs.Configuration.{Configuration}
 use Rattle.shapes.specs.Declarations.{DeclarationOf}
-use Rattle.derive_decl.specs.Faults.{body_fields, AreFaultyItems}
+use Rattle.derive_decl.specs.Faults.{attributes_among, first_other, IsUnderivable, AreFaultyItems}
 use Rattle.derive_decl.specs.Whole.{resolved_declarations}
 use Rattle.closing.specs.Described.{IsApart, AreComponents}
 use Rattle.compose.specs.Bounds.{AreBounded, IsUnbounded}
 
--- the attributes of declarations and their fields, in order
-abbrev pub attributes_in : DeclaredItem → List AttributeItem
-attributes_in d = d.attrs ++ flat_map (λ f. f.attrs) (body_fields d.body)
-
-abbrev pub attributes_of : List DeclaredItem → List AttributeItem
-attributes_of ds = flat_map attributes_in ds
-
--- an attribute of `schema` or `repr`, or a serde list that flattens: nothing is derived from these
-abbrev pub is_other : AttributeItem → Bool
-is_other a = is_word (codes "schema") a.path || is_word (codes "repr") a.path || has_item (codes "flatten") a.items
-
--- where the first of these stands
-abbrev pub first_other : List AttributeItem → Option Span
-first_other [] = None
-first_other (a ∷ others) = cond (is_other a) (Some a.span) (first_other others)
-
+-- nothing is derived from an attribute of the declarations, and the first of these stands at the span
 abbrev pub IsAttributed : List DeclaredItem → Span → Type 0
-IsAttributed ds span = first_other (attributes_of ds) ≡ Some span
+IsAttributed ds span = first_other (attributes_among ds) ≡ Some span
 
 -- ---- the answers
-
--- the error refuses an attribute that nothing is derived from, the first of them
-abbrev pub IsUnderivable : List DeclaredItem → DeriveError → Type 0
-IsUnderivable ds e = (span : Span) × IsAttributed ds span × IsSyntaxRefusal span e
 
 -- the error refuses a name that two declarations have, or a declaration that is at fault
 abbrev pub AreFaulty : List RenameRow → List DeclaredItem → DeriveError → Type 0
@@ -49,7 +27,7 @@ AreFaulty rows ds e = IsGivenTwice (declared_idents ds) e ⊎ AreFaultyItems row
 
 -- the error refuses the declarations for an attribute that nothing is derived from, or else for a fault
 abbrev pub AreAtFault : List RenameRow → List DeclaredItem → DeriveError → Type 0
-AreAtFault rows ds e = IsUnderivable ds e ⊎ (((span : Span) → ¬ IsAttributed ds span) × AreFaulty rows ds e)
+AreAtFault rows ds e = IsUnderivable (attributes_among ds) e ⊎ (((span : Span) → ¬ IsAttributed ds span) × AreFaulty rows ds e)
 
 -- Something is derived from each attribute of the declarations, and there is no fault, where names become what the rows say.
 pub record AreClear (rows : List RenameRow) (ds : List DeclaredItem) : Type 0 where

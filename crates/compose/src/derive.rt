@@ -16,12 +16,11 @@ ghost use Rattle.compose.specs.Faults.{AreAtFault, IsDerived, IsRefused};
 ghost use Rattle.compose.specs.Settled.{IsSettled};
 ghost use Rattle.compose.specs.Types.{AreTypesOf};
 
-use crate::attributed::only_derivable;
 use crate::bounds::inline_order_of;
 use crate::types::types_of;
 use closing::{components_of, inlining_of, terms_of};
 use configuration::Config;
-use derive_decl::{Resolved, resolved_declarations};
+use derive_decl::{Resolved, only_derivable, resolved_declarations};
 use diag::DeriveError;
 use open_types::ClosedType;
 use schema_core::Components;

@@ -2,7 +2,6 @@
 //! on instances: how many are reachable, how deep their schemas are inlined, and how many copies that makes.
 #![tactic(auto)]
 
-mod attributed;
 mod bounds;
 mod derive;
 mod law;

@@ -1,4 +1,5 @@
 pub mod Alike
+pub mod First
 pub mod Growing
 pub mod Members
 pub mod Rules

@@ -1,17 +1,20 @@
--- Why a declaration has no schema: serde's items that contradict each other or name a rename rule that there is not, a name that has no row or that two fields have, a type that stands for nothing or is too large, a form of unnamed fields without a field.
-use Rattle.std.specs.Prelude.{◌≡◌, ◌⊎◌, ℕ, List, [], ◌++◌, Option, Some, None, codes}
-use Rattle.diag.specs.Refusal.{IsRefusal}
+-- Why a declaration has no schema: an attribute that nothing is derived from, serde's items that contradict each other or name a rename rule that there is not, a name that has no row or that two fields have, a type that stands for nothing or is too large, a form of unnamed fields without a field.
+use Rattle.std.specs.Prelude.{◌≡◌, ◌⊎◌, ◌||◌, ℕ, List, [], ◌∷◌, ◌++◌, Bool, cond, Option, Some, None, codes}
+use Rattle.std.specs.List.{flat_map}
+use Rattle.diag.specs.Refusal.{IsRefusal, IsSyntaxRefusal}
 use Rattle.diag.specs.declared.error.DeriveError.{DeriveError}
 use Rattle.diag.specs.declared.kind.Kind.TheVariants.{MissingRow, Arity}
 use Rattle.diag.specs.declared.rename_rule.RenameRule.{RenameRule}
 use Rattle.diag.specs.declared.rename_row.RenameRow.{RenameRow}
 use Rattle.diag.specs.RenameRules.{name_of}
 use Rattle.texts.specs.Lists.{Somewhere}
+use Rattle.texts.specs.declared.span.Span.{Span}
 use Rattle.written_types.specs.declared.written.Ident.{Ident}
-use Rattle.attributes.specs.Attributes.{serde_items}
+use Rattle.attributes.specs.Attributes.{AttributeItem, is_word, serde_items}
 use Rattle.attributes.specs.declared.serde_item.SerdeItem.{SerdeItem}
 use Rattle.serde_rules.specs.declared.value.SerdeValue.{SerdeValue}
 use Rattle.serde_rules.specs.Container.{IsContainerRefusal}
+use Rattle.serde_rules.specs.Items.{has_item}
 use Rattle.syntax.specs.Items.{FieldItem, FieldItems, named, unnamed, unit, BodyItem, struct_body, DeclaredItem}
 use Rattle.resolving.specs.Resolved.{Fault, IsFault, IsRefusedFor}
 use Rattle.scopes.specs.Names.{IsGivenTwice}
@@ -26,6 +29,25 @@ fields_in unit = []
 abbrev pub body_fields : BodyItem → List FieldItem
 body_fields (struct_body fs) = fields_in fs
 
+-- the attributes of a declaration and its fields, in order
+abbrev pub attributes_with : List AttributeItem → BodyItem → List AttributeItem
+attributes_with attrs body = attrs ++ flat_map (λ f. f.attrs) (body_fields body)
+
+abbrev pub attributes_in : DeclaredItem → List AttributeItem
+attributes_in d = attributes_with d.attrs d.body
+
+abbrev pub attributes_among : List DeclaredItem → List AttributeItem
+attributes_among ds = flat_map attributes_in ds
+
+-- an attribute of `schema` or `repr`, or a serde list that flattens: nothing is derived from these
+abbrev pub is_other : AttributeItem → Bool
+is_other a = is_word (codes "schema") a.path || is_word (codes "repr") a.path || has_item (codes "flatten") a.items
+
+-- where the first of these stands
+abbrev pub first_other : List AttributeItem → Option Span
+first_other [] = None
+first_other (a ∷ others) = cond (is_other a) (Some a.span) (first_other others)
+
 abbrev pub fieldless_message : List ℕ
 fieldless_message = codes "a tuple form without a field"
 
@@ -33,6 +55,10 @@ abbrev pub row_message : RenameRule → List ℕ → List ℕ
 row_message rule name = codes "no row for " ++ (name_of rule ++ (codes " of " ++ name))
 
 -- ---- the answers
+
+-- the error refuses an attribute that nothing is derived from, the first of them
+abbrev pub IsUnderivable : List AttributeItem → DeriveError → Type 0
+IsUnderivable attrs e = (span : Span) × (first_other attrs ≡ Some span) × IsSyntaxRefusal span e
 
 -- the error refuses the field's type
 abbrev pub IsFaultyType : Around → FieldItem → DeriveError → Type 0
@@ -71,12 +97,16 @@ AreFaulty around items x (named fs) e = AreFaultyNamed around items fs e
 AreFaulty around items x (unnamed fs) e = AreFaultyTypes around x fs e
 AreFaulty around items x unit e = ⊥
 
--- the error refuses the declaration of the name, before which serde's items stand
+-- the error refuses the body of the declaration of the name, before which serde's items stand
 abbrev pub IsFaultyBody : Around → List SerdeItem → Ident → BodyItem → DeriveError → Type 0
 IsFaultyBody around items x (struct_body fs) e = AreFaulty around items x fs e
 
+-- the error refuses the declaration of these attributes and the name: for an attribute, or its body
+abbrev pub IsFaultyDeclaration : Around → List AttributeItem → Ident → BodyItem → DeriveError → Type 0
+IsFaultyDeclaration around attrs x body e = IsUnderivable (attributes_with attrs body) e ⊎ IsFaultyBody around (serde_items attrs) x body e
+
 abbrev pub IsFaultyItem : Around → DeclaredItem → DeriveError → Type 0
-IsFaultyItem around d e = IsFaultyBody around (serde_items d.attrs) d.ident d.body e
+IsFaultyItem around d e = IsFaultyDeclaration around d.attrs d.ident d.body e
 
 -- the error refuses one of the declarations
 abbrev pub AreFaultyItems : List RenameRow → List DeclaredItem → DeriveError → Type 0

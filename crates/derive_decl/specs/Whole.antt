@@ -9,13 +9,13 @@ use Rattle.syntax.specs.Items.{BodyItem, DeclaredItem}
 use Rattle.shapes.specs.Declarations.{DeclarationOf, names_of}
 use Rattle.derive_decl.specs.Fields.{field_rules}
 use Rattle.derive_decl.specs.Resolved.{Around, around_of, all_of, body_form, declaration_from, resolved_of}
-use Rattle.derive_decl.specs.Faults.{IsFaultyBody}
+use Rattle.derive_decl.specs.Faults.{IsFaultyDeclaration}
 
 -- This is what a declaration of these attributes, this name and this body is resolved to: its members have different names, and nothing of it is at fault.
 pub record IsResolved (around : Around) (attributes : List AttributeItem) (x : Ident) (body : BodyItem) (of : DeclarationOf) : Type 0 where
   pub resolved : option_map (declaration_from attributes x) (body_form around (field_rules (serde_items attributes)) body) ≡ Some of
   pub distinct : IsDistinct (names_of of.form)
-  pub faultless : RefusesNone (IsFaultyBody around (serde_items attributes) x body)
+  pub faultless : RefusesNone (IsFaultyDeclaration around attributes x body)
 
 -- what all declarations are resolved to, where each type stands for something and each name has its row
 abbrev pub resolved_declarations : List RenameRow → List DeclaredItem → Option (List DeclarationOf)

@@ -1,6 +1,7 @@
 //! What written declarations are resolved to, by their attributes and the names around them, and why they may be refused.
 #![tactic(auto)]
 
+mod attributed;
 mod field_term;
 mod member;
 mod named_struct;
@@ -13,6 +14,7 @@ mod unit_struct;
 mod unnamed_struct;
 mod whole;
 
+pub use attributed::only_derivable;
 pub use member::Member;
 pub use named_struct::NamedStructSchema;
 pub use resolved::Resolved;

@@ -110,7 +110,7 @@ impl NamedStructSchema {
     /// A refusal is of kind `SerdeTag` or `BadValue`, for serde's attributes of the struct; or, of the fields that are
     /// kept, `UnknownType`, `Arity` or `TypeSize`, for the type of one; `MissingRow`, at an identifier whose name is that
     /// of a row that there is not; or `DuplicateName`, at the second identifier of two that have one name.
-    pub fn new(
+    pub(crate) fn new(
         alloc: Global,
         root: &Root<'_>,
         fields: &[Field],

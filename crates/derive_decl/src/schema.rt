@@ -52,9 +52,11 @@ impl<'a> Schema<'a> {
 
     /// The declaration with its types resolved.
     ///
-    /// A refusal is of kind `UnknownType`, `Arity` or `TypeSize`, for the type of a field; `Arity`, at the name of a
-    /// declaration whose form is unnamed fields without a field; or, of a struct with named fields, as that of
-    /// `NamedStructSchema::new`.
+    /// A refusal is of kind `Syntax`, at the first attribute of the declaration or its fields from which nothing is derived;
+    /// else `UnknownType`, `Arity` or `TypeSize`, for the type of a field; or `Arity`, at the name of a declaration whose
+    /// form is unnamed fields without a field. Of a struct with named fields it may be `SerdeTag` or `BadValue`, for serde's
+    /// attributes of the struct; or, of the fields that are kept, `MissingRow`, at an identifier whose name is that of a
+    /// row that there is not; or `DuplicateName`, at the first identifier whose name stands before it.
     pub fn resolve(&self, alloc: Global) -> Result<Resolved, DeriveError>
         requires { IsNamedBody (body_view self.now.body.now) }
         ensures resolved { IfOk result (λ s. ResolvesTo self.now (resolved_view s)) }

@@ -10,9 +10,10 @@ ghost use Rattle.shapes.specs.Declarations.{names_of};
 ghost use Rattle.shapes.specs.Terms.{form_term};
 ghost use Rattle.derive_decl.specs.Fields.{field_rules};
 ghost use Rattle.derive_decl.specs.Resolved.{form_of, body_form, remarks_of};
-ghost use Rattle.derive_decl.specs.Faults.{AreFaulty, IsFaultyBody};
+ghost use Rattle.derive_decl.specs.Faults.{AreFaulty, IsFaultyBody, IsFaultyDeclaration};
 ghost use Rattle.derive_decl.specs.Views.{attributes_of, items_of, known, variant_view, variant_remarks};
 
+use crate::attributed::derivable;
 use crate::named_struct::NamedStructSchema;
 use crate::root::Root;
 use crate::unit_struct::UnitStructVariant;
@@ -61,6 +62,27 @@ fn of_fields(alloc: Global, root: &Root<'_>, fields: &Fields) -> Result<SchemaVa
     }
 }
 
+/// The body of the declaration, of whose attributes none is looked at that nothing is derived from.
+fn of_body(alloc: Global, root: &Root<'_>, body: &Body) -> Result<SchemaVariant, DeriveError>
+    requires { IsNamedBody (body_view body.now) }
+    ensures form { IfOk result
+        (λ v. body_form (known root.now.container.now) (field_rules (items_of root.now))
+        (body_view body.now) ≡ Some (variant_view v)) }
+    ensures remarks { IfOk result (λ v. variant_remarks v ≡ remarks_of (attributes_of root.now)) }
+    ensures distinct { IfOk result (λ v. IsDistinct (names_of (variant_view v))) }
+    ensures faultless { IfOk result
+        (λ _. RefusesNone
+        (IsFaultyBody (known root.now.container.now) (items_of root.now) root.now.ident.now
+        (body_view body.now))) }
+    ensures refused { Refuses result
+        (IsFaultyBody (known root.now.container.now) (items_of root.now) root.now.ident.now
+        (body_view body.now)) }
+{
+    match body {
+        Body::Struct(fields) => of_fields(alloc, root, fields),
+    }
+}
+
 impl SchemaVariant {
     /// The body of the declaration, with its types resolved. It is refused as `Schema::resolve` says.
     pub fn new(alloc: Global, body: &Body, root: &Root<'_>) -> Result<SchemaVariant, DeriveError>
@@ -73,15 +95,14 @@ impl SchemaVariant {
         ensures distinct { IfOk result (λ v. IsDistinct (names_of (variant_view v))) }
         ensures faultless { IfOk result
             (λ _. RefusesNone
-            (IsFaultyBody (known root.now.container.now) (items_of root.now) root.now.ident.now
-            (body_view body.now))) }
+            (IsFaultyDeclaration (known root.now.container.now) (attributes_of root.now)
+            root.now.ident.now (body_view body.now))) }
         ensures refused { Refuses result
-            (IsFaultyBody (known root.now.container.now) (items_of root.now) root.now.ident.now
-            (body_view body.now)) }
+            (IsFaultyDeclaration (known root.now.container.now) (attributes_of root.now)
+            root.now.ident.now (body_view body.now)) }
     {
-        match body {
-            Body::Struct(fields) => of_fields(alloc, root, fields),
-        }
+        derivable(alloc, root.attributes, body)?;
+        of_body(alloc, root, body)
     }
 
     /// The schema of the body.

@@ -23,7 +23,7 @@ pub struct UnitStructVariant {
 
 impl UnitStructVariant {
     /// The struct of the declaration.
-    pub fn new(alloc: Global, root: &Root<'_>) -> Result<UnitStructVariant, DeriveError>
+    pub(crate) fn new(alloc: Global, root: &Root<'_>) -> Result<UnitStructVariant, DeriveError>
         ensures remarks { IfOk result (λ s. s.remarks ≡ remarks_of (attributes_of root.now)) }
         ensures refused { IfErr result (λ e. e ≡ DeriveError.Memory) }
     {

@@ -69,7 +69,7 @@ impl UnnamedStructSchema {
     ///
     /// A refusal is of kind `UnknownType`, `Arity` or `TypeSize`, for the type of a field; or `Arity`, at the name of the
     /// declaration, where there is no field.
-    pub fn new(
+    pub(crate) fn new(
         alloc: Global,
         root: &Root<'_>,
         fields: &[Field],

@@ -37,12 +37,12 @@ fn resolved_of(
     ensures refused { Refuses result
         (IsFaultyItem (known container.now) (declaration_view declaration.now)) }
 {
-    let schema = Schema::new(
-        &declaration.body,
-        declaration.attrs.as_slice(),
-        &declaration.ident,
+    let schema = Schema {
+        body: &declaration.body,
+        attributes: declaration.attrs.as_slice(),
+        ident: &declaration.ident,
         container,
-    );
+    };
     schema.resolve(alloc)
 }
 

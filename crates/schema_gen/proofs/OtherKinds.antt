@@ -27,7 +27,7 @@ use Rattle.configuration.specs.Form.{IsBadConfig}
 use Rattle.shapes.specs.Declarations.{DeclarationOf}
 use Rattle.derive_decl.specs.Fields.{FieldRules, field_rules, kept}
 use Rattle.derive_decl.specs.Resolved.{Around, around_of}
-use Rattle.derive_decl.specs.Faults.{IsFaultyName, IsFaultyType, IsFaultyMember, IsFaultyBody}
+use Rattle.derive_decl.specs.Faults.{IsFaultyName, IsFaultyType, IsFaultyMember, IsFaultyBody, IsFaultyItem}
 use Rattle.compose.specs.Bounds.{IsRefusalOf, IsUnbounded}
 use Rattle.compose.specs.Faults.{AreFaulty, AreAtFault, IsBeyond, IsRefused}
 use Rattle.schema_gen.specs.Refusals.{IsRefusedSource}
@@ -101,9 +101,13 @@ module _ (ds : List DiangosticsInner) (first : HasFirst ds (λ d. d.kind ≡ Bad
   body around items x (struct_body (unnamed fs)) (inr (none, is)) = other Arity _ _ (λ e. cc) is
   body around items x (struct_body unit) h = h
 
+  item : (around : Around) (d : DeclaredItem) → IsFaultyItem around d (Refused ds) → ⊥
+  item around d (inl (span, first, is)) = other Syntax _ _ (λ e. cc) is
+  item around d (inr h) = body around (serde_items d.attrs) d.ident d.body h
+
   faulty : (rows : List RenameRow) (items : List DeclaredItem) → AreFaulty rows items (Refused ds) → ⊥
   faulty rows items (inl h) = twice _ h
-  faulty rows items (inr h) = nowhere _ items (λ d. body (around_of rows items) (serde_items d.attrs) d.ident d.body) h
+  faulty rows items (inr h) = nowhere _ items (item (around_of rows items)) h
 
   declared : (c : Configuration) (items : List DeclaredItem) → AreAtFault c.renames items (Refused ds) ⊎ IsBeyond c items (Refused ds) → ⊥
   declared c items (inl (inl (span, attributed, is))) = other Syntax _ _ (λ e. cc) is

@@ -1,5 +1,5 @@
 -- Declarations over resolved types (the serde data model): with named fields, with unnamed ones, and without fields.
-use Rattle.std.specs.Prelude.{◌≡◌, ℕ, zero, suc, List, [], ◌∷◌, Bool, false, None}
+use Rattle.std.specs.Prelude.{ℕ, zero, suc, List, [], ◌∷◌, Bool, false, None}
 use Rattle.texts.specs.Names.{IsDistinct}
 use Rattle.open_types.specs.Open.{Open}
 use Rattle.open_types.specs.Within.{IsWithin}

@@ -4,9 +4,9 @@ use Rattle.attributes.specs.declared.attribute.Attribute.{Attribute}
 use Rattle.attributes.specs.Attributes.{AttributeItem, attribute_view}
 use Rattle.syntax.specs.declared.item.Field.{Field}
 use Rattle.syntax.specs.Items.{FieldItem, field_view}
-use Rattle.compose.specs.Faults.{first_other}
-use Rattle.compose.proofs.First.{first_here, first_later}
-use Rattle.compose.proofs.attributed.first_on_fields.Goals as goal
+use Rattle.derive_decl.specs.Faults.{first_other}
+use Rattle.derive_decl.proofs.First.{first_here, first_later}
+use Rattle.derive_decl.proofs.attributed.first_on_fields.Goals as goal
 
 abbrev parts : List Field → List AttributeItem
 parts fields = flat_map (λ (f : FieldItem). f.attrs) (map field_view fields)

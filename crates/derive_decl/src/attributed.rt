@@ -1,13 +1,12 @@
 //! Attributes that nothing is derived from.
 
-ghost use Rattle.std.specs.Prelude.{◌≡◌, [], ◌∷◌, map, IfOk};
+ghost use Rattle.std.specs.Prelude.{◌≡◌, [], ◌∷◌, map, IfOk, Some};
 ghost use Rattle.std.specs.List.{flat_map};
-ghost use Rattle.diag.specs.Refusal.{Refuses};
+ghost use Rattle.diag.specs.Refusal.{Refuses, RefusesNone};
 ghost use Rattle.texts.specs.declared.span.Span.{Span as AnySpan};
 ghost use Rattle.attributes.specs.Attributes.{attribute_view};
 ghost use Rattle.syntax.specs.Items.{field_view, body_view, declaration_view, declarations_view};
-ghost use Rattle.derive_decl.specs.Faults.{body_fields};
-ghost use Rattle.compose.specs.Faults.{attributes_in, attributes_of, is_other, first_other, IsAttributed, IsUnderivable};
+ghost use Rattle.derive_decl.specs.Faults.{body_fields, attributes_with, attributes_in, attributes_among, is_other, first_other, IsUnderivable};
 
 use diag::DeriveError;
 use serde_rules::has_item;
@@ -69,16 +68,23 @@ fn fields_of(body: &Body) -> &[Field]
 }
 
 #[tactic(auto, using(crate::proofs::First::first_joined))]
-fn first_in(declaration: &Declaration) -> Option<Span>
-    ensures { result ≡ first_other (attributes_in (declaration_view declaration.now)) }
+fn first_with(attributes: &[Attribute], body: &Body) -> Option<Span>
+    ensures { result ≡ first_other
+        (attributes_with (map attribute_view attributes.now) (body_view body.now)) }
 {
-    let before = first_other(declaration.attrs.as_slice());
-    let inside = first_on_fields(fields_of(&declaration.body));
+    let before = first_other(attributes);
+    let inside = first_on_fields(fields_of(body));
     before.or(inside)
 }
 
+fn first_in(declaration: &Declaration) -> Option<Span>
+    ensures { result ≡ first_other (attributes_in (declaration_view declaration.now)) }
+{
+    first_with(declaration.attrs.as_slice(), &declaration.body)
+}
+
 fn first_among(declarations: &[Declaration]) -> Option<Span>
-    ensures { result ≡ first_other (attributes_of (map declaration_view declarations.now)) }
+    ensures { result ≡ first_other (attributes_among (map declaration_view declarations.now)) }
 {
     for declaration in declarations {
         if let Some(span) = first_in(declaration) {
@@ -88,11 +94,31 @@ fn first_among(declarations: &[Declaration]) -> Option<Span>
     None
 }
 
-/// Refuses declarations that have an attribute from which nothing is derived, at the first one.
-pub(crate) fn only_derivable(alloc: Global, declarations: &Declarations) -> Result<(), DeriveError>
+/// Refuses a declaration of these attributes and this body that has an attribute from which nothing is derived, at the
+/// first one.
+pub(crate) fn derivable(
+    alloc: Global,
+    attributes: &[Attribute],
+    body: &Body,
+) -> Result<(), DeriveError>
+    ensures derivable { IfOk result (λ _. RefusesNone (IsUnderivable
+        (attributes_with (map attribute_view attributes.now) (body_view body.now)))) }
+    ensures refused { Refuses result (IsUnderivable
+        (attributes_with (map attribute_view attributes.now) (body_view body.now))) }
+{
+    match first_with(attributes, body) {
+        Some(span) => Err(DeriveError::syntax(alloc, span)),
+        None => Ok(()),
+    }
+}
+
+/// Refuses declarations that have an attribute from which nothing is derived, at the first one: one of `schema` or `repr`,
+/// or a serde list with an item `flatten`. The kind is `Syntax`.
+pub fn only_derivable(alloc: Global, declarations: &Declarations) -> Result<(), DeriveError>
     ensures derivable { IfOk result (λ _. (span : AnySpan)
-        → ¬ IsAttributed (declarations_view declarations.now) span) }
-    ensures refused { Refuses result (IsUnderivable (declarations_view declarations.now)) }
+        → ¬ (first_other (attributes_among (declarations_view declarations.now)) ≡ Some span)) }
+    ensures refused { Refuses result
+        (IsUnderivable (attributes_among (declarations_view declarations.now))) }
 {
     match first_among(declarations.items.as_slice()) {
         Some(span) => Err(DeriveError::syntax(alloc, span)),

@@ -3,7 +3,7 @@ use Rattle.std.proofs.Common.{◌≡◌, ◌∙◌, ◌<◌, ◌+◌, ℕ, suc, 
 use Rattle.std.specs.Option.{option_or}
 use Rattle.texts.specs.declared.span.Span.{Span}
 use Rattle.attributes.specs.Attributes.{AttributeItem}
-use Rattle.compose.specs.Faults.{is_other, first_other}
+use Rattle.derive_decl.specs.Faults.{is_other, first_other}
 
 pub first_joined : (xs ys : List AttributeItem) → first_other (xs ++ ys) ≡ option_or (first_other xs) (first_other ys)
 first_joined [] ys = refl

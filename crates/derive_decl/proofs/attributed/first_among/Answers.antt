@@ -2,12 +2,12 @@ use Rattle.std.proofs.Common.{List, map, refl}
 use Rattle.attributes.specs.Attributes.{AttributeItem}
 use Rattle.syntax.specs.declared.item.Declaration.{Declaration}
 use Rattle.syntax.specs.Items.{declaration_view}
-use Rattle.compose.specs.Faults.{attributes_in, attributes_of}
-use Rattle.compose.proofs.First.{first_here, first_later}
-use Rattle.compose.proofs.attributed.first_among.Goals as goal
+use Rattle.derive_decl.specs.Faults.{attributes_in, attributes_among}
+use Rattle.derive_decl.proofs.First.{first_here, first_later}
+use Rattle.derive_decl.proofs.attributed.first_among.Goals as goal
 
 abbrev parts : List Declaration → List AttributeItem
-parts declarations = attributes_of (map declaration_view declarations)
+parts declarations = attributes_among (map declaration_view declarations)
 
 abbrev part : Declaration → List AttributeItem
 part declaration = attributes_in (declaration_view declaration)

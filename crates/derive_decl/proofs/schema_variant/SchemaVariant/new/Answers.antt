@@ -1,0 +1,22 @@
+use Rattle.std.proofs.Common.{inl, inr}
+use Rattle.std.proofs.lemmas.Result.{IfErr-weaker, IfOk-weaker, err_from_is_err_and}
+use Rattle.derive_decl.proofs.schema_variant.SchemaVariant.new.Goals as goal
+
+pub returns-in_err-derivable-clause-refused : goal.returns-in_err-derivable-clause-refused
+returns-in_err-derivable-clause-refused c =
+    let p = err_from_is_err_and c.from_residual.result c.from_residual.ensures.1 in
+    rw (p.1, p.2)
+    (elim c.in_err-derivable.ensures.refused [
+      | inl memory ↦ inl memory
+      | inr other ↦ inr (inl other)
+    ])
+
+pub returns-clause-faultless : goal.returns-clause-faultless
+returns-clause-faultless c =
+    IfOk-weaker c.of_body.result _ _ (λ v none e fault. elim fault [ inl other ↦ c.in_ok-derivable.ensures.derivable e other | inr h ↦ none e h ])
+    c.of_body.ensures.faultless
+
+pub returns-clause-refused : goal.returns-clause-refused
+returns-clause-refused c =
+    IfErr-weaker c.of_body.result _ _ (λ e fault. elim fault [ inl memory ↦ inl memory | inr h ↦ inr (inr h) ])
+    c.of_body.ensures.refused
