@@ -19,7 +19,7 @@ pub(crate) enum OfDeclaration {
     /// The JSON of that struct's schema.
     StructTerm,
     /// The JSON of the schema of its body.
-    Form,
+    Body,
 }
 
 fn types_text(alloc: Global, types: &[OpenType]) -> Result<String, AllocError> {
@@ -54,6 +54,6 @@ pub(crate) fn of_declaration(
         }
         OfDeclaration::Resolved => Ok(struct_text(alloc, &schema.resolve(alloc)?)?),
         OfDeclaration::StructTerm => text_of(alloc, &schema.resolve(alloc)?),
-        OfDeclaration::Form => text_of(alloc, &SchemaVariant::new(alloc, body, root)?),
+        OfDeclaration::Body => text_of(alloc, &SchemaVariant::new(alloc, body, root)?),
     }
 }

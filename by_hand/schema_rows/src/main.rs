@@ -65,7 +65,7 @@ fn question(call: &str) -> anyhow::Result<OfFirst> {
         "place_types" => Ok(OfFirst::Declaration(OfDeclaration::PlaceTypes)),
         "resolve" => Ok(OfFirst::Declaration(OfDeclaration::Resolved)),
         "struct_term" => Ok(OfFirst::Declaration(OfDeclaration::StructTerm)),
-        "form" => Ok(OfFirst::Declaration(OfDeclaration::Form)),
+        "body" => Ok(OfFirst::Declaration(OfDeclaration::Body)),
         other => bail!("no call {other}"),
     }
 }

@@ -141,15 +141,19 @@ abbrev pub number_after : Option ℕ → List ℕ → List ℕ → Option ℕ
 number_after None text digits = number_in 10 text
 number_after (Some base) text digits = number_in base digits
 
--- a number without its suffix and signs _, which begins with a digit
+-- a number without its suffix and signs _
 abbrev pub unsuffixed : List ℕ → Option ℕ
 unsuffixed [] = None
-unsuffixed (b ∷ []) = cond (is_digit b) (number_in 10 (b ∷ [])) None
-unsuffixed (b ∷ c ∷ bs) = cond (b == 48) (number_after (base_of c) (b ∷ c ∷ bs) bs) (cond (is_digit b) (number_in 10 (b ∷ c ∷ bs)) None)
+unsuffixed (b ∷ []) = number_in 10 (b ∷ [])
+unsuffixed (b ∷ c ∷ bs) = cond (b == 48) (number_after (base_of c) (b ∷ c ∷ bs) bs) (number_in 10 (b ∷ c ∷ bs))
 
--- a number, perhaps with the name of an integer type; its signs _ count for nothing
+abbrev pub begins_with_digit : List ℕ → Bool
+begins_with_digit [] = false
+begins_with_digit (b ∷ bs) = is_digit b
+
+-- a number, which begins with a digit, and has perhaps the name of an integer type; its signs _ count for nothing
 abbrev pub whole_value : List ℕ → Option ℕ
-whole_value text = cond (is_integer_suffix (drop (suffix_place text) text)) (unsuffixed (plain (take (suffix_place text) text))) None
+whole_value text = cond (begins_with_digit text && is_integer_suffix (drop (suffix_place text) text)) (unsuffixed (plain (take (suffix_place text) text))) None
 
 -- ---- tokens
 

@@ -2,17 +2,23 @@
 
 ghost use Rattle.std.specs.Prelude.{◌≡◌, ◌+◌, ◌*◌, ◌^◌, ◌<◌, ◌≤◌, ◌==◌, ◌||◌, ◌∷◌, [], length, position, slice_index, MatchOption, SomeIff};
 ghost use Rattle.std.specs.Char.{digit_value};
-ghost use Rattle.literal_values.specs.Values.{is_integer_suffix, suffix_place, plain, number_in, unsuffixed, whole_value};
+ghost use Rattle.literal_values.specs.Values.{begins_with_digit, is_integer_suffix, suffix_place, plain, number_in, unsuffixed, whole_value};
 
 /// The number, where it is whole and at most 2^64 - 1. Signs `_` before its suffix count for nothing.
 pub fn whole_value(text: &str) -> Option<u64>
     ensures { result ≡ whole_value text.now }
 {
     let (number, suffix) = text.split_at(suffix_place(text));
-    if !is_integer_suffix(suffix) {
+    if !begins_with_digit(text) || !is_integer_suffix(suffix) {
         return None;
     }
     unsuffixed(number.as_bytes())
+}
+
+fn begins_with_digit(text: &str) -> bool
+    ensures { result ≡ begins_with_digit text.now }
+{
+    matches!(text.as_bytes(), [b'0'..=b'9', ..])
 }
 
 /// Where the name of a type begins.
@@ -82,8 +88,7 @@ fn unsuffixed(text: &[u8]) -> Option<u64>
             Some((b'b', digits)) => number_in(2, digits),
             _ => number_in(10, text),
         },
-        Some((b'0'..=b'9', _)) => number_in(10, text),
-        _ => None,
+        _ => number_in(10, text),
     }
 }
 

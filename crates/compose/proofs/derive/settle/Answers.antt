@@ -12,11 +12,11 @@ returns-in_err-only_derivable-clause-refused c =
       | inr fault ↦ inr (inl fault)
     ])
 
-pub returns-in_err-places-clause-refused : goal.returns-in_err-places-clause-refused
-returns-in_err-places-clause-refused c =
-    let p = err_from_is_err_and c.from_residual-in_err-places.result c.from_residual-in_err-places.ensures.1 in
+pub returns-in_err-by_name-clause-refused : goal.returns-in_err-by_name-clause-refused
+returns-in_err-by_name-clause-refused c =
+    let p = err_from_is_err_and c.from_residual-in_err-by_name.result c.from_residual-in_err-by_name.ensures.1 in
     rw (p.1, p.2)
-    (elim c.in_err-places.ensures.refused [
+    (elim c.in_err-by_name.ensures.refused [
       | inl memory ↦ inl memory
       | inr twice ↦ inr (inr (c.in_ok-only_derivable.ensures.derivable, inl twice))
     ])
@@ -35,9 +35,9 @@ returns-clause-settled c = record {
   resolves = c.in_ok-resolved.ensures.resolved;
   clear = record {
     derivable = c.in_ok-only_derivable.ensures.derivable;
-    faultless = λ e h. elim h [ inl twice ↦ c.in_ok-places.ensures.once e twice | inr fault ↦ c.in_ok-resolved.ensures.faultless e fault ];
+    faultless = λ e h. elim h [ inl twice ↦ c.in_ok-by_name.ensures.once e twice | inr fault ↦ c.in_ok-resolved.ensures.faultless e fault ];
   };
   names = c.in_ok-resolved.ensures.names;
-  apart = (subst IsDistinct (sym c.in_ok-resolved.ensures.names) c.in_ok-places.ensures.distinct, c.in_ok-resolved.ensures.distinct);
+  apart = (subst IsDistinct (sym c.in_ok-resolved.ensures.names) c.in_ok-by_name.ensures.distinct, c.in_ok-resolved.ensures.distinct);
   within = c.in_ok-resolved.ensures.within;
 }
