@@ -13,9 +13,11 @@ mod status;
 
 pub use command::Words;
 pub use compose::{Derived, derive_components};
+pub use configuration::Config;
 pub use diag::{DeriveError, Diagnostics, DiangosticsInner, Kind, List, Span, Suggestion, Text};
 pub use files::{FileAnswer, FileBytes, Files, HonestFiles, MemoryFiles, StdFiles};
 pub use law::sound_is_not_refused;
+pub use open_types::ClosedType;
 pub use program::run;
 pub use schema_core::Components;
 pub use status::Status;
