@@ -56,8 +56,8 @@ pub fn resolved_declarations(
 ) -> Result<List<Resolved>, DeriveError>
     requires { AreNamed (declarations_view places.now.declarations.now) }
     ensures resolved { IfOk result
-        (λ ss. resolved_declarations config.now.renames (declarations_view places.now.declarations.now)
-        ≡ Some (map resolved_view ss)) }
+        (λ ss. resolved_declarations config.now.renames
+        (declarations_view places.now.declarations.now) ≡ Some (map resolved_view ss)) }
     ensures names { IfOk result (λ ss. declaration_names (map resolved_view ss)
         ≡ declared_names (declarations_view places.now.declarations.now)) }
     ensures distinct { IfOk result (λ ss. MembersDiffer (map resolved_view ss)) }
