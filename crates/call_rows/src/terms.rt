@@ -5,7 +5,7 @@ ghost use Rattle.syntax.specs.Named.{AreNamed, IsNamedBody};
 
 use component::{Term, ToTerm, copy_term};
 use configuration::Config;
-use derive_decl::{Resolved, Schema, SchemaVariant};
+use derive_decl::{FormSchema, Resolved, Schema, SchemaVariant};
 use diag::DeriveError;
 use place_schemas::{ComponentSchema, ComponentSchemaProps};
 use rows::given::{is_said, pair_of, text_of};
@@ -41,18 +41,27 @@ fn push_made<T: ToTerm>(alloc: Global, text: &mut String, made: &T) -> Result<()
     Ok(())
 }
 
-/// Adds the forms of the struct, of its form, and of what its form holds.
-fn push_resolved(alloc: Global, text: &mut String, of: &Resolved) -> Result<(), DeriveError> {
-    push_made(alloc, text, of)?;
-    push_made(alloc, text, &of.form)?;
-    match &of.form {
-        SchemaVariant::Named(form) => push_made(alloc, text, form),
-        SchemaVariant::Unnamed(form) => push_made(alloc, text, form),
-        SchemaVariant::Unit(form) => push_made(alloc, text, form),
+/// Adds the forms of the fields, and of what their form holds.
+fn push_fields(alloc: Global, text: &mut String, form: &FormSchema) -> Result<(), DeriveError> {
+    push_made(alloc, text, form)?;
+    match form {
+        FormSchema::Named(form) => push_made(alloc, text, form),
+        FormSchema::Unnamed(form) => push_made(alloc, text, form),
+        FormSchema::Unit(form) => push_made(alloc, text, form),
     }
 }
 
-/// How many places the declaration has, its form, and the forms of the struct that it is.
+/// Adds the forms of the declaration, of its body, and of what its body holds.
+fn push_resolved(alloc: Global, text: &mut String, of: &Resolved) -> Result<(), DeriveError> {
+    push_made(alloc, text, of)?;
+    push_made(alloc, text, &of.body)?;
+    match &of.body {
+        SchemaVariant::Struct(form) => push_fields(alloc, text, form),
+        SchemaVariant::Enum(plain) => push_made(alloc, text, plain),
+    }
+}
+
+/// How many places the declaration has, its form, and the forms of what it is resolved to.
 fn of_declaration(
     alloc: Global,
     first: &Declaration,

@@ -20,7 +20,7 @@ use Rattle.open_types.specs.Open.{Open, Opens, leaf, any_value, free_object, uni
 use Rattle.open_types.specs.Open as types
 use Rattle.open_types.specs.Within.{IsWithin, AreWithin as OpensWithin}
 use Rattle.component.specs.Leaves.{LeafOf, param, named}
-use Rattle.shapes.specs.Declarations.{DeclarationOf, declaration_at, names_of as member_names_of, types_of, TypesWithin, AreWithin, MembersDiffer}
+use Rattle.shapes.specs.Declarations.{DeclarationOf, declaration_at, body_types, TypesWithin, AreWithin, IsApartBody, AreApartBodies}
 use Rattle.shapes.specs.Shape.{shape, HasShape}
 use Rattle.shapes.specs.Plain.{StandsIn, StandsAmong, StandsInOne, itself, through_place, IsPlain}
 use Rattle.shapes.specs.Terms.{term}
@@ -32,7 +32,7 @@ use Rattle.closing.specs.Described.{IsApart, AreComponents, HasComponent, Descri
 use Rattle.closing.proofs.Below.{Below, tree-below}
 use Rattle.closing.proofs.Bound.{bind-proper, bind-leaves, bind-accepts}
 use Rattle.closing.proofs.Targets.{IsShort, never-short, shorter, all-short, at-each, closed-stays, are-targets}
-use Rattle.closing.proofs.Terms.{form-proper, plain-types, form-leaves}
+use Rattle.closing.proofs.Terms.{body-proper, plain-types, body-leaves}
 
 -- ---- names in order are distinct
 absent : (n : List ℕ) (ns : List (List ℕ)) → AllByRecursion (λ m. slice_cmp nat_cmp n m ≡ Less) ns → is_in n ns ≡ false
@@ -45,12 +45,12 @@ distinct [] o = tt
 distinct (n ∷ ns) o = (absent n ns o.0, distinct ns o.1)
 
 -- ---- what holds of the declaration at a place
-differs-at : (ss : List DeclarationOf) (d : ℕ) → MembersDiffer ss → IsDistinct (member_names_of (declaration_at ss d).form)
-differs-at [] d h = tt
-differs-at (s ∷ ss) zero h = h.0
-differs-at (s ∷ ss) (suc d) h = differs-at ss d h.1
+apart-at : (ss : List DeclarationOf) (d : ℕ) → AreApartBodies ss → IsApartBody (declaration_at ss d).body
+apart-at [] d h = tt
+apart-at (s ∷ ss) zero h = h.0
+apart-at (s ∷ ss) (suc d) h = apart-at ss d h.1
 
-within-at : (n : ℕ) (ss : List DeclarationOf) (d : ℕ) → AreWithin n ss → TypesWithin n (types_of (declaration_at ss d).form)
+within-at : (n : ℕ) (ss : List DeclarationOf) (d : ℕ) → AreWithin n ss → TypesWithin n (body_types (declaration_at ss d).body)
 within-at n [] d h = tt
 within-at n (s ∷ ss) zero h = h.0
 within-at n (s ∷ ss) (suc d) h = within-at n ss d h.1
@@ -85,8 +85,8 @@ module _ (n d : ℕ) where
   stands-within (t ∷ ts) h (inr s) = stands-within ts h.1 s
 
 -- each declaration that stands in the types of one is a declaration
-pub all-within : (ss : List DeclarationOf) → AreWithin (length ss) ss → (d e : ℕ) → StandsInOne e (types_of (declaration_at ss d).form) → e < length ss
-all-within ss within d e = stands-within (length ss) e (types_of (declaration_at ss d).form) (within-at (length ss) ss d within)
+pub all-within : (ss : List DeclarationOf) → AreWithin (length ss) ss → (d e : ℕ) → StandsInOne e (body_types (declaration_at ss d).body) → e < length ss
+all-within ss within d e = stands-within (length ss) e (body_types (declaration_at ss d).body) (within-at (length ss) ss d within)
 
 pub declared_targets : TargetsAreDeclared
 declared_targets ss within = are-targets ss (all-within ss within)
@@ -102,10 +102,10 @@ put-proper ss inner h (param i) = (tt, (tt, (tt, tt)))
 put-proper ss inner h (named t true notes) = schema_of-proper inner h t
 put-proper ss inner h (named t false notes) = tt
 
-closed-proper : (ss : List DeclarationOf) → MembersDiffer ss → (n d : ℕ) → IsProper (closed ss n d)
-closed-proper ss differ zero d = (tt, (tt, (tt, tt)))
-closed-proper ss differ (suc n) d =
-    bind-proper (put ss (closed ss n)) (put-proper ss (closed ss n) (closed-proper ss differ n)) (term (declaration_at ss d)) (form-proper (declaration_at ss d).remarks (declaration_at ss d).form (differs-at ss d differ))
+closed-proper : (ss : List DeclarationOf) → AreApartBodies ss → (n d : ℕ) → IsProper (closed ss n d)
+closed-proper ss apart zero d = (tt, (tt, (tt, tt)))
+closed-proper ss apart (suc n) d =
+    bind-proper (put ss (closed ss n)) (put-proper ss (closed ss n) (closed-proper ss apart n)) (term (declaration_at ss d)) (body-proper (declaration_at ss d).remarks (declaration_at ss d).body (apart-at ss d apart))
 
 -- ---- references
 
@@ -163,7 +163,7 @@ module _ (forms_accept : FormsAccept) (forms_refer : FormsRefer) (documents_hold
   root : (d : ℕ) → d < length ss → HasComponent doc (name_at d)
   root d l = subst (λ o. IsTrue (is_some o)) (sym (schema_at d l)) refl
 
-  stands : (d e : ℕ) → StandsInOne e (types_of (declaration_at ss d).form) → e < length ss
+  stands : (d e : ℕ) → StandsInOne e (body_types (declaration_at ss d).body) → e < length ss
   stands = all-within ss within
 
   -- ---- references
@@ -178,8 +178,8 @@ module _ (forms_accept : FormsAccept) (forms_refer : FormsRefer) (documents_hold
   closed-found zero d = (tt, (tt, tt))
   closed-found (suc n) d =
       bind-leaves (put ss (closed ss n)) (λ r. HasComponent doc r.name) (term (declaration_at ss d))
-      (form-leaves (λ x. Found (put ss (closed ss n) x)) ⊥ (λ e. e < length ss) (put-found (closed ss n) (closed-found n)) (λ i h. (tt, (tt, tt)))
-      (declaration_at ss d).remarks (declaration_at ss d).form (stands d) (λ a. absurd a))
+      (body-leaves ss (λ x. Found (put ss (closed ss n) x)) ⊥ (λ e. e < length ss) (put-found (closed ss n) (closed-found n)) (λ i h. (tt, (tt, tt)))
+      (declaration_at ss d).remarks (declaration_at ss d).body (stands d) (λ a. absurd a))
 
   refers : (t : SchemaOf RefLeaf) (d : ℕ) → t ≡ declared_schema ss d → EachReference (HasComponent doc) (form t)
   refers t d e = forms_refer (λ name. is_some (component_schema doc name)) t (subst Found (sym e) (closed-found most_inlined d))
@@ -216,7 +216,7 @@ module _ (forms_accept : FormsAccept) (forms_refer : FormsRefer) (documents_hold
   followed : (depth d : ℕ) (v : Json) → d < length ss → component_accepts doc (suc depth) (name_at d) v ≡ accepted depth most_inlined d v
   followed depth d v l = (λ i. if_component (schema_at d l i) (λ s. accepts_with (component_accepts doc depth) s v)) ∙ form-accepts depth d v
 
-  plain-through : (d e : ℕ) → IsPlain ss d → StandsInOne e (types_of (declaration_at ss d).form) → IsPlain ss e
+  plain-through : (d e : ℕ) → IsPlain ss d → StandsInOne e (body_types (declaration_at ss d).body) → IsPlain ss e
   plain-through d e p s f r = p f (through_place d e f s r)
 
   -- a declaration to which the induction applies
@@ -228,15 +228,15 @@ module _ (forms_accept : FormsAccept) (forms_refer : FormsRefer) (documents_hold
       ((e : ℕ) (ts : Opens) (notes : Notes) → IsGood e → IsShort ss n e → S (named (types.named e ts) true notes)) →
       ((e : ℕ) (ts : Opens) (notes : Notes) → IsGood e → S (named (types.named e ts) false notes)) → EachLeaf S (term (declaration_at ss d))
   good-leaves S n d l p short inlined referred =
-      at-each S (Unit {0}) IsGood (IsShort ss n) inlined referred (λ i h. absurd (h tt)) (declaration_at ss d)
-      (λ e s. (stands d e s, plain-through d e p s)) (λ a. plain-types (declaration_at ss d).form (p d (itself d))) (shorter ss n d l short)
+      at-each ss S (Unit {0}) IsGood (IsShort ss n) inlined referred (λ i h. absurd (h tt)) (declaration_at ss d)
+      (λ e s. (stands d e s, plain-through d e p s)) (λ a. plain-types ss (declaration_at ss d).body (p d (itself d))) (shorter ss n d l short)
 
   -- What is accepted has the shape: a reference and an inline schema each take a step of the shape, but only a reference one of acceptance.
   sound : (k depth n d : ℕ) → n + 32 * depth ≤ k → d < length ss → IsPlain ss d → IsShort ss n d → Below (accepted depth n d) (shape ss k d)
   sound k depth zero d bound l p short = absurd (never-short ss d l short)
   sound zero depth (suc n) d bound l p short = absurd (omega (arith, bound))
   sound (suc k) depth (suc n) d bound l p short = λ v h.
-      subst IsTrue (terms_accept (shape ss k) (declaration_at ss d) (p d (itself d)) v)
+      subst IsTrue (terms_accept ss (shape ss k) (declaration_at ss d) (p d (itself d)) v)
       (tree-below (put_accepts depth n) (leaf_shape (shape ss k)) (term (declaration_at ss d))
       (good-leaves (λ x. Below (put_accepts depth n x) (leaf_shape (shape ss k) x)) n d l p short
       (λ e ts notes good s. sound k depth n e (omega (arith, bound)) good.0 good.1 s)
@@ -256,7 +256,7 @@ module _ (forms_accept : FormsAccept) (forms_refer : FormsRefer) (documents_hold
       (tree-below (leaf_shape (shape ss k)) (put_accepts depth n) (term (declaration_at ss d))
       (good-leaves (λ x. Below (leaf_shape (shape ss k) x) (put_accepts depth n x)) n d l p short
       (λ e ts notes good s. whole k depth n e (omega (arith, bound)) good.0 good.1 s)
-      (λ e ts notes good. by depth bound e good (λ deep e. whole k deep 32 e))) v (subst IsTrue (sym (terms_accept (shape ss k) (declaration_at ss d) (p d (itself d)) v)) h))
+      (λ e ts notes good. by depth bound e good (λ deep e. whole k deep 32 e))) v (subst IsTrue (sym (terms_accept ss (shape ss k) (declaration_at ss d) (p d (itself d)) v)) h))
     where
       by : (deep : ℕ) → suc k ≤ deep → (e : ℕ) → IsGood e →
           ((deep e : ℕ) → k ≤ deep → e < length ss → IsPlain ss e → IsShort ss 32 e → Below (shape ss k e) (accepted deep 32 e)) → Below (shape ss k e) (component_accepts doc deep (name_at e))

@@ -6,7 +6,7 @@ use Rattle.schema_core.specs.declared.tree.Tree.{Tree}
 use Rattle.schema_core.specs.Schema.{SchemaOf, schema_view, bind}
 use Rattle.component.specs.Leaves.{term_view}
 use Rattle.component.specs.declared.term.TermLeaf.{TermLeaf}
-use Rattle.shapes.specs.Declarations.{DeclarationOf, declaration_at, types_of, AreWithin}
+use Rattle.shapes.specs.Declarations.{DeclarationOf, declaration_at, body_types, AreWithin}
 use Rattle.shapes.specs.Plain.{StandsInOne}
 use Rattle.shapes.specs.Terms.{term}
 use Rattle.inlining.specs.Inlining.{targets_of, IsAmong, IsAtMost}
@@ -58,7 +58,7 @@ made_more ss made ds i s h l e all d among = by (kept made (get_or ds i 0) d s) 
     by (inr other) (inr (inr none)) = absurd none
 
 -- where the schemas of its targets are made, so is that of a declaration
-pub schema_is : (ss : List DeclarationOf) → ((d e : ℕ) → StandsInOne e (types_of (declaration_at ss d).form) → e < length ss) → IsAtMost most_inlined (inlining_of ss) → (made : List (Tree RefLeaf)) (d : ℕ) → d < length ss →
+pub schema_is : (ss : List DeclarationOf) → ((d e : ℕ) → StandsInOne e (body_types (declaration_at ss d).body) → e < length ss) → IsAtMost most_inlined (inlining_of ss) → (made : List (Tree RefLeaf)) (d : ℕ) → d < length ss →
     AreMade ss made (targets_of (inlining_of ss) d) → bind (put ss (schema_in (map schema_view made))) (term (declaration_at ss d)) ≡ declared_schema ss d
 schema_is ss within most made d l all =
     same-term ss within (schema_in (map schema_view made)) (closed ss 31) (λ e. (schema_in (map schema_view made) e ≡ declared_schema ss e) × IsShort ss 31 e)

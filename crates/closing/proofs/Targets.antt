@@ -7,14 +7,14 @@ use Rattle.open_types.specs.Open.{Opens}
 use Rattle.open_types.specs.Open as types
 use Rattle.component.specs.Leaves.{LeafOf, param, named}
 use Rattle.component.specs.References.{leaf_references, named_leaves}
-use Rattle.shapes.specs.Declarations.{DeclarationOf, declaration_at, types_of}
+use Rattle.shapes.specs.Declarations.{DeclarationOf, declaration_at, body_types}
 use Rattle.shapes.specs.Plain.{StandsInOne, AreAllPlain}
 use Rattle.shapes.specs.Terms.{term}
 use Rattle.inlining.specs.Inlining.{targets_of, IsAmong, AreTargets, IsPath, IsAtMost}
 use Rattle.closing.specs.Targets.{inlined_among, inlining_of, most_inlined}
 use Rattle.closing.specs.Closed.{put, closed}
 use Rattle.closing.proofs.Leaves.{each-both, bind-same, AtInlined, at-leaves, from-leaves}
-use Rattle.closing.proofs.Terms.{form-leaves}
+use Rattle.closing.proofs.Terms.{body-leaves}
 
 -- the declarations that are inline in the term of a declaration
 abbrev pub targets_at : List DeclarationOf → ℕ → List ℕ
@@ -32,7 +32,7 @@ as_many-targets (s ∷ ss) = ap suc (as_many-targets ss)
 -- ---- each leaf
 
 -- A fact holds of each leaf of a term where it holds of a declaration that is inline and of one that is not, with what holds of all that stand in the types and of all that are inline.
-module _ (S : LeafOf → Type 0) (ToBePlain : Type 0) (P T : ℕ → Type 0) (inlined : (e : ℕ) (ts : Opens) (notes : Notes) → P e → T e → S (named (types.named e ts) true notes))
+module _ (ss : List DeclarationOf) (S : LeafOf → Type 0) (ToBePlain : Type 0) (P T : ℕ → Type 0) (inlined : (e : ℕ) (ts : Opens) (notes : Notes) → P e → T e → S (named (types.named e ts) true notes))
     (referred : (e : ℕ) (ts : Opens) (notes : Notes) → P e → S (named (types.named e ts) false notes)) (at_param : (i : ℕ) → (ToBePlain → ⊥) → S (param i)) where
   abbrev Follows : LeafOf → Type 0
   Follows x = AtInlined T (leaf_references x) → S x
@@ -41,10 +41,10 @@ module _ (S : LeafOf → Type 0) (ToBePlain : Type 0) (P T : ℕ → Type 0) (in
   at_named e ts true notes p t = inlined e ts notes p (t e (inl refl))
   at_named e ts false notes p t = referred e ts notes p
 
-  pub at-each : (s : DeclarationOf) → ((e : ℕ) → StandsInOne e (types_of s.form) → P e) → (ToBePlain → AreAllPlain (types_of s.form)) → AtInlined T (named_leaves (term s)) → EachLeaf S (term s)
+  pub at-each : (s : DeclarationOf) → ((e : ℕ) → StandsInOne e (body_types s.body) → P e) → (ToBePlain → AreAllPlain ss (body_types s.body)) → AtInlined T (named_leaves (term s)) → EachLeaf S (term s)
   at-each s stands plain inline =
       each-both Follows (λ x. AtInlined T (leaf_references x)) S (λ x f t. f t) (term s)
-      (form-leaves Follows ToBePlain P at_named (λ i h t. at_param i h) s.remarks s.form stands plain) (at-leaves T (term s) inline)
+      (body-leaves ss Follows ToBePlain P at_named (λ i h t. at_param i h) s.remarks s.body stands plain) (at-leaves T (term s) inline)
 
 -- ---- short paths
 
@@ -67,13 +67,13 @@ module _ (ss : List DeclarationOf) where
 
   -- ---- the schema of a declaration does not change beyond its depth
 
-  module _ (within : (d e : ℕ) → StandsInOne e (types_of (declaration_at ss d).form) → e < length ss) where
+  module _ (within : (d e : ℕ) → StandsInOne e (body_types (declaration_at ss d).body) → e < length ss) where
     -- two tables that have the same schemas for what is inline put the same at each leaf
     pub same-term : (f g : ℕ → SchemaOf RefLeaf) (T : ℕ → Type 0) → ((e : ℕ) → e < length ss → T e → f e ≡ g e) → (d : ℕ) → AtInlined T (named_leaves (term (declaration_at ss d))) →
         bind (put ss f) (term (declaration_at ss d)) ≡ bind (put ss g) (term (declaration_at ss d))
     same-term f g T same d inline =
         bind-same (put ss f) (put ss g) (term (declaration_at ss d))
-        (at-each (λ x. put ss f x ≡ put ss g x) ⊥ (λ e. e < length ss) T (λ e ts notes l t. same e l t) (λ e ts notes l. refl) (λ i h. refl) (declaration_at ss d) (within d) (λ a. absurd a) inline)
+        (at-each ss (λ x. put ss f x ≡ put ss g x) ⊥ (λ e. e < length ss) T (λ e ts notes l t. same e l t) (λ e ts notes l. refl) (λ i h. refl) (declaration_at ss d) (within d) (λ a. absurd a) inline)
 
     pub closed-stays : (n d : ℕ) → d < length ss → IsShort ss n d → closed ss (suc n) d ≡ closed ss n d
     closed-stays zero d l short = absurd (never-short d l short)
@@ -84,7 +84,7 @@ module _ (ss : List DeclarationOf) where
     are-targets d t among =
         subst (λ m. t < m) (sym (as_many-targets ss))
         (from-leaves (λ e. e < length ss) (term (declaration_at ss d))
-        (form-leaves (λ x. AtInlined (λ e. e < length ss) (leaf_references x)) ⊥ (λ e. e < length ss) at_named (λ i h e a. absurd a) (declaration_at ss d).remarks (declaration_at ss d).form (within d) (λ a. absurd a)) t
+        (body-leaves ss (λ x. AtInlined (λ e. e < length ss) (leaf_references x)) ⊥ (λ e. e < length ss) at_named (λ i h e a. absurd a) (declaration_at ss d).remarks (declaration_at ss d).body (within d) (λ a. absurd a)) t
         (subst (IsAmong t) (targets-are ss d) among))
       where
         at_named : (e : ℕ) (ts : Opens) (inline : Bool) (notes : Notes) → e < length ss → AtInlined (λ e. e < length ss) (leaf_references (named (types.named e ts) inline notes))

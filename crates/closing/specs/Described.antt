@@ -9,7 +9,7 @@ use Rattle.schema_core.specs.Form.{form}
 use Rattle.schema_core.specs.Document.{Entry, document}
 use Rattle.schema_core.specs.Entries.{find, names_of, IsInOrder}
 use Rattle.texts.specs.Names.{IsDistinct}
-use Rattle.shapes.specs.Declarations.{DeclarationOf, declaration_at, declaration_names, MembersDiffer, AreWithin}
+use Rattle.shapes.specs.Declarations.{DeclarationOf, declaration_at, declaration_names, AreApartBodies, AreWithin}
 use Rattle.shapes.specs.Shape.{HasShape}
 use Rattle.shapes.specs.Plain.{IsPlain}
 use Rattle.shapes.specs.Terms.{term}
@@ -17,9 +17,9 @@ use Rattle.inlining.specs.Inlining.{AreTargets, IsAtMost}
 use Rattle.closing.specs.Targets.{inlining_of, most_inlined}
 use Rattle.closing.specs.Closed.{put, declared_schema}
 
--- no two declarations and no two members of one have one name
+-- no two declarations have one name, and no two members or variants of one
 abbrev pub IsApart : List DeclarationOf → Type 0
-IsApart ss = IsDistinct (declaration_names ss) × MembersDiffer ss
+IsApart ss = IsDistinct (declaration_names ss) × AreApartBodies ss
 
 -- The components of the declarations: each is a root, under its name, and there are no others; in byte order of the names.
 pub record AreComponents (ss : List DeclarationOf) (components : List Entry) : Type 0 where

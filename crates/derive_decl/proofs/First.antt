@@ -1,9 +1,11 @@
--- The first attribute of two lists is that of the first list, or else of the second.
-use Rattle.std.proofs.Common.{◌≡◌, ◌∙◌, ◌<◌, ◌+◌, ℕ, suc, List, [], ◌∷◌, ◌++◌, length, drop, get_or, refl, ap, sym, Option, Some, None, Bool, true, false, cond, add-one, drop-cons}
+-- The first of two lists, of attributes or of variants, is that of the first list, or else of the second.
+use Rattle.std.proofs.Common.{◌≡◌, ◌∙◌, ◌<◌, ◌+◌, ℕ, suc, List, [], ◌∷◌, ◌++◌, length, drop, get_or, refl, ap, sym, Option, Some, None, Bool, true, false, ◌&&◌, cond, add-one, drop-cons}
 use Rattle.std.specs.Option.{option_or}
 use Rattle.texts.specs.declared.span.Span.{Span}
 use Rattle.attributes.specs.Attributes.{AttributeItem}
-use Rattle.derive_decl.specs.Faults.{is_other, first_other}
+use Rattle.syntax.specs.Items.{VariantItem}
+use Rattle.derive_decl.specs.Variants.{is_unit, are_units}
+use Rattle.derive_decl.specs.Faults.{is_other, first_other, first_mixed}
 
 pub first_joined : (xs ys : List AttributeItem) → first_other (xs ++ ys) ≡ option_or (first_other xs) (first_other ys)
 first_joined [] ys = refl
@@ -13,18 +15,45 @@ first_joined (a ∷ xs) ys = by (is_other a) (first_joined xs ys)
     by true h = refl
     by false h = h
 
--- the attributes of a list are those of its first item, and then those of the others
-module _ {A : Type 0} (parts : List A → List AttributeItem) (part : A → List AttributeItem) (split : (x : A) (xs : List A) → parts (x ∷ xs) ≡ part x ++ parts xs) where
+pub first_mixed-joined : (xs ys : List VariantItem) → first_mixed (xs ++ ys) ≡ option_or (first_mixed xs) (first_mixed ys)
+first_mixed-joined [] ys = refl
+first_mixed-joined (v ∷ xs) ys = by (is_unit v.fields) (first_mixed-joined xs ys)
+  where
+    by : (b : Bool) → first_mixed (xs ++ ys) ≡ option_or (first_mixed xs) (first_mixed ys) → cond b (first_mixed (xs ++ ys)) (Some v.ident.span) ≡ option_or (cond b (first_mixed xs) (Some v.ident.span)) (first_mixed ys)
+    by true h = h
+    by false h = refl
+
+-- where there is neither, there is not the second
+pub none-second : (o p : Option Span) → option_or o p ≡ None → p ≡ None
+none-second None p e = e
+none-second (Some s) p e = cc
+
+-- where there is no variant with fields, all are units
+pub units-alone : (vs : List VariantItem) → first_mixed vs ≡ None → are_units vs ≡ true
+units-alone [] h = refl
+units-alone (v ∷ vs) h = by (is_unit v.fields) h (units-alone vs)
+  where
+    by : (b : Bool) → cond b (first_mixed vs) (Some v.ident.span) ≡ None → (first_mixed vs ≡ None → are_units vs ≡ true) → (b && are_units vs) ≡ true
+    by true h later = later h
+    by false h later = cc
+
+-- the first of a list is that of its first item, or else that of the others
+module _ {A : Type 0} (first : List A → Option Span) (one : A → Option Span) (split : (x : A) (xs : List A) → first (x ∷ xs) ≡ option_or (one x) (first xs)) where
   -- the first of an item, or else the first behind it
-  first_at : (xs : List A) (i : ℕ) (x : A) → i < length xs → x ≡ get_or xs i x → first_other (parts (drop i xs)) ≡ option_or (first_other (part x)) (first_other (parts (drop (i + 1) xs)))
-  first_at xs i x l e = rw (add-one, drop-cons xs i x, ← e) (ap first_other (split x (drop (suc i) xs)) ∙ first_joined (part x) (parts (drop (suc i) xs)))
+  first_at : (xs : List A) (i : ℕ) (x : A) → i < length xs → x ≡ get_or xs i x → first (drop i xs) ≡ option_or (one x) (first (drop (i + 1) xs))
+  first_at xs i x l e = rw (add-one, drop-cons xs i x, ← e) (split x (drop (suc i) xs))
 
   -- the item has none, so the first stands behind it
-  pub first_later : (xs : List A) (i : ℕ) (x : A) (found : Option Span) → i < length xs → x ≡ get_or xs i x → found ≡ first_other (part x) → found ≡ None →
-      first_other (parts (drop i xs)) ≡ first_other (parts xs) → first_other (parts (drop (i + 1) xs)) ≡ first_other (parts xs)
-  first_later xs i x found l e here none so = sym (ap (λ o. option_or o (first_other (parts (drop (i + 1) xs)))) (sym here ∙ none)) ∙ sym (first_at xs i x l e) ∙ so
+  pub first_later : (xs : List A) (i : ℕ) (x : A) (found : Option Span) → i < length xs → x ≡ get_or xs i x → found ≡ one x → found ≡ None →
+      first (drop i xs) ≡ first xs → first (drop (i + 1) xs) ≡ first xs
+  first_later xs i x found l e here none so = sym (ap (λ o. option_or o (first (drop (i + 1) xs))) (sym here ∙ none)) ∙ sym (first_at xs i x l e) ∙ so
 
   -- the item has one, which is the first
-  pub first_here : (xs : List A) (i : ℕ) (x : A) (found : Option Span) (s : Span) → i < length xs → x ≡ get_or xs i x → found ≡ first_other (part x) → found ≡ Some s →
-      first_other (parts (drop i xs)) ≡ first_other (parts xs) → Some s ≡ first_other (parts xs)
-  first_here xs i x found s l e here is so = sym (ap (λ o. option_or o (first_other (parts (drop (i + 1) xs)))) (sym here ∙ is)) ∙ sym (first_at xs i x l e) ∙ so
+  pub first_here : (xs : List A) (i : ℕ) (x : A) (found : Option Span) (s : Span) → i < length xs → x ≡ get_or xs i x → found ≡ one x → found ≡ Some s →
+      first (drop i xs) ≡ first xs → Some s ≡ first xs
+  first_here xs i x found s l e here is so = sym (ap (λ o. option_or o (first (drop (i + 1) xs))) (sym here ∙ is)) ∙ sym (first_at xs i x l e) ∙ so
+
+-- the first attribute of parts
+pub first-parts : {A : Type 0} (parts : List A → List AttributeItem) (part : A → List AttributeItem) → ((x : A) (xs : List A) → parts (x ∷ xs) ≡ part x ++ parts xs) → (x : A) (xs : List A) →
+    first_other (parts (x ∷ xs)) ≡ option_or (first_other (part x)) (first_other (parts xs))
+first-parts parts part split x xs = ap first_other (split x xs) ∙ first_joined (part x) (parts xs)

@@ -1,20 +1,14 @@
 -- What holds of a list whose items are resolved from the first on, and where an item is at fault.
-use Rattle.std.proofs.Common.{ℕ, zero, suc, ◌+◌, ◌<◌, List, [], ◌∷◌, ◌++◌, Bool, true, false, cond, Option, Some, None, option_map, option_and_then, length, take, get_or, map, ◌≡◌, refl, ap, sym, subst, ◌∙◌, arith, inl, inr}
-use Rattle.std.proofs.lemmas.List.{take_more, map_push, map-append}
+use Rattle.std.proofs.Common.{ℕ, zero, suc, ◌+◌, ◌<◌, List, [], ◌∷◌, ◌++◌, Bool, true, false, cond, Option, Some, None, option_map, option_and_then, length, take, get_or, filter, filter_map, map, ◌≡◌, refl, ap, sym, subst, ◌∙◌, arith, inl, inr}
+use Rattle.std.proofs.lemmas.List.{take_more, map_push}
 use Rattle.std.proofs.lemmas.List.Elements.{filter-append, filter_map-append}
 use Rattle.std.proofs.lemmas.Option.{none-some, same_Some}
 use Rattle.std.specs.List.{AllByRecursion, cons_option}
-use Rattle.diag.specs.declared.rename_rule.RenameRule.{RenameRule}
-use Rattle.diag.specs.declared.rename_row.RenameRow.{RenameRow}
-use Rattle.syntax.specs.declared.item.Field.{Field}
-use Rattle.syntax.specs.Items.{FieldItem, field_view}
 use Rattle.texts.specs.Lists.{Somewhere}
-use Rattle.texts.specs.Names.{IsDistinct}
 use Rattle.scopes.specs.Names.{texts}
 use Rattle.derive_decl.specs.declared.member.Member.{Member}
-use Rattle.derive_decl.specs.Fields.{FieldRules, is_kept, kept, written_ident, written_idents}
-use Rattle.shapes.specs.Declarations.{DeclarationOf, member_names, names_of, MembersDiffer}
-use Rattle.derive_decl.specs.Resolved.{Around, all_of, member_of}
+use Rattle.shapes.specs.Declarations.{DeclarationOf, member_names, IsApartBody, AreApartBodies}
+use Rattle.derive_decl.specs.Resolved.{all_of}
 use Rattle.derive_decl.specs.Views.{member_view}
 
 -- ---- one more
@@ -81,61 +75,66 @@ all-append : {A : Type 0} (P : A → Type 0) (xs more : List A) → AllByRecursi
 all-append P [] more h g = g
 all-append P (x ∷ xs) more h g = (h.0, all-append P xs more h.1 g)
 
--- ---- fields that are kept
+-- ---- items that are kept
 
--- those so far, and one more where it is kept
-kept_more : (fields : List Field) (i : ℕ) (field : Field) → i < length fields → field ≡ get_or fields i field → kept (map field_view (take (i + 1) fields)) ≡ kept (map field_view (take i fields)) ++ kept (field_view field ∷ [])
-kept_more fields i field l is =
-    ap (λ xs. kept (map field_view xs)) (take_more fields i field l)
-    ∙ ap kept (map_push field_view (take i fields) (get_or fields i field))
-    ∙ filter-append is_kept (map field_view (take i fields)) (field_view (get_or fields i field) ∷ [])
-    ∙ ap (λ (f : Field). kept (map field_view (take i fields)) ++ kept (field_view f ∷ [])) (sym is)
+module _ {A I : Type 0} (u : I → A) (is_kept : A → Bool) where
+  -- those so far, and one more where it is kept
+  kept_more : (items : List I) (i : ℕ) (item : I) → i < length items → item ≡ get_or items i item → filter is_kept (map u (take (i + 1) items)) ≡ filter is_kept (map u (take i items)) ++ filter is_kept (u item ∷ [])
+  kept_more items i item l is =
+      ap (λ xs. filter is_kept (map u xs)) (take_more items i item l)
+      ∙ ap (filter is_kept) (map_push u (take i items) (get_or items i item))
+      ∙ filter-append is_kept (map u (take i items)) (u (get_or items i item) ∷ [])
+      ∙ ap (λ x. filter is_kept (map u (take i items)) ++ filter is_kept (u x ∷ [])) (sym is)
 
-pub members_more : (around : Around) (rules : FieldRules) (fields : List Field) (i : ℕ) (field : Field) (ms : List Member) (m : Option Member) → i < length fields → field ≡ get_or fields i field →
-    all_of (member_of around rules) (kept (map field_view (take i fields))) ≡ Some (map member_view ms) → all_of (member_of around rules) (kept (field_view field ∷ [])) ≡ Some (map member_view (cons_option m [])) →
-    all_of (member_of around rules) (kept (map field_view (take (i + 1) fields))) ≡ Some (map member_view (ms ++ cons_option m []))
-members_more around rules fields i field ms m l is e g =
-    ap (all_of (member_of around rules)) (kept_more fields i field l is)
-    ∙ all_of-append (member_of around rules) (kept (map field_view (take i fields))) (kept (field_view field ∷ [])) (map member_view ms) (map member_view (cons_option m [])) e g
-    ∙ ap Some (sym (map-append member_view ms (cons_option m [])))
+  -- the results of those that are kept
+  pub all_kept_more : {B : Type 0} (f : A → Option B) (items : List I) (i : ℕ) (item : I) (ys more : List B) → i < length items → item ≡ get_or items i item →
+      all_of f (filter is_kept (map u (take i items))) ≡ Some ys → all_of f (filter is_kept (u item ∷ [])) ≡ Some more → all_of f (filter is_kept (map u (take (i + 1) items))) ≡ Some (ys ++ more)
+  all_kept_more f items i item ys more l is e g =
+      ap (all_of f) (kept_more items i item l is) ∙ all_of-append f (filter is_kept (map u (take i items))) (filter is_kept (u item ∷ [])) ys more e g
 
-pub idents_more : (rows : List RenameRow) (rule : Option RenameRule) (fields : List Field) (i : ℕ) (field : Field) (ms : List Member) (m : Option Member) → i < length fields → field ≡ get_or fields i field →
-    written_idents rows rule (kept (map field_view (take i fields))) ≡ map (λ (n : Member). n.ident) ms → written_idents rows rule (kept (field_view field ∷ [])) ≡ map (λ (n : Member). n.ident) (cons_option m []) →
-    written_idents rows rule (kept (map field_view (take (i + 1) fields))) ≡ map (λ (n : Member). n.ident) (ms ++ cons_option m [])
-idents_more rows rule fields i field ms m l is e g =
-    ap (written_idents rows rule) (kept_more fields i field l is)
-    ∙ filter_map-append (written_ident rows rule) (kept (map field_view (take i fields))) (kept (field_view field ∷ []))
-    ∙ (λ j. e j ++ g j)
-    ∙ sym (map-append (λ (n : Member). n.ident) ms (cons_option m []))
+  pub some_kept_more : {B : Type 0} (f : A → Option B) (items : List I) (i : ℕ) (item : I) (ys more : List B) → i < length items → item ≡ get_or items i item →
+      filter_map f (filter is_kept (map u (take i items))) ≡ ys → filter_map f (filter is_kept (u item ∷ [])) ≡ more → filter_map f (filter is_kept (map u (take (i + 1) items))) ≡ ys ++ more
+  some_kept_more f items i item ys more l is e g =
+      ap (filter_map f) (kept_more items i item l is) ∙ filter_map-append f (filter is_kept (map u (take i items))) (filter is_kept (u item ∷ [])) ∙ (λ j. e j ++ g j)
 
-pub kept_facts_more : (P : FieldItem → Type 0) (fields : List Field) (i : ℕ) (field : Field) → i < length fields → field ≡ get_or fields i field →
-    AllByRecursion P (kept (map field_view (take i fields))) → AllByRecursion P (kept (field_view field ∷ [])) → AllByRecursion P (kept (map field_view (take (i + 1) fields)))
-kept_facts_more P fields i field l is h g = subst (AllByRecursion P) (sym (kept_more fields i field l is)) (all-append P (kept (map field_view (take i fields))) (kept (field_view field ∷ [])) h g)
+  pub kept_facts_more : (P : A → Type 0) (items : List I) (i : ℕ) (item : I) → i < length items → item ≡ get_or items i item →
+      AllByRecursion P (filter is_kept (map u (take i items))) → AllByRecursion P (filter is_kept (u item ∷ [])) → AllByRecursion P (filter is_kept (map u (take (i + 1) items)))
+  kept_facts_more P items i item l is h g = subst (AllByRecursion P) (sym (kept_more items i item l is)) (all-append P (filter is_kept (map u (take i items))) (filter is_kept (u item ∷ [])) h g)
 
--- a fact of one that is kept
-pub somewhere_kept : (P : FieldItem → Type 0) (fields : List Field) (i : ℕ) (field : Field) → i < length fields → field ≡ get_or fields i field → Somewhere P (kept (field_view field ∷ [])) → Somewhere P (kept (map field_view fields))
-somewhere_kept P fields i field l is p = by fields i l (subst (λ (x : Field). Somewhere P (kept (field_view x ∷ []))) is p)
+  -- a fact of one that is kept
+  pub somewhere_kept : (P : A → Type 0) (items : List I) (i : ℕ) (item : I) → i < length items → item ≡ get_or items i item → Somewhere P (filter is_kept (u item ∷ [])) → Somewhere P (filter is_kept (map u items))
+  somewhere_kept P items i item l is p = by items i l (subst (λ x. Somewhere P (filter is_kept (u x ∷ []))) is p)
+    where
+      first : (f : A) (fs : List A) → (b : Bool) → Somewhere P (cond b (f ∷ []) []) → Somewhere P (cond b (f ∷ fs) fs)
+      first f fs true (inl q) = inl q
+      first f fs true (inr q) = absurd q
+      first f fs false q = absurd q
+
+      later : (f : A) (fs : List A) → (b : Bool) → Somewhere P fs → Somewhere P (cond b (f ∷ fs) fs)
+      later f fs true q = inr q
+      later f fs false q = q
+
+      by : (xs : List I) (j : ℕ) → j < length xs → Somewhere P (filter is_kept (u (get_or xs j item) ∷ [])) → Somewhere P (filter is_kept (map u xs))
+      by [] j h q = absurd (omega arith)
+      by (x ∷ xs) zero h q = first (u x) (filter is_kept (map u xs)) (is_kept (u x)) q
+      by (x ∷ xs) (suc j) h q = later (u x) (filter is_kept (map u xs)) (is_kept (u x)) (by xs j (omega arith) q)
+
+-- the results are what the items give, where each gives one
+pub all-given : {A B : Type 0} (f : A → Option B) (xs : List A) (ys : List B) → all_of f xs ≡ Some ys → filter_map f xs ≡ ys
+all-given f [] ys e = same_Some [] ys e
+all-given {B = B} f (x ∷ xs) ys e = by (f x) (all_of f xs) e (all-given f xs)
   where
-    first : (f : FieldItem) (fs : List FieldItem) → (b : Bool) → Somewhere P (cond b (f ∷ []) []) → Somewhere P (cond b (f ∷ fs) fs)
-    first f fs true (inl q) = inl q
-    first f fs true (inr q) = absurd q
-    first f fs false q = absurd q
-
-    later : (f : FieldItem) (fs : List FieldItem) → (b : Bool) → Somewhere P fs → Somewhere P (cond b (f ∷ fs) fs)
-    later f fs true q = inr q
-    later f fs false q = q
-
-    by : (xs : List Field) (j : ℕ) → j < length xs → Somewhere P (kept (field_view (get_or xs j field) ∷ [])) → Somewhere P (kept (map field_view xs))
-    by [] j h q = absurd (omega arith)
-    by (x ∷ xs) zero h q = first (field_view x) (kept (map field_view xs)) (is_kept (field_view x)) q
-    by (x ∷ xs) (suc j) h q = later (field_view x) (kept (map field_view xs)) (is_kept (field_view x)) (by xs j (omega arith) q)
+    by : (o : Option B) (p : Option (List B)) → option_and_then (λ w. option_map (λ ws. w ∷ ws) p) o ≡ Some ys → ((ws : List B) → p ≡ Some ws → filter_map f xs ≡ ws) → cons_option o (filter_map f xs) ≡ ys
+    by None p h later = absurd (none-some ys h)
+    by (Some w) None h later = absurd (none-some ys h)
+    by (Some w) (Some ws) h later = ap (λ vs. w ∷ vs) (later ws refl) ∙ same_Some (w ∷ ws) ys h
 
 -- ---- names
 
--- no two members of the declarations so far have one name, nor of one more
-pub differ-push : (ss : List DeclarationOf) (s : DeclarationOf) → MembersDiffer ss → IsDistinct (names_of s.form) → MembersDiffer (ss ++ s ∷ [])
-differ-push [] s d h = (h, tt)
-differ-push (t ∷ ss) s d h = (d.0, differ-push ss s d.1 h)
+-- the bodies of the declarations so far are apart, and that of one more
+pub apart-push : (ss : List DeclarationOf) (s : DeclarationOf) → AreApartBodies ss → IsApartBody s.body → AreApartBodies (ss ++ s ∷ [])
+apart-push [] s d h = (h, tt)
+apart-push (t ∷ ss) s d h = (d.0, apart-push ss s d.1 h)
 
 pub member_names-are : (ms : List Member) → member_names (map member_view ms) ≡ texts (map (λ (m : Member). m.ident) ms)
 member_names-are [] = refl

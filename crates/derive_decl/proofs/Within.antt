@@ -2,16 +2,21 @@
 use Rattle.std.proofs.Common.{ℕ, suc, ◌<◌, List, [], ◌∷◌, Option, Some, None, option_map, option_and_then, Bool, true, false, cond, bytes_eq, length, ◌≡◌, refl, ap, sym, subst, ◌∙◌, arith}
 use Rattle.std.proofs.lemmas.Option.{none-some, same_Some}
 use Rattle.texts.specs.Names.{place_in}
+use Rattle.diag.specs.declared.rename_rule.RenameRule.{RenameRule}
 use Rattle.diag.specs.declared.rename_row.RenameRow.{RenameRow}
 use Rattle.attributes.specs.Attributes.{serde_items}
+use Rattle.attributes.specs.declared.serde_item.SerdeItem.{SerdeItem}
+use Rattle.serde_rules.specs.Container.{rename_rule}
 use Rattle.written_types.specs.declared.written.Ident.{Ident}
-use Rattle.syntax.specs.Items.{FieldItem, FieldItems, named, unnamed, unit, BodyItem, struct_body, DeclaredItem}
+use Rattle.syntax.specs.Items.{FieldItem, FieldItems, named, unnamed, unit, VariantItem, BodyItem, struct_body, enum_body, DeclaredItem}
 use Rattle.open_types.specs.Open.{Open}
 use Rattle.resolving.specs.Resolved.{type_of, ResolvedAreWithin}
 use Rattle.scopes.specs.Names.{declared_names}
-use Rattle.shapes.specs.Declarations.{MemberOf, FormOf, named_fields, unnamed_fields, no_fields, DeclarationOf, member_types, types_of, declaration_names, TypesWithin, AreWithin}
+use Rattle.shapes.specs.Declarations.{MemberOf, FormOf, named_fields, unnamed_fields, no_fields, BodyOf, fields, units, DeclarationOf, member_types, types_of, body_types, declaration_names, TypesWithin, AreWithin}
+use Rattle.shapes.specs.declared.tagging.Tagging.{Tagging}
+use Rattle.derive_decl.specs.Variants.{tagging_in, are_units, kept_variants, variant_name}
 use Rattle.derive_decl.specs.Fields.{FieldRules, field_rules, kept, written_name}
-use Rattle.derive_decl.specs.Resolved.{Around, around_of, all_of, member_from, member_as, member_of, form_of, body_form, declaration_from, resolved_of}
+use Rattle.derive_decl.specs.Resolved.{Around, around_of, all_of, member_from, member_as, member_of, form_of, units_of, body_of, declaration_from, resolved_of}
 use Rattle.derive_decl.specs.Whole.{resolved_declarations}
 
 -- ---- results that may be missing
@@ -69,10 +74,10 @@ member_parts around rules f m e = by f.ident refl e
 -- ---- declarations
 
 -- the declaration of a declaration
-declaration_parts : (around : Around) (d : DeclaredItem) (s : DeclarationOf) → resolved_of around d ≡ Some s → (s.name ≡ d.ident.text) × (body_form around (field_rules (serde_items d.attrs)) d.body ≡ Some s.form)
+declaration_parts : (around : Around) (d : DeclaredItem) (s : DeclarationOf) → resolved_of around d ≡ Some s → (s.name ≡ d.ident.text) × (body_of around (serde_items d.attrs) d.body ≡ Some s.body)
 declaration_parts around d s e =
-    let m = mapped (declaration_from d.attrs d.ident) (body_form around (field_rules (serde_items d.attrs)) d.body) s e in
-    (sym (ap (λ (r : DeclarationOf). r.name) m.2), m.1 ∙ ap (λ (r : DeclarationOf). Some r.form) m.2)
+    let m = mapped (declaration_from d.attrs d.ident) (body_of around (serde_items d.attrs) d.body) s e in
+    (sym (ap (λ (r : DeclarationOf). r.name) m.2), m.1 ∙ ap (λ (r : DeclarationOf). Some r.body) m.2)
 
 module _ (around : Around) where
   -- the declarations have the names of the declarations
@@ -106,14 +111,24 @@ module _ (around : Around) where
         let m = mapped unnamed_fields (all_of (λ (g : FieldItem). type_of around.place_of g.ty) (f ∷ fs)) form e in subst (λ x. TypesWithin n (types_of x)) m.2 (types_within (f ∷ fs) m.0 m.1)
     form_within rules unit form e = subst (λ f. TypesWithin n (types_of f)) (same_Some no_fields form e) tt
 
-    body_within : (rules : FieldRules) (b : BodyItem) (form : FormOf) → body_form around rules b ≡ Some form → TypesWithin n (types_of form)
-    body_within rules (struct_body fs) form e = form_within rules fs form e
+    units_within : (rule : Option RenameRule) (vs : List VariantItem) (tagging : Option Tagging) (body : BodyOf) → option_and_then (units_of around.rows rule vs) tagging ≡ Some body → TypesWithin n (body_types body)
+    units_within rule vs None body e = absurd (none-some body e)
+    units_within rule vs (Some tagging) body e = by (are_units vs) e
+      where
+        by : (b : Bool) → cond b (option_map (units tagging) (all_of (variant_name around.rows rule tagging) (kept_variants vs))) None ≡ Some body → TypesWithin n (body_types body)
+        by true h = subst (λ x. TypesWithin n (body_types x)) (mapped (units tagging) (all_of (variant_name around.rows rule tagging) (kept_variants vs)) body h).2 tt
+        by false h = absurd (none-some body h)
+
+    body_within : (items : List SerdeItem) (b : BodyItem) (body : BodyOf) → body_of around items b ≡ Some body → TypesWithin n (body_types body)
+    body_within items (struct_body fs) body e =
+        let m = mapped fields (form_of around (field_rules items) fs) body e in subst (λ x. TypesWithin n (body_types x)) m.2 (form_within (field_rules items) fs m.0 m.1)
+    body_within items (enum_body vs) body e = units_within (rename_rule items) vs (tagging_in items) body e
 
     are_within : (ds : List DeclaredItem) (ss : List DeclarationOf) → all_of (resolved_of around) ds ≡ Some ss → AreWithin n ss
     are_within [] ss e = subst (AreWithin n) (same_Some [] ss e) tt
     are_within (d ∷ ds) ss e =
         let j = joined (resolved_of around d) (all_of (resolved_of around) ds) ss e in
-        subst (AreWithin n) j.4 (body_within (field_rules (serde_items d.attrs)) d.body j.0.form (declaration_parts around d j.0 j.2).1, are_within ds j.1 j.3)
+        subst (AreWithin n) j.4 (body_within (serde_items d.attrs) d.body j.0.body (declaration_parts around d j.0 j.2).1, are_within ds j.1 j.3)
 
 pub names_are : (rows : List RenameRow) (ds : List DeclaredItem) (ss : List DeclarationOf) → resolved_declarations rows ds ≡ Some ss → declaration_names ss ≡ declared_names ds
 names_are rows ds ss e = declaration_names-are (around_of rows ds) ds ss e

@@ -1,11 +1,14 @@
--- Why a declaration has no schema: an attribute that nothing is derived from, serde's items that contradict each other or name a rename rule that there is not, a name that has no row or that two fields have, a type that stands for nothing or is too large, a form of unnamed fields without a field.
-use Rattle.std.specs.Prelude.{◌≡◌, ◌⊎◌, ◌||◌, ℕ, List, [], ◌∷◌, ◌++◌, Bool, cond, Option, Some, None, codes}
+-- Why a declaration has no schema: an attribute or a variant that nothing is derived from, serde's items that contradict each other or name a rename rule that there is not, a name that has no row or that two fields or variants have, a type that stands for nothing or is too large, a form of unnamed fields without a field.
+use Rattle.std.specs.Prelude.{◌≡◌, ◌⊎◌, ◌||◌, ℕ, List, [], ◌∷◌, ◌++◌, Bool, cond, Option, Some, None, Ok, codes}
 use Rattle.std.specs.List.{flat_map}
-use Rattle.diag.specs.Refusal.{IsRefusal, IsSyntaxRefusal}
+use Rattle.std.specs.Option.{option_or}
+use Rattle.diag.specs.Refusal.{IsRefusal, IsSyntaxRefusal, RefusesNone}
 use Rattle.diag.specs.declared.error.DeriveError.{DeriveError}
-use Rattle.diag.specs.declared.kind.Kind.TheVariants.{MissingRow, Arity}
+use Rattle.diag.specs.declared.kind.Kind.TheVariants.{MissingRow, Arity, SerdeTag}
 use Rattle.diag.specs.declared.rename_rule.RenameRule.{RenameRule}
 use Rattle.diag.specs.declared.rename_row.RenameRow.{RenameRow}
+use Rattle.diag.specs.declared.rename_row.RenamePlace.{RenamePlace}
+use Rattle.diag.specs.declared.rename_row.RenamePlace.TheVariants.{Field, Variant}
 use Rattle.diag.specs.RenameRules.{name_of}
 use Rattle.texts.specs.Lists.{Somewhere}
 use Rattle.texts.specs.declared.span.Span.{Span}
@@ -13,11 +16,15 @@ use Rattle.written_types.specs.declared.written.Ident.{Ident}
 use Rattle.attributes.specs.Attributes.{AttributeItem, is_word, serde_items}
 use Rattle.attributes.specs.declared.serde_item.SerdeItem.{SerdeItem}
 use Rattle.serde_rules.specs.declared.value.SerdeValue.{SerdeValue}
-use Rattle.serde_rules.specs.Container.{IsContainerRefusal}
+use Rattle.serde_rules.specs.declared.enum_repr.SerdeEnumRepr.TheVariants.{UnfinishedAdjacentlyTagged}
+use Rattle.serde_rules.specs.Container.{representation, rename_rule, IsContainerRefusal}
 use Rattle.serde_rules.specs.Items.{has_item}
-use Rattle.syntax.specs.Items.{FieldItem, FieldItems, named, unnamed, unit, BodyItem, struct_body, DeclaredItem}
+use Rattle.syntax.specs.Items.{FieldItem, FieldItems, named, unnamed, unit, VariantItem, BodyItem, struct_body, enum_body, DeclaredItem}
 use Rattle.resolving.specs.Resolved.{Fault, IsFault, IsRefusedFor}
 use Rattle.scopes.specs.Names.{IsGivenTwice}
+use Rattle.shapes.specs.declared.tagging.Tagging.{Tagging}
+use Rattle.shapes.specs.declared.tagging.Tagging.TheVariants.{External, Internal, Adjacent, Untagged}
+use Rattle.derive_decl.specs.Variants.{tagging_in, is_unit, value_of_variant, kept_variants, telling_idents}
 use Rattle.derive_decl.specs.Fields.{FieldRules, field_rules, value_of, kept, name_by, written_idents}
 use Rattle.derive_decl.specs.Resolved.{Around, around_of}
 
@@ -26,18 +33,30 @@ fields_in (named fs) = fs
 fields_in (unnamed fs) = fs
 fields_in unit = []
 
-abbrev pub body_fields : BodyItem → List FieldItem
-body_fields (struct_body fs) = fields_in fs
+abbrev pub attributes_on : FieldItems → List AttributeItem
+attributes_on fs = flat_map (λ f. f.attrs) (fields_in fs)
 
--- the attributes of a declaration and its fields, in order
+-- the attributes of the fields, or of each variant and its fields
+abbrev pub attributes_inside : BodyItem → List AttributeItem
+attributes_inside (struct_body fs) = attributes_on fs
+attributes_inside (enum_body vs) = flat_map (λ v. v.attrs ++ attributes_on v.fields) vs
+
+-- the attributes of a declaration and of what stands in it, in order
 abbrev pub attributes_with : List AttributeItem → BodyItem → List AttributeItem
-attributes_with attrs body = attrs ++ flat_map (λ f. f.attrs) (body_fields body)
+attributes_with attrs body = attrs ++ attributes_inside body
 
 abbrev pub attributes_in : DeclaredItem → List AttributeItem
 attributes_in d = attributes_with d.attrs d.body
 
 abbrev pub attributes_among : List DeclaredItem → List AttributeItem
 attributes_among ds = flat_map attributes_in ds
+
+abbrev pub variants_in : BodyItem → List VariantItem
+variants_in (struct_body fs) = []
+variants_in (enum_body vs) = vs
+
+abbrev pub variants_among : List DeclaredItem → List VariantItem
+variants_among ds = flat_map (λ d. variants_in d.body) ds
 
 -- an attribute of `schema` or `repr`, or a serde list that flattens: nothing is derived from these
 abbrev pub is_other : AttributeItem → Bool
@@ -48,6 +67,18 @@ abbrev pub first_other : List AttributeItem → Option Span
 first_other [] = None
 first_other (a ∷ others) = cond (is_other a) (Some a.span) (first_other others)
 
+-- where the name of the first variant stands that has fields
+abbrev pub first_mixed : List VariantItem → Option Span
+first_mixed [] = None
+first_mixed (v ∷ vs) = cond (is_unit v.fields) (first_mixed vs) (Some v.ident.span)
+
+-- where nothing is derived: at the first of these attributes, or else at the first variant with fields
+abbrev pub underivable_with : List AttributeItem → BodyItem → Option Span
+underivable_with attrs body = option_or (first_other (attributes_with attrs body)) (first_mixed (variants_in body))
+
+abbrev pub underivable_among : List DeclaredItem → Option Span
+underivable_among ds = option_or (first_other (attributes_among ds)) (first_mixed (variants_among ds))
+
 abbrev pub fieldless_message : List ℕ
 fieldless_message = codes "a tuple form without a field"
 
@@ -56,22 +87,22 @@ row_message rule name = codes "no row for " ++ (name_of rule ++ (codes " of " ++
 
 -- ---- the answers
 
--- the error refuses an attribute that nothing is derived from, the first of them
-abbrev pub IsUnderivable : List AttributeItem → DeriveError → Type 0
-IsUnderivable attrs e = (span : Span) × (first_other attrs ≡ Some span) × IsSyntaxRefusal span e
+-- the error refuses what stands at the place, where there is one
+abbrev pub IsUnderivable : Option Span → DeriveError → Type 0
+IsUnderivable place e = (span : Span) × (place ≡ Some span) × IsSyntaxRefusal span e
 
 -- the error refuses the field's type
 abbrev pub IsFaultyType : Around → FieldItem → DeriveError → Type 0
 IsFaultyType around f e = (fault : Fault) × IsFault around.place_of f.ty fault × IsRefusedFor fault e
 
 -- the error refuses the identifier: the row of the rule is needed and missing
-abbrev pub IsUnwritten : List RenameRow → Option RenameRule → SerdeValue → Ident → DeriveError → Type 0
-IsUnwritten rows None value x e = ⊥
-IsUnwritten rows (Some rule) value x e = (name_by rows (Some rule) value x ≡ None) × IsRefusal MissingRow x.span (row_message rule x.text) e
+abbrev pub IsUnwritten : RenamePlace → List RenameRow → Option RenameRule → SerdeValue → Ident → DeriveError → Type 0
+IsUnwritten place rows None value x e = ⊥
+IsUnwritten place rows (Some rule) value x e = (name_by place rows (Some rule) value x ≡ None) × IsRefusal MissingRow x.span (row_message rule x.text) e
 
 -- the error refuses the field's name
 abbrev pub IsFaultyName : List RenameRow → Option RenameRule → FieldItem → DeriveError → Type 0
-IsFaultyName rows rule f e = (x : Ident) × (f.ident ≡ Some x) × IsUnwritten rows rule (value_of f) x e
+IsFaultyName rows rule f e = (x : Ident) × (f.ident ≡ Some x) × IsUnwritten Field rows rule (value_of f) x e
 
 -- the error refuses the field among named ones: for its type, or its name
 abbrev pub IsFaultyMember : Around → FieldRules → FieldItem → DeriveError → Type 0
@@ -97,13 +128,43 @@ AreFaulty around items x (named fs) e = AreFaultyNamed around items fs e
 AreFaulty around items x (unnamed fs) e = AreFaultyTypes around x fs e
 AreFaulty around items x unit e = ⊥
 
+-- ---- enums
+
+abbrev pub tagless_message : List ℕ
+tagless_message = codes "serde content without tag"
+
+-- the error refuses serde's items before an enum: one of them, or else that they name a content and no tag
+abbrev pub IsFaultyTagging : List SerdeItem → Ident → DeriveError → Type 0
+IsFaultyTagging items x e =
+    IsContainerRefusal items e
+    ⊎ ((content : List ℕ) × (representation items ≡ Ok (UnfinishedAdjacentlyTagged content)) × RefusesNone (IsContainerRefusal items) × IsRefusal SerdeTag x.span tagless_message e)
+
+-- the error refuses the variant's name; that of an untagged enum needs no row
+abbrev pub IsFaultyVariant : List RenameRow → Option RenameRule → Tagging → VariantItem → DeriveError → Type 0
+IsFaultyVariant rows rule Untagged v e = ⊥
+IsFaultyVariant rows rule External v e = IsUnwritten Variant rows rule (value_of_variant v) v.ident e
+IsFaultyVariant rows rule (Internal tag) v e = IsUnwritten Variant rows rule (value_of_variant v) v.ident e
+IsFaultyVariant rows rule (Adjacent tag content) v e = IsUnwritten Variant rows rule (value_of_variant v) v.ident e
+
+-- the error refuses the variants that are kept: the name of one, or a name that two are told by
+abbrev pub AreFaultyVariants : List RenameRow → Option RenameRule → Tagging → List VariantItem → DeriveError → Type 0
+AreFaultyVariants rows rule tagging vs e = Somewhere (λ v. IsFaultyVariant rows rule tagging v e) (kept_variants vs) ⊎ IsGivenTwice (telling_idents rows rule tagging (kept_variants vs)) e
+
+-- the error refuses the enum of the name: serde's items before it, or its variants
+abbrev pub IsFaultyEnum : List RenameRow → List SerdeItem → Ident → List VariantItem → DeriveError → Type 0
+IsFaultyEnum rows items x vs e = IsFaultyTagging items x e ⊎ ((tagging : Tagging) × (tagging_in items ≡ Some tagging) × AreFaultyVariants rows (rename_rule items) tagging vs e)
+
+-- ---- declarations
+
 -- the error refuses the body of the declaration of the name, before which serde's items stand
 abbrev pub IsFaultyBody : Around → List SerdeItem → Ident → BodyItem → DeriveError → Type 0
 IsFaultyBody around items x (struct_body fs) e = AreFaulty around items x fs e
+IsFaultyBody around items x (enum_body vs) e = IsFaultyEnum around.rows items x vs e
 
--- the error refuses the declaration of these attributes and the name: for an attribute, or its body
+-- the error refuses the declaration of these attributes and the name: where nothing is derived, or else for its body
 abbrev pub IsFaultyDeclaration : Around → List AttributeItem → Ident → BodyItem → DeriveError → Type 0
-IsFaultyDeclaration around attrs x body e = IsUnderivable (attributes_with attrs body) e ⊎ IsFaultyBody around (serde_items attrs) x body e
+IsFaultyDeclaration around attrs x body e =
+    IsUnderivable (underivable_with attrs body) e ⊎ ((underivable_with attrs body ≡ None) × IsFaultyBody around (serde_items attrs) x body e)
 
 abbrev pub IsFaultyItem : Around → DeclaredItem → DeriveError → Type 0
 IsFaultyItem around d e = IsFaultyDeclaration around d.attrs d.ident d.body e

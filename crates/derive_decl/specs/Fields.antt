@@ -3,6 +3,7 @@ use Rattle.std.specs.Prelude.{ℕ, List, Bool, not, Option, Some, None, option_m
 use Rattle.std.specs.List.{list_any}
 use Rattle.diag.specs.declared.rename_rule.RenameRule.{RenameRule}
 use Rattle.diag.specs.declared.rename_row.RenameRow.{RenameRow}
+use Rattle.diag.specs.declared.rename_row.RenamePlace.{RenamePlace}
 use Rattle.diag.specs.declared.rename_row.RenamePlace.TheVariants.{Field}
 use Rattle.written_types.specs.declared.written.Ident.{Ident}
 use Rattle.attributes.specs.Attributes.{AttributeItem, is_word, serde_items}
@@ -51,11 +52,11 @@ or_as_it_was name (Ok (Some other)) = Some other
 or_as_it_was name (Err e) = None
 
 -- the name of an identifier in JSON: the given one, or by the row of the rule, or the identifier; none where the rule has no row
-abbrev pub name_by : List RenameRow → Option RenameRule → SerdeValue → Ident → Option (List ℕ)
-name_by rows rule value x = or_as_it_was x.text (new_name Field rows x.text value.rename rule)
+abbrev pub name_by : RenamePlace → List RenameRow → Option RenameRule → SerdeValue → Ident → Option (List ℕ)
+name_by place rows rule value x = or_as_it_was x.text (new_name place rows x.text value.rename rule)
 
 abbrev pub written_name : List RenameRow → Option RenameRule → FieldItem → Ident → Option (List ℕ)
-written_name rows rule f x = name_by rows rule (value_of f) x
+written_name rows rule f x = name_by Field rows rule (value_of f) x
 
 -- the name, where the identifier stands
 abbrev pub named_at : Ident → List ℕ → Ident

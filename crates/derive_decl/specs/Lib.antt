@@ -2,5 +2,6 @@ pub mod Fields
 pub mod Faults
 pub mod Resolved
 pub mod Schemas
+pub mod Variants
 pub mod Views
 pub mod Whole

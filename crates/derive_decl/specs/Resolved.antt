@@ -1,19 +1,24 @@
 -- What written declarations are resolved to, by serde's rules and their attributes.
-use Rattle.std.specs.Prelude.{ℕ, List, [], ◌∷◌, Bool, true, false, not, ◌&&◌, Option, Some, None, option_map, option_and_then}
+use Rattle.std.specs.Prelude.{ℕ, List, [], ◌∷◌, Bool, true, false, not, ◌&&◌, cond, Option, Some, None, option_map, option_and_then}
+use Rattle.diag.specs.declared.rename_rule.RenameRule.{RenameRule}
 use Rattle.diag.specs.declared.rename_row.RenameRow.{RenameRow}
 use Rattle.written_types.specs.declared.written.Ident.{Ident}
 use Rattle.attributes.specs.Attributes.{AttributeItem, serde_items}
 use Rattle.attributes.specs.Comments.{docs_of, formatted}
+use Rattle.attributes.specs.declared.serde_item.SerdeItem.{SerdeItem}
+use Rattle.serde_rules.specs.Container.{rename_rule}
 use Rattle.serde_rules.specs.Value.{is_required}
-use Rattle.syntax.specs.Items.{FieldItem, FieldItems, named, unnamed, unit, BodyItem, struct_body, DeclaredItem}
+use Rattle.syntax.specs.Items.{FieldItem, FieldItems, named, unnamed, unit, VariantItem, BodyItem, struct_body, enum_body, DeclaredItem}
 use Rattle.open_types.specs.Open.{Open}
 use Rattle.shapes.specs.declared.remarks.Remarks.{Remarks}
-use Rattle.shapes.specs.Declarations.{MemberOf, FormOf, named_fields, unnamed_fields, no_fields, DeclarationOf}
+use Rattle.shapes.specs.declared.tagging.Tagging.{Tagging}
+use Rattle.shapes.specs.Declarations.{MemberOf, FormOf, named_fields, unnamed_fields, no_fields, BodyOf, fields, units, DeclarationOf}
 use Rattle.open_types.specs.Open as types
 use Rattle.resolving.specs.Resolved.{type_of}
 use Rattle.scopes.specs.Names.{place_among}
 use Rattle.scopes.specs.Descriptions.{said}
 use Rattle.derive_decl.specs.Fields.{is_deprecated, FieldRules, field_rules, value_of, kept, written_name}
+use Rattle.derive_decl.specs.Variants.{tagging_in, are_units, kept_variants, variant_name}
 
 -- null stands for the type
 abbrev pub is_option : Open → Bool
@@ -76,12 +81,18 @@ form_of around rules (unnamed []) = None
 form_of around rules (unnamed (f ∷ fs)) = option_map unnamed_fields (all_of (λ g. type_of around.place_of g.ty) (f ∷ fs))
 form_of around rules unit = Some no_fields
 
-abbrev pub body_form : Around → FieldRules → BodyItem → Option FormOf
-body_form around rules (struct_body fs) = form_of around rules fs
+-- an enum of which no variant has fields, where each name that is needed has its row
+abbrev pub units_of : List RenameRow → Option RenameRule → List VariantItem → Tagging → Option BodyOf
+units_of rows rule vs tagging = cond (are_units vs) (option_map (units tagging) (all_of (variant_name rows rule tagging) (kept_variants vs))) None
 
--- what a declaration is resolved to, where it has a form
-abbrev pub declaration_from : List AttributeItem → Ident → FormOf → DeclarationOf
-declaration_from attributes x form = record { name = x.text; remarks = remarks_of attributes; form = form }
+-- the body before which serde's items stand
+abbrev pub body_of : Around → List SerdeItem → BodyItem → Option BodyOf
+body_of around items (struct_body fs) = option_map fields (form_of around (field_rules items) fs)
+body_of around items (enum_body vs) = option_and_then (units_of around.rows (rename_rule items) vs) (tagging_in items)
+
+-- what a declaration is resolved to, where its body is to something
+abbrev pub declaration_from : List AttributeItem → Ident → BodyOf → DeclarationOf
+declaration_from attributes x body = record { name = x.text; remarks = remarks_of attributes; body = body }
 
 abbrev pub resolved_of : Around → DeclaredItem → Option DeclarationOf
-resolved_of around d = option_map (declaration_from d.attrs d.ident) (body_form around (field_rules (serde_items d.attrs)) d.body)
+resolved_of around d = option_map (declaration_from d.attrs d.ident) (body_of around (serde_items d.attrs) d.body)

@@ -5,15 +5,19 @@ use Rattle.attributes.specs.declared.serde_item.SerdeItem.{SerdeItem}
 use Rattle.open_types.specs.Open.{open_view}
 use Rattle.scopes.specs.Scopes.{declared_in}
 use Rattle.scopes.specs.declared.container.Container.{Container}
+use Rattle.scopes.specs.Names.{texts}
 use Rattle.shapes.specs.declared.remarks.Remarks.{Remarks}
-use Rattle.shapes.specs.Declarations.{MemberOf, FormOf, named_fields, unnamed_fields, no_fields, DeclarationOf}
+use Rattle.shapes.specs.Declarations.{MemberOf, FormOf, named_fields, unnamed_fields, no_fields, BodyOf, fields, units, DeclarationOf}
 use Rattle.derive_decl.specs.Resolved.{Around, around_of}
 use Rattle.derive_decl.specs.declared.member.Member.{Member}
 use Rattle.derive_decl.specs.declared.root.Root.{Root}
 use Rattle.derive_decl.specs.declared.named_struct.NamedStructSchema.{NamedStructSchema}
 use Rattle.derive_decl.specs.declared.unnamed_struct.UnnamedStructSchema.{UnnamedStructSchema}
+use Rattle.derive_decl.specs.declared.form_schema.FormSchema.{FormSchema}
+use Rattle.derive_decl.specs.declared.form_schema.FormSchema.TheVariants as forms
+use Rattle.derive_decl.specs.declared.plain_enum.PlainEnum.{PlainEnum}
 use Rattle.derive_decl.specs.declared.schema_variant.SchemaVariant.{SchemaVariant}
-use Rattle.derive_decl.specs.declared.schema_variant.SchemaVariant.TheVariants as variants
+use Rattle.derive_decl.specs.declared.schema_variant.SchemaVariant.TheVariants as bodies
 use Rattle.derive_decl.specs.declared.resolved.Resolved.{Resolved}
 
 -- the names that are declared around, and the rows of the configuration
@@ -36,15 +40,26 @@ named_view s = named_fields s.denies_others (map member_view s.members)
 abbrev pub unnamed_view : UnnamedStructSchema → FormOf
 unnamed_view s = unnamed_fields (map open_view s.types)
 
-abbrev pub variant_view : SchemaVariant → FormOf
-variant_view (variants.Named s) = named_view s
-variant_view (variants.Unnamed s) = unnamed_view s
-variant_view (variants.Unit s) = no_fields
+abbrev pub plain_view : PlainEnum → BodyOf
+plain_view e = units e.tagging (texts e.names)
 
-abbrev pub variant_remarks : SchemaVariant → Remarks
-variant_remarks (variants.Named s) = s.remarks
-variant_remarks (variants.Unnamed s) = s.remarks
-variant_remarks (variants.Unit s) = s.remarks
+abbrev pub form_view : FormSchema → FormOf
+form_view (forms.Named s) = named_view s
+form_view (forms.Unnamed s) = unnamed_view s
+form_view (forms.Unit s) = no_fields
+
+abbrev pub form_remarks : FormSchema → Remarks
+form_remarks (forms.Named s) = s.remarks
+form_remarks (forms.Unnamed s) = s.remarks
+form_remarks (forms.Unit s) = s.remarks
+
+abbrev pub schema_view : SchemaVariant → BodyOf
+schema_view (bodies.Struct form) = fields (form_view form)
+schema_view (bodies.Enum e) = plain_view e
+
+abbrev pub schema_remarks : SchemaVariant → Remarks
+schema_remarks (bodies.Struct form) = form_remarks form
+schema_remarks (bodies.Enum e) = e.remarks
 
 abbrev pub resolved_view : Resolved → DeclarationOf
-resolved_view s = record { name = s.name; remarks = variant_remarks s.form; form = variant_view s.form }
+resolved_view s = record { name = s.name; remarks = schema_remarks s.body; body = schema_view s.body }

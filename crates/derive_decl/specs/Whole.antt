@@ -1,21 +1,20 @@
 -- What a declaration is resolved to where nothing is at fault, and what all declarations of a source are.
-use Rattle.std.specs.Prelude.{◌≡◌, List, Option, Some, option_map}
-use Rattle.texts.specs.Names.{IsDistinct}
+use Rattle.std.specs.Prelude.{◌≡◌, List, Option, Some, None, option_map}
 use Rattle.written_types.specs.declared.written.Ident.{Ident}
 use Rattle.diag.specs.Refusal.{RefusesNone}
 use Rattle.diag.specs.declared.rename_row.RenameRow.{RenameRow}
 use Rattle.attributes.specs.Attributes.{AttributeItem, serde_items}
 use Rattle.syntax.specs.Items.{BodyItem, DeclaredItem}
-use Rattle.shapes.specs.Declarations.{DeclarationOf, names_of}
-use Rattle.derive_decl.specs.Fields.{field_rules}
-use Rattle.derive_decl.specs.Resolved.{Around, around_of, all_of, body_form, declaration_from, resolved_of}
-use Rattle.derive_decl.specs.Faults.{IsFaultyDeclaration}
+use Rattle.shapes.specs.Declarations.{DeclarationOf, IsApartBody}
+use Rattle.derive_decl.specs.Resolved.{Around, around_of, all_of, body_of, declaration_from, resolved_of}
+use Rattle.derive_decl.specs.Faults.{underivable_with, IsFaultyBody}
 
--- This is what a declaration of these attributes, this name and this body is resolved to: its members have different names, and nothing of it is at fault.
+-- This is what a declaration of these attributes, this name and this body is resolved to: its members or variants have different names, all of it is derived from, and nothing is at fault.
 pub record IsResolved (around : Around) (attributes : List AttributeItem) (x : Ident) (body : BodyItem) (of : DeclarationOf) : Type 0 where
-  pub resolved : option_map (declaration_from attributes x) (body_form around (field_rules (serde_items attributes)) body) ≡ Some of
-  pub distinct : IsDistinct (names_of of.form)
-  pub faultless : RefusesNone (IsFaultyDeclaration around attributes x body)
+  pub resolved : option_map (declaration_from attributes x) (body_of around (serde_items attributes) body) ≡ Some of
+  pub apart : IsApartBody of.body
+  pub derivable : underivable_with attributes body ≡ None
+  pub faultless : RefusesNone (IsFaultyBody around (serde_items attributes) x body)
 
 -- what all declarations are resolved to, where each type stands for something and each name has its row
 abbrev pub resolved_declarations : List RenameRow → List DeclaredItem → Option (List DeclarationOf)

@@ -1,17 +1,16 @@
-//! Attributes that nothing is derived from.
+//! Attributes and variants that nothing is derived from.
 
-ghost use Rattle.std.specs.Prelude.{◌≡◌, [], ◌∷◌, map, IfOk, Some};
+ghost use Rattle.std.specs.Prelude.{◌≡◌, [], ◌∷◌, ◌++◌, map, IfOk, None, Some};
 ghost use Rattle.std.specs.List.{flat_map};
-ghost use Rattle.diag.specs.Refusal.{Refuses, RefusesNone};
-ghost use Rattle.texts.specs.declared.span.Span.{Span as AnySpan};
+ghost use Rattle.diag.specs.Refusal.{Refuses};
 ghost use Rattle.attributes.specs.Attributes.{attribute_view};
-ghost use Rattle.syntax.specs.Items.{field_view, body_view, declaration_view, declarations_view};
-ghost use Rattle.derive_decl.specs.Faults.{body_fields, attributes_with, attributes_in, attributes_among, is_other, first_other, IsUnderivable};
+ghost use Rattle.syntax.specs.Items.{field_view, fields_view, variant_view, body_view, declaration_view, declarations_view};
+ghost use Rattle.derive_decl.specs.Faults.{fields_in, attributes_on, attributes_inside, attributes_with, attributes_in, attributes_among, variants_in, variants_among, is_other, first_other, first_mixed, underivable_with, underivable_among, IsUnderivable};
 
 use diag::DeriveError;
 use serde_rules::has_item;
 use std::alloc::Global;
-use syntax::{Attribute, Body, Declaration, Declarations, Field, Fields};
+use syntax::{Attribute, Body, Declaration, Declarations, Field, Fields, Variant};
 use texts::Span;
 
 /// Whether the attribute is one of `schema` or `repr`, or a serde list that flattens.
@@ -57,13 +56,44 @@ fn first_on_fields(fields: &[Field]) -> Option<Span>
     None
 }
 
-fn fields_of(body: &Body) -> &[Field]
-    ensures { map field_view result.now ≡ body_fields (body_view body.now) }
+fn fields_of(fields: &Fields) -> &[Field]
+    ensures { map field_view result.now ≡ fields_in (fields_view fields.now) }
+{
+    match fields {
+        Fields::Named(fields) => fields.as_slice(),
+        Fields::Unnamed(fields) => fields.as_slice(),
+        Fields::Unit => &[],
+    }
+}
+
+#[tactic(auto, using(crate::proofs::First::first_joined))]
+fn first_on_variant(variant: &Variant) -> Option<Span>
+    ensures { result ≡ first_other ((variant_view variant.now).attrs
+        ++ attributes_on (variant_view variant.now).fields) }
+{
+    let before = first_other(variant.attrs.as_slice());
+    let inside = first_on_fields(fields_of(&variant.fields));
+    before.or(inside)
+}
+
+fn first_on_variants(variants: &[Variant]) -> Option<Span>
+    ensures { result ≡ first_other (flat_map (λ v. v.attrs ++ attributes_on v.fields)
+        (map variant_view variants.now)) }
+{
+    for variant in variants {
+        if let Some(span) = first_on_variant(variant) {
+            return Some(span);
+        }
+    }
+    None
+}
+
+fn first_inside(body: &Body) -> Option<Span>
+    ensures { result ≡ first_other (attributes_inside (body_view body.now)) }
 {
     match body {
-        Body::Struct(Fields::Named(fields)) => fields.as_slice(),
-        Body::Struct(Fields::Unnamed(fields)) => fields.as_slice(),
-        Body::Struct(Fields::Unit) => &[],
+        Body::Struct(fields) => first_on_fields(fields_of(fields)),
+        Body::Enum(variants) => first_on_variants(variants.as_slice()),
     }
 }
 
@@ -73,7 +103,7 @@ fn first_with(attributes: &[Attribute], body: &Body) -> Option<Span>
         (attributes_with (map attribute_view attributes.now) (body_view body.now)) }
 {
     let before = first_other(attributes);
-    let inside = first_on_fields(fields_of(body));
+    let inside = first_inside(body);
     before.or(inside)
 }
 
@@ -94,33 +124,76 @@ fn first_among(declarations: &[Declaration]) -> Option<Span>
     None
 }
 
-/// Refuses a declaration of these attributes and this body that has an attribute from which nothing is derived, at the
-/// first one.
+/// Where the name of the variant stands, if it has fields.
+fn mixed(variant: &Variant) -> Option<Span>
+    ensures { result ≡ first_mixed (variant_view variant.now ∷ []) }
+{
+    match &variant.fields {
+        Fields::Named(_) | Fields::Unnamed(_) => Some(variant.ident.span),
+        Fields::Unit => None,
+    }
+}
+
+/// Where the name of the first variant stands that has fields.
+fn first_mixed(variants: &[Variant]) -> Option<Span>
+    ensures { result ≡ first_mixed (map variant_view variants.now) }
+{
+    for variant in variants {
+        if let Some(span) = mixed(variant) {
+            return Some(span);
+        }
+    }
+    None
+}
+
+fn first_mixed_in(body: &Body) -> Option<Span>
+    ensures { result ≡ first_mixed (variants_in (body_view body.now)) }
+{
+    match body {
+        Body::Struct(_) => None,
+        Body::Enum(variants) => first_mixed(variants.as_slice()),
+    }
+}
+
+fn first_mixed_among(declarations: &[Declaration]) -> Option<Span>
+    ensures { result ≡ first_mixed (variants_among (map declaration_view declarations.now)) }
+{
+    for declaration in declarations {
+        if let Some(span) = first_mixed_in(&declaration.body) {
+            return Some(span);
+        }
+    }
+    None
+}
+
+/// Refuses a declaration of these attributes and this body of which nothing is derived: at the first attribute, or else
+/// at the first variant with fields.
 pub(crate) fn derivable(
     alloc: Global,
     attributes: &[Attribute],
     body: &Body,
 ) -> Result<(), DeriveError>
-    ensures derivable { IfOk result (λ _. RefusesNone (IsUnderivable
-        (attributes_with (map attribute_view attributes.now) (body_view body.now)))) }
+    ensures derivable { IfOk result (λ _. underivable_with (map attribute_view attributes.now)
+        (body_view body.now) ≡ None) }
     ensures refused { Refuses result (IsUnderivable
-        (attributes_with (map attribute_view attributes.now) (body_view body.now))) }
+        (underivable_with (map attribute_view attributes.now) (body_view body.now))) }
 {
-    match first_with(attributes, body) {
+    match first_with(attributes, body).or(first_mixed_in(body)) {
         Some(span) => Err(DeriveError::syntax(alloc, span)),
         None => Ok(()),
     }
 }
 
-/// Refuses declarations that have an attribute from which nothing is derived, at the first one: one of `schema` or `repr`,
-/// or a serde list with an item `flatten`. The kind is `Syntax`.
+/// Refuses declarations from which nothing is derived, at the first attribute of `schema` or `repr` or serde list with an
+/// item `flatten`, or else at the name of the first variant that has fields. The kind is `Syntax`.
 pub fn only_derivable(alloc: Global, declarations: &Declarations) -> Result<(), DeriveError>
-    ensures derivable { IfOk result (λ _. (span : AnySpan)
-        → ¬ (first_other (attributes_among (declarations_view declarations.now)) ≡ Some span)) }
+    ensures derivable { IfOk result
+        (λ _. underivable_among (declarations_view declarations.now) ≡ None) }
     ensures refused { Refuses result
-        (IsUnderivable (attributes_among (declarations_view declarations.now))) }
+        (IsUnderivable (underivable_among (declarations_view declarations.now))) }
 {
-    match first_among(declarations.items.as_slice()) {
+    let declarations = declarations.items.as_slice();
+    match first_among(declarations).or(first_mixed_among(declarations)) {
         Some(span) => Err(DeriveError::syntax(alloc, span)),
         None => Ok(()),
     }

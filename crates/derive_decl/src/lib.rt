@@ -3,8 +3,12 @@
 
 mod attributed;
 mod field_term;
+mod form_schema;
 mod member;
 mod named_struct;
+mod names;
+mod plain_enum;
+mod push_some;
 mod remarks;
 mod resolved;
 mod root;
@@ -12,11 +16,14 @@ mod schema;
 mod schema_variant;
 mod unit_struct;
 mod unnamed_struct;
+mod variants;
 mod whole;
 
 pub use attributed::only_derivable;
+pub use form_schema::FormSchema;
 pub use member::Member;
 pub use named_struct::NamedStructSchema;
+pub use plain_enum::PlainEnum;
 pub use resolved::Resolved;
 pub use root::Root;
 pub use schema::Schema;

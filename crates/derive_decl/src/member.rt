@@ -1,28 +1,26 @@
 //! Named fields with resolved types.
 
-ghost use Rattle.std.specs.Prelude.{◌≡◌, ◌∷◌, [], IfOk, Some, map, option_map};
+ghost use Rattle.std.specs.Prelude.{◌≡◌, ◌∷◌, [], IfOk, Some, map};
 ghost use Rattle.std.specs.List.{AllByRecursion, cons_option};
-ghost use Rattle.diag.specs.Refusal.{IsErrorFor, IsRefusal, Refuses, RefusesNone};
+ghost use Rattle.diag.specs.Refusal.{Refuses, RefusesNone};
 ghost use Rattle.open_types.specs.Open.{open_view};
 ghost use Rattle.texts.specs.Lists.{Somewhere};
 ghost use Rattle.syntax.specs.Items.{field_view};
 ghost use Rattle.syntax.specs.Named.{HasName};
-ghost use Rattle.derive_decl.specs.Fields.{kept, name_by, named_at, rules_view, value_of, written_ident, written_idents};
+ghost use Rattle.derive_decl.specs.Fields.{kept, rules_view, value_of, written_ident, written_idents};
 ghost use Rattle.derive_decl.specs.Resolved.{all_of, is_option, member_of, member_from};
-ghost use Rattle.derive_decl.specs.Faults.{IsUnwritten, IsFaultyMember, row_message};
+ghost use Rattle.derive_decl.specs.Faults.{IsFaultyMember};
 ghost use Rattle.derive_decl.specs.Views.{known, member_view};
 
+use crate::names::written_ident;
 use crate::remarks::remarks_of;
-use configuration::Config;
-use diag::{DeriveError, Kind, RenameRule};
+use diag::DeriveError;
 use open_types::OpenType;
 use scopes::{Container, Named, resolve};
-use serde_rules::names::rename;
 use serde_rules::{FieldRename, SerdeContainer, SerdeValue, is_required, parse_value};
 use shapes::Remarks;
 use std::alloc::{AllocError, Global};
 use syntax::{Field, Ident};
-use texts::Text;
 
 /// A field by its name in JSON, what is said of it, and its type.
 #[derive(Debug, Drop)]
@@ -51,48 +49,6 @@ fn is_option(ty: &OpenType) -> bool
     match ty {
         OpenType::Option(_) => true,
         _ => false,
-    }
-}
-
-/// The refusal of an identifier that needs a row of the rule.
-fn missing_row(alloc: Global, rule: &RenameRule, ident: &Ident) -> Result<DeriveError, AllocError>
-    ensures { IfOk result
-        (IsErrorFor
-        (IsRefusal Kind.MissingRow ident.now.span (row_message rule.now ident.now.text))) }
-{
-    let message = format!(in alloc; "no row for {} of {}", rule.name(), ident.text.as_str())?;
-    let kind = Kind::MissingRow;
-    Ok(DeriveError::refusal(alloc, kind, ident.span, message.as_str()))
-}
-
-/// The name of the identifier in JSON, where the identifier stands.
-fn written_ident(
-    alloc: Global,
-    config: &Config,
-    rule: Option<RenameRule>,
-    value: &SerdeValue,
-    ident: &Ident,
-) -> Result<Ident, DeriveError>
-    ensures written { IfOk result
-        (λ x. option_map (named_at ident.now) (name_by config.now.renames rule value.now ident.now)
-        ≡ Some x) }
-    ensures refused { Refuses result (IsUnwritten config.now.renames rule value.now ident.now) }
-{
-    let given = value.rename.as_ref().map(|text| text.as_str());
-    let renamed = rename::<FieldRename>(
-        config.renames(),
-        ident.text.as_str(),
-        given,
-        rule.as_ref(),
-    );
-    match (renamed, rule) {
-        (Ok(Some(name)), _) => Ok(Ident {
-            text: Text::new(alloc, name)?,
-            raw: ident.raw,
-            span: ident.span,
-        }),
-        (Err(_), Some(rule)) => Err(missing_row(alloc, &rule, ident)?),
-        (Ok(None), _) | (Err(_), None) => Ok(ident.copy(alloc)?),
     }
 }
 
@@ -144,7 +100,13 @@ fn kept_member(
     let Some(ident) = &field.ident else {
         unreachable!()
     };
-    let name = written_ident(alloc, container.config, rules.rename_all, value, ident)?;
+    let name = written_ident::<FieldRename>(
+        alloc,
+        container.config,
+        rules.rename_all,
+        value,
+        ident,
+    )?;
     let ty = resolve(alloc, container.scope, &field.ty, container.config)?;
     Ok(member_with(alloc, rules, value, field, name, ty)?)
 }

@@ -1,7 +1,7 @@
 //! Structs with named fields.
 
 ghost use Rattle.std.specs.Prelude.{◌≡◌, ◌++◌, [], ◌∷◌, map, IfOk, OnOk, Some};
-ghost use Rattle.std.specs.List.{AllByRecursion, cons_option};
+ghost use Rattle.std.specs.List.{AllByRecursion};
 ghost use Rattle.diag.specs.Refusal.{Refuses, RefusesNone};
 ghost use Rattle.texts.specs.Names.{IsDistinct};
 ghost use Rattle.texts.specs.Lists.{Somewhere};
@@ -18,6 +18,7 @@ ghost use Rattle.derive_decl.specs.Views.{attributes_of, items_of, known, member
 
 use crate::field_term::field_term;
 use crate::member::{Member, resolve_member};
+use crate::push_some::push_some;
 use crate::remarks::remarks_of;
 use crate::root::Root;
 use component::{Term, TermLeaf, ToTerm, noted};
@@ -37,16 +38,6 @@ pub struct NamedStructSchema {
     /// Whether members that no field has are refused.
     pub denies_others: bool,
     pub members: List<Member>,
-}
-
-/// Adds the member, where there is one.
-fn push_some(members: &mut List<Member>, member: Option<Member>) -> Result<(), AllocError>
-    ensures { OnOk result (members.new ≡ members.old ++ cons_option member []) }
-{
-    match member {
-        Some(member) => members.push(member),
-        None => Ok(()),
-    }
 }
 
 /// The members of the fields that are kept, with their types resolved.
@@ -109,7 +100,7 @@ impl NamedStructSchema {
     ///
     /// A refusal is of kind `SerdeTag` or `BadValue`, for serde's attributes of the struct; or, of the fields that are
     /// kept, `UnknownType`, `Arity` or `TypeSize`, for the type of one; `MissingRow`, at an identifier whose name is that
-    /// of a row that there is not; or `DuplicateName`, at the second identifier of two that have one name.
+    /// of a row that there is not; or `DuplicateName`, at the first identifier whose name stands before it.
     pub(crate) fn new(
         alloc: Global,
         root: &Root<'_>,
@@ -190,7 +181,7 @@ fn others_of(denies: bool) -> Additional<TermLeaf>
 }
 
 /// An object with these properties, which denies others or does not.
-fn object_of(
+pub(crate) fn object_of(
     alloc: Global,
     properties: List<(Text, Term)>,
     denies: bool,

@@ -1,8 +1,9 @@
 ghost use Rattle.std.specs.Prelude.{◌≡◌, map, IfOk};
 ghost use Rattle.open_types.specs.Open.{open_view};
-ghost use Rattle.shapes.specs.Declarations.{member_types, types_of};
-ghost use Rattle.derive_decl.specs.Views.{member_view, variant_view, resolved_view};
+ghost use Rattle.shapes.specs.Declarations.{member_types, types_of, body_types};
+ghost use Rattle.derive_decl.specs.Views.{member_view, form_view, schema_view, resolved_view};
 
+use crate::form_schema::FormSchema;
 use crate::member::Member;
 use crate::schema_variant::SchemaVariant;
 use component::{Term, ToTerm};
@@ -16,7 +17,7 @@ use texts::{List, Text};
 #[derive(Debug, Drop)]
 pub struct Resolved {
     pub name: Text,
-    pub form: SchemaVariant,
+    pub body: SchemaVariant,
 }
 
 /// The types of the members.
@@ -30,14 +31,23 @@ fn member_types(alloc: Global, members: &[Member]) -> Result<List<OpenType>, All
     Ok(types)
 }
 
-/// The types of the form's places, in order.
-pub(crate) fn types_of(alloc: Global, form: SchemaVariant) -> Result<List<OpenType>, AllocError>
-    ensures { IfOk result (λ ts. map open_view ts ≡ types_of (variant_view form)) }
+fn types_of(alloc: Global, form: FormSchema) -> Result<List<OpenType>, AllocError>
+    ensures { IfOk result (λ ts. map open_view ts ≡ types_of (form_view form)) }
 {
     match form {
-        SchemaVariant::Named(form) => member_types(alloc, form.members.as_slice()),
-        SchemaVariant::Unnamed(form) => Ok(form.types),
-        SchemaVariant::Unit(_) => Ok(List::new(alloc)),
+        FormSchema::Named(form) => member_types(alloc, form.members.as_slice()),
+        FormSchema::Unnamed(form) => Ok(form.types),
+        FormSchema::Unit(_) => Ok(List::new(alloc)),
+    }
+}
+
+/// The types of the places, in order.
+pub(crate) fn body_types(alloc: Global, body: SchemaVariant) -> Result<List<OpenType>, AllocError>
+    ensures { IfOk result (λ ts. map open_view ts ≡ body_types (schema_view body)) }
+{
+    match body {
+        SchemaVariant::Struct(form) => types_of(alloc, form),
+        SchemaVariant::Enum(_) => Ok(List::new(alloc)),
     }
 }
 
@@ -51,7 +61,7 @@ impl Declared for Resolved {
     }
 
     fn term(&self, alloc: Global) -> Result<Term, AllocError> {
-        self.form.term(alloc)
+        self.body.term(alloc)
     }
 }
 

@@ -5,11 +5,11 @@ ghost use Rattle.diag.specs.Refusal.{Refuses};
 ghost use Rattle.open_types.specs.Open.{open_view};
 ghost use Rattle.syntax.specs.Items.{body_view};
 ghost use Rattle.syntax.specs.Named.{IsNamedBody};
-ghost use Rattle.shapes.specs.Declarations.{DeclarationOf, types_of};
+ghost use Rattle.shapes.specs.Declarations.{DeclarationOf, body_types};
 ghost use Rattle.derive_decl.specs.Schemas.{IsFaultySchema, ResolvesTo};
 ghost use Rattle.derive_decl.specs.Views.{resolved_view};
 
-use crate::resolved::{Resolved, types_of};
+use crate::resolved::{Resolved, body_types};
 use crate::root::Root;
 use crate::schema_variant::SchemaVariant;
 use component::{Term, ToTerm};
@@ -52,10 +52,11 @@ impl<'a> Schema<'a> {
 
     /// The declaration with its types resolved.
     ///
-    /// A refusal is of kind `Syntax`, at the first attribute of the declaration or its fields from which nothing is derived;
-    /// else `UnknownType`, `Arity` or `TypeSize`, for the type of a field; or `Arity`, at the name of a declaration whose
-    /// form is unnamed fields without a field. Of a struct with named fields it may be `SerdeTag` or `BadValue`, for serde's
-    /// attributes of the struct; or, of the fields that are kept, `MissingRow`, at an identifier whose name is that of a
+    /// A refusal is of kind `Syntax`, at the first attribute of the declaration, its fields or its variants from which
+    /// nothing is derived, or else at the name of the first variant that has fields. Else it is `UnknownType`, `Arity` or
+    /// `TypeSize`, for the type of a field; or `Arity`, at the name of a declaration whose form is unnamed fields without a
+    /// field. Of an enum or a struct with named fields it may be `SerdeTag` or `BadValue`, for serde's attributes of the
+    /// declaration; or, of the fields or variants that are kept, `MissingRow`, at an identifier whose name is that of a
     /// row that there is not; or `DuplicateName`, at the first identifier whose name stands before it.
     pub fn resolve(&self, alloc: Global) -> Result<Resolved, DeriveError>
         requires { IsNamedBody (body_view self.now.body.now) }
@@ -68,7 +69,7 @@ impl<'a> Schema<'a> {
             container: self.container,
         };
         Ok(Resolved {
-            form: SchemaVariant::new(alloc, self.body, &root)?,
+            body: SchemaVariant::new(alloc, self.body, &root)?,
             name: self.ident.text.copy(alloc)?,
         })
     }
@@ -79,11 +80,11 @@ impl<'a> Schema<'a> {
     pub fn place_types(&self, alloc: Global) -> Result<List<OpenType>, DeriveError>
         requires { IsNamedBody (body_view self.now.body.now) }
         ensures types { IfOk result (λ ts. (of : DeclarationOf) × ResolvesTo self.now of
-            × (types_of of.form ≡ map open_view ts)) }
+            × (body_types of.body ≡ map open_view ts)) }
         ensures refused { Refuses result (IsFaultySchema self.now) }
     {
         let resolved = self.resolve(alloc)?;
-        Ok(types_of(alloc, resolved.form)?)
+        Ok(body_types(alloc, resolved.body)?)
     }
 }
 

@@ -2,11 +2,10 @@
 
 ghost use Rattle.std.specs.Prelude.{◌≡◌, length, map, IfOk, Some};
 ghost use Rattle.diag.specs.Refusal.{Refuses, RefusesNone};
-ghost use Rattle.texts.specs.Names.{IsDistinct};
 ghost use Rattle.syntax.specs.Items.{declaration_view, declarations_view};
 ghost use Rattle.syntax.specs.Named.{AreNamed, IsNamedBody};
 ghost use Rattle.scopes.specs.Names.{declared_names};
-ghost use Rattle.shapes.specs.Declarations.{declaration_names, names_of, AreWithin, MembersDiffer};
+ghost use Rattle.shapes.specs.Declarations.{declaration_names, AreWithin, IsApartBody, AreApartBodies};
 ghost use Rattle.derive_decl.specs.Resolved.{resolved_of};
 ghost use Rattle.derive_decl.specs.Faults.{IsFaultyItem, AreFaultyItems};
 ghost use Rattle.derive_decl.specs.Views.{known, resolved_view};
@@ -31,7 +30,7 @@ fn resolved_of(
     ensures resolved { IfOk result
         (λ s. resolved_of (known container.now) (declaration_view declaration.now)
         ≡ Some (resolved_view s)) }
-    ensures distinct { IfOk result (λ s. IsDistinct (names_of (resolved_view s).form)) }
+    ensures apart { IfOk result (λ s. IsApartBody (resolved_view s).body) }
     ensures faultless { IfOk result
         (λ _. RefusesNone (IsFaultyItem (known container.now) (declaration_view declaration.now))) }
     ensures refused { Refuses result
@@ -60,7 +59,7 @@ pub fn resolved_declarations(
         (declarations_view places.now.declarations.now) ≡ Some (map resolved_view ss)) }
     ensures names { IfOk result (λ ss. declaration_names (map resolved_view ss)
         ≡ declared_names (declarations_view places.now.declarations.now)) }
-    ensures distinct { IfOk result (λ ss. MembersDiffer (map resolved_view ss)) }
+    ensures apart { IfOk result (λ ss. AreApartBodies (map resolved_view ss)) }
     ensures within { IfOk result
         (λ ss. AreWithin (length (map resolved_view ss)) (map resolved_view ss)) }
     ensures faultless { IfOk result

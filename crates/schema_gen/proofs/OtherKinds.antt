@@ -11,23 +11,29 @@ use Rattle.diag.specs.declared.kind.Kind.TheVariants.{BadConfig, TooLong, TooDee
 use Rattle.texts.specs.declared.span.Span.{Span}
 use Rattle.diag.specs.declared.rename_rule.RenameRule.{RenameRule}
 use Rattle.diag.specs.declared.rename_row.RenameRow.{RenameRow}
+use Rattle.diag.specs.declared.rename_row.RenamePlace.{RenamePlace}
+use Rattle.diag.specs.declared.rename_row.RenamePlace.TheVariants.{Field, Variant}
 use Rattle.attributes.specs.Attributes.{serde_items}
 use Rattle.attributes.specs.declared.serde_item.SerdeItem.{SerdeItem}
 use Rattle.attributes.specs.declared.serde_item.SerdeText.{SerdeText}
 use Rattle.serde_rules.specs.declared.enum_repr.SerdeEnumRepr.{SerdeEnumRepr}
+use Rattle.serde_rules.specs.declared.value.SerdeValue.{SerdeValue}
 use Rattle.serde_rules.specs.Items.{literal_for}
-use Rattle.serde_rules.specs.Container.{TagFault, with_item, rule_named, unknown_rule, IsTagRefusal, IsContainerRefusal}
+use Rattle.serde_rules.specs.Container.{TagFault, with_item, rename_rule, rule_named, unknown_rule, IsTagRefusal, IsContainerRefusal}
 use Rattle.written_types.specs.declared.written.Ident.{Ident}
-use Rattle.syntax.specs.Items.{FieldItem, named, unnamed, unit, BodyItem, struct_body, DeclaredItem}
+use Rattle.syntax.specs.Items.{FieldItem, named, unnamed, unit, VariantItem, BodyItem, struct_body, enum_body, DeclaredItem}
 use Rattle.scopes.specs.Names.{IsGivenTwice}
 use Rattle.resolving.specs.Resolved.{Fault, unknown_type, wrong_arity, too_large, IsRefusedFor}
 use Rattle.texts.specs.Lists.{Somewhere}
 use Rattle.configuration.specs.Configuration.{Configuration}
 use Rattle.configuration.specs.Form.{IsBadConfig}
 use Rattle.shapes.specs.Declarations.{DeclarationOf}
-use Rattle.derive_decl.specs.Fields.{FieldRules, field_rules, kept}
+use Rattle.shapes.specs.declared.tagging.Tagging.{Tagging}
+use Rattle.shapes.specs.declared.tagging.Tagging.TheVariants.{External, Internal, Adjacent, Untagged}
+use Rattle.derive_decl.specs.Fields.{FieldRules, field_rules, value_of, kept}
+use Rattle.derive_decl.specs.Variants.{value_of_variant, kept_variants}
 use Rattle.derive_decl.specs.Resolved.{Around, around_of}
-use Rattle.derive_decl.specs.Faults.{IsFaultyName, IsFaultyType, IsFaultyMember, IsFaultyBody, IsFaultyItem}
+use Rattle.derive_decl.specs.Faults.{IsUnwritten, IsFaultyType, IsFaultyMember, IsFaultyVariant, IsFaultyBody, IsFaultyItem}
 use Rattle.compose.specs.Bounds.{IsRefusalOf, IsUnbounded}
 use Rattle.compose.specs.Faults.{AreFaulty, AreAtFault, IsBeyond, IsRefused}
 use Rattle.schema_gen.specs.Refusals.{IsRefusedSource}
@@ -67,9 +73,9 @@ module _ (ds : List DiangosticsInner) (first : HasFirst ds (λ d. d.kind ≡ Bad
   unbounded c items resolved (inr (inl (few, (path, is_path, long, somewhere)))) = nowhere _ items (λ d is. other_of InlineDepth _ _ _ (λ e. cc) is.1) somewhere
   unbounded c items resolved (inr (inr (few, shallow, (many, is)))) = other TooManyCopies _ _ (λ e. cc) is
 
-  rowless : (rows : List RenameRow) (rule : Option RenameRule) (f : FieldItem) → IsFaultyName rows rule f (Refused ds) → ⊥
-  rowless rows None f (x, ident, h) = h
-  rowless rows (Some rule) f (x, ident, (none, is)) = other MissingRow _ _ (λ e. cc) is
+  rowless : (place : RenamePlace) (rows : List RenameRow) (rule : Option RenameRule) (value : SerdeValue) (x : Ident) → IsUnwritten place rows rule value x (Refused ds) → ⊥
+  rowless place rows None value x h = h
+  rowless place rows (Some rule) value x (none, is) = other MissingRow _ _ (λ e. cc) is
 
   tagged : (r : Result SerdeEnumRepr TagFault) → IsTagRefusal r (Refused ds) → ⊥
   tagged (Ok repr) h = h
@@ -88,7 +94,13 @@ module _ (ds : List DiangosticsInner) (first : HasFirst ds (λ d. d.kind ≡ Bad
 
   member : (around : Around) (rules : FieldRules) (f : FieldItem) → IsFaultyMember around rules f (Refused ds) → ⊥
   member around rules f (inl fault) = typed around f fault
-  member around rules f (inr unwritten) = rowless around.rows rules.rule f unwritten
+  member around rules f (inr (x, ident, unwritten)) = rowless Field around.rows rules.rule (value_of f) x unwritten
+
+  variant : (rows : List RenameRow) (rule : Option RenameRule) (tagging : Tagging) (v : VariantItem) → IsFaultyVariant rows rule tagging v (Refused ds) → ⊥
+  variant rows rule Untagged v h = h
+  variant rows rule External v h = rowless Variant rows rule (value_of_variant v) v.ident h
+  variant rows rule (Internal tag) v h = rowless Variant rows rule (value_of_variant v) v.ident h
+  variant rows rule (Adjacent tag content) v h = rowless Variant rows rule (value_of_variant v) v.ident h
 
   twice : (xs : List Ident) → IsGivenTwice xs (Refused ds) → ⊥
   twice xs (x, repeats, is) = other DuplicateName _ _ (λ e. cc) is
@@ -100,10 +112,14 @@ module _ (ds : List DiangosticsInner) (first : HasFirst ds (λ d. d.kind ≡ Bad
   body around items x (struct_body (unnamed fs)) (inl h) = nowhere _ fs (typed around) h
   body around items x (struct_body (unnamed fs)) (inr (none, is)) = other Arity _ _ (λ e. cc) is
   body around items x (struct_body unit) h = h
+  body around items x (enum_body vs) (inl (inl h)) = disallowed items h
+  body around items x (enum_body vs) (inl (inr (content, is, none, refused))) = other SerdeTag _ _ (λ e. cc) refused
+  body around items x (enum_body vs) (inr (tagging, told, inl h)) = nowhere _ (kept_variants vs) (variant around.rows (rename_rule items) tagging) h
+  body around items x (enum_body vs) (inr (tagging, told, inr h)) = twice _ h
 
   item : (around : Around) (d : DeclaredItem) → IsFaultyItem around d (Refused ds) → ⊥
   item around d (inl (span, first, is)) = other Syntax _ _ (λ e. cc) is
-  item around d (inr h) = body around (serde_items d.attrs) d.ident d.body h
+  item around d (inr (derivable, h)) = body around (serde_items d.attrs) d.ident d.body h
 
   faulty : (rows : List RenameRow) (items : List DeclaredItem) → AreFaulty rows items (Refused ds) → ⊥
   faulty rows items (inl h) = twice _ h

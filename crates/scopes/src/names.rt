@@ -29,6 +29,14 @@ impl Named for Declaration {
     }
 }
 
+impl Named for Ident {
+    ghost ident_of = { λ ident. ident };
+
+    fn ident(&self) -> &Ident {
+        self
+    }
+}
+
 /// The refusal of a name that was given before.
 fn duplicate_name(alloc: Global, ident: &Ident) -> Result<DeriveError, AllocError>
     ensures { IfOk result

@@ -1,18 +1,18 @@
 -- What the schemas of declarations accept: a place accepts what has the shape of its type, a term what has the shape of its declaration.
-use Rattle.std.proofs.Common.{ℕ, suc, drop, length, None, Option, pos, int_le, List, [], ◌∷◌, Bool, true, false, not, ◌&&◌, ◌||◌, cond, Some, IsTrue, ◌≡◌, ◌≢◌, refl, ap, sym, ◌∙◌}
-use Rattle.std.specs.List.{list_all}
+use Rattle.std.proofs.Common.{ℕ, suc, drop, length, None, Option, pos, int_le, List, [], ◌∷◌, Bool, true, false, not, ◌&&◌, ◌||◌, cond, Some, IsTrue, bytes_eq, map as map_over, ◌≡◌, ◌≢◌, refl, ap, sym, ◌∙◌}
+use Rattle.std.specs.List.{list_all, list_any}
 use Rattle.std.proofs.Math.Dec.{leb-zero, leb-suc-zero, leb-suc-suc}
 use Rattle.acceptance.specs.Acceptance.{others_pass, names_pass}
-use Rattle.acceptance.specs.Json.{Json, Members, null, boolean, number, text, list, map, entries, names, look, distinct, on_map, on_list, if_there}
+use Rattle.acceptance.specs.Json.{Json, Members, null, boolean, number, text, list, map, entries, names, look, same, distinct, on_map, on_list, there, if_there}
 use Rattle.texts.specs.Names.{is_in}
 use Rattle.schema_core.specs.declared.tree.SchemaTypeInner.TheVariants as word
-use Rattle.schema_core.specs.declared.tree.TypeWord.TheVariants.{Any}
+use Rattle.schema_core.specs.declared.tree.TypeWord.TheVariants.{Any, One}
 use Rattle.schema_core.specs.declared.notes.Notes.{Notes}
-use Rattle.schema_core.specs.Notes.{no_notes, noted, described}
-use Rattle.schema_core.specs.Schema.{SchemaOf, schema_count, property_names}
+use Rattle.schema_core.specs.Notes.{notes_of, no_notes, where_true, noted, described}
+use Rattle.schema_core.specs.Schema.{SchemaOf, schemas_of, schema_count, property_names}
 use Rattle.schema_core.specs.Schema as tree
 use Rattle.schema_core.specs.Form.{array_word}
-use Rattle.schema_core.specs.Meaning.{each_in_order, word_accepts, minimum_accepts, required_accepts, tree_accepts, properties_accept}
+use Rattle.schema_core.specs.Meaning.{each_in_order, word_accepts, minimum_accepts, required_accepts, tree_accepts, some_accepts, properties_accept}
 use Rattle.leaves.specs.declared.leaf.LeafKind.{LeafKind}
 use Rattle.leaves.specs.declared.leaf.LeafKind.TheVariants as kinds
 use Rattle.leaves.specs.Leaves.{kind_of}
@@ -21,12 +21,14 @@ use Rattle.open_types.specs.Same.{same_type}
 use Rattle.open_types.specs.Laws.{SameIsEqual}
 use Rattle.component.specs.Leaves as named_leaf
 use Rattle.schema_core.specs.Objects.{only_word}
-use Rattle.component.specs.Places.{word_of, minimum_of, type_word, null_alone, one_of_null, or_null, beside, in_place, declared, place, inline_places}
+use Rattle.component.specs.Places.{word_of, minimum_of, type_word, one_of_null, or_null, beside, in_place, declared, place, inline_places}
 use Rattle.shapes.specs.declared.remarks.Remarks.{Remarks}
-use Rattle.shapes.specs.Declarations.{MemberOf, FormOf, named_fields, unnamed_fields, no_fields, member_types, member_names}
-use Rattle.shapes.specs.Shape.{is_null, is_text, is_boolean, is_number, is_list, is_map, reads, type_shape, items_fit, member_fits, no_others, elements_fit, unnamed_shape, form_shape}
-use Rattle.shapes.specs.Plain.{IsTextKey, IsPlainType, ArePlainTypes, AreAllPlain, IsPlainForm}
-use Rattle.shapes.specs.Terms.{properties_of, required_names, object_of, are_all, alike_term, field_terms, mixed_term, unnamed_term, form_term}
+use Rattle.shapes.specs.Declarations.{MemberOf, FormOf, named_fields, unnamed_fields, no_fields, BodyOf, fields, units, DeclarationOf, member_types, member_names}
+use Rattle.shapes.specs.declared.tagging.Tagging.{Tagging}
+use Rattle.shapes.specs.declared.tagging.Tagging.TheVariants.{External, Internal, Adjacent, Untagged}
+use Rattle.shapes.specs.Shape.{is_null, is_text, is_boolean, is_number, is_list, is_map, reads, type_shape, items_fit, member_fits, no_others, elements_fit, unnamed_shape, form_shape, is_the, has_member, unit_shape, body_shape}
+use Rattle.shapes.specs.Plain.{IsPlainType, ArePlainTypes, AreAllPlain, IsPlainForm, HasOne, IsPlainBody}
+use Rattle.shapes.specs.Terms.{properties_of, required_names, object_of, are_all, alike_term, field_terms, mixed_term, unnamed_term, form_term, texts_schema, tag_alone, units_term, body_term}
 use Rattle.shapes.specs.Meaning.{leaf_shape, TermsAccept}
 
 -- ---- conditions
@@ -141,12 +143,12 @@ module _ {X : Type 0} (says : X → Json → Bool) where
   any-accepts notes null = refl
   any-accepts notes _ = refl
 
-  null-accepts : (v : Json) → tree_accepts says null_alone v ≡ is_null v
-  null-accepts null = refl
-  null-accepts _ = refl
+  null-accepts : (notes : Notes) (v : Json) → tree_accepts says (only_word (One word.Null) notes) v ≡ is_null v
+  null-accepts notes null = refl
+  null-accepts notes _ = refl
 
   or-null-accepts : (notes : Notes) (s : SchemaOf X) (v : Json) → tree_accepts says (one_of_null notes s) v ≡ (is_null v || tree_accepts says s v)
-  or-null-accepts notes s v = (λ i. tree_accepts says s v || (null-accepts v i || false)) ∙ or-swap (tree_accepts says s v) (is_null v)
+  or-null-accepts notes s v = (λ i. tree_accepts says s v || (null-accepts no_notes v i || false)) ∙ or-swap (tree_accepts says s v) (is_null v)
 
   -- where null may be
   nullable-accepts : (n : Bool) (s : SchemaOf X) (v : Json) → tree_accepts says (or_null n s) v ≡ ((n && is_null v) || tree_accepts says s v)
@@ -238,31 +240,68 @@ member-accepts : (required a p : Bool) (is : List ℕ → Bool) (k : List ℕ) (
 member-accepts true a p is k ks = needed a (is k) p (list_all is ks)
 member-accepts false a p is k ks = not_needed a p (list_all is ks)
 
+-- ---- texts and tags
+
+no-one : {A : Type 0} (xs : List A) → list_any (λ x. false) xs ≡ false
+no-one [] = refl
+no-one (x ∷ xs) = no-one xs
+
+every-one : {A : Type 0} (b : Bool) (x : A) (xs : List A) → b ≡ list_any (λ y. b) (x ∷ xs)
+every-one true x xs = refl
+every-one false x xs = sym (no-one xs)
+
+same-texts : (s : List ℕ) (names : List (List ℕ)) → list_any (same (text s)) (map_over text names) ≡ list_any (λ name. is_the name (text s)) names
+same-texts s [] = refl
+same-texts s (name ∷ names) = ap (λ b. bytes_eq s name || b) (same-texts s names)
+
+-- a member that passes where it is there, and that is there
+there-is : (k : List ℕ) (p : Json → Bool) (es : List (List ℕ × Json)) → (if_there (look k es) p && is_in k (names es)) ≡ there (look k es) p
+there-is k p [] = refl
+there-is k p (e ∷ es) = by (bytes_eq k e.0) (there-is k p es)
+  where
+    by : (b : Bool) → (if_there (look k es) p && is_in k (names es)) ≡ there (look k es) p → (if_there (cond b (Some e.1) (look k es)) p && (b || is_in k (names es))) ≡ there (cond b (Some e.1) (look k es)) p
+    by true h = and-true (p e.1)
+    by false h = h
+
+module _ {X : Type 0} (says : X → Json → Bool) where
+  texts-accept : (notes : Notes) (ns : List (List ℕ)) (v : Json) → tree_accepts says (texts_schema notes ns) v ≡ list_any (λ name. is_the name v) ns
+  texts-accept notes ns (text s) = and-true (list_any (same (text s)) (map_over text ns)) ∙ same-texts s ns
+  texts-accept notes ns null = sym (no-one ns)
+  texts-accept notes ns (boolean b) = sym (no-one ns)
+  texts-accept notes ns (number n) = sym (no-one ns)
+  texts-accept notes ns (list xs) = sym (no-one ns)
+  texts-accept notes ns (map ms) = sym (no-one ns)
+
+  name-accepts : (name : List ℕ) (v : Json) → tree_accepts says (texts_schema no_notes (name ∷ [])) v ≡ is_the name v
+  name-accepts name v = texts-accept no_notes (name ∷ []) v ∙ or-false (is_the name v)
+
+  tag-accepts : (tag name : List ℕ) (v : Json) → tree_accepts says (tag_alone tag name) v ≡ has_member tag (is_the name) v
+  tag-accepts tag name (map ms) =
+      let at : Bool = if_there (look tag (entries ms)) (tree_accepts says (texts_schema no_notes (name ∷ []))) in
+      let is : Bool = is_in tag (names (entries ms)) in
+      (λ i. and-true at i && (and-true (is && true) ∙ and-true is) i)
+      ∙ there-is tag (tree_accepts says (texts_schema no_notes (name ∷ []))) (entries ms)
+      ∙ (λ i. there (look tag (entries ms)) (λ w. name-accepts name w i))
+  tag-accepts tag name null = refl
+  tag-accepts tag name (boolean b) = refl
+  tag-accepts tag name (number n) = refl
+  tag-accepts tag name (text t) = refl
+  tag-accepts tag name (list xs) = refl
+
+  tags-accept : (tag : List ℕ) (ns : List (List ℕ)) (v : Json) → some_accepts says (schemas_of (map_over (tag_alone tag) ns)) v ≡ list_any (λ name. has_member tag (is_the name) v) ns
+  tags-accept tag [] v = refl
+  tags-accept tag (name ∷ ns) v = λ i. tag-accepts tag name v i || tags-accept tag ns v i
+
 -- ---- places
 
--- a key of texts is plain
-key-plain : (k : Open) → IsTextKey k → IsPlainType k
-key-plain (leaf x) h = λ float. let other : kinds.Text ≡ kinds.Float = sym h ∙ float in cc
-key-plain (through x k) h = key-plain k h
-key-plain any_value h = absurd h
-key-plain free_object h = absurd h
-key-plain unit h = absurd h
-key-plain (tuple ts) h = absurd h
-key-plain (items x t) h = absurd h
-key-plain (set x t) h = absurd h
-key-plain (map_of x k t) h = absurd h
-key-plain (option t) h = absurd h
-key-plain (param i) h = absurd h
-key-plain (named d ts) h = absurd h
-
-module _ (instance : ℕ → Json → Bool) where
+module _ (ss : List DeclarationOf) (instance : ℕ → Json → Bool) where
   declared-accepts : (n inline : Bool) (description : Option (List ℕ)) (t : Open) (v : Json) → tree_accepts (leaf_shape instance) (declared n inline description t) v ≡ ((n && is_null v) || type_shape instance t v)
   declared-accepts n false description t v = nullable-accepts (leaf_shape instance) n (tree.leaf (named_leaf.named t false (described description))) v
   declared-accepts n true description t v = in_place-accepts (leaf_shape instance) n description (tree.leaf (named_leaf.named t true no_notes)) v
 
   -- The schema of a place accepts null where it may be, and what has the shape of the type.
   mutual
-    pub place-accepts : (n inline deprecated : Bool) (description : Option (List ℕ)) (t : Open) → IsPlainType t → (v : Json) →
+    pub place-accepts : (n inline deprecated : Bool) (description : Option (List ℕ)) (t : Open) → IsPlainType ss t → (v : Json) →
         tree_accepts (leaf_shape instance) (place n inline deprecated description t) v ≡ ((n && is_null v) || type_shape instance t v)
     place-accepts n inline deprecated description (leaf x) h v = kind-accepts n (kind_of x) v h
     place-accepts n inline deprecated description any_value h v = any-accepts (leaf_shape instance) (noted deprecated description) v ∙ or-true n (is_null v)
@@ -278,8 +317,8 @@ module _ (instance : ℕ → Json → Bool) where
         (λ i. word_accepts (array_word n) v && (on_list v distinct && (on_list v (λ vs. true) && on_list v (list_all (λ w. place-accepts false inline false None t h w i)))))
         ∙ distinct-accept n v (list_all (type_shape instance t))
     place-accepts n inline deprecated description (map_of x k t) h v =
-        (λ i. word_accepts (type_word n word.Object) v && (on_map v (λ es. true) && (on_map v (others_pass [] (λ w. place-accepts false inline false None t h.1 w i))
-        && (on_map v (names_pass (λ w. place-accepts false true false None k (key-plain k h.0) w i)) && (required_accepts [] v && true)))))
+        (λ i. word_accepts (type_word n word.Object) v && (on_map v (λ es. true) && (on_map v (others_pass [] (λ w. place-accepts false inline false None t h.2 w i))
+        && (on_map v (names_pass (λ w. place-accepts false true false None k h.1 w i)) && (required_accepts [] v && true)))))
         ∙ map-accepts n v (others_pass [] (type_shape instance t)) (names_pass (type_shape instance k))
         ∙ (λ i. (n && is_null v) || is_map v (λ es. entries-pass (type_shape instance k) (type_shape instance t) es i))
     place-accepts n inline deprecated description (option t) h v = place-accepts true inline deprecated description t h v ∙ or-twice n (is_null v) (type_shape instance t v)
@@ -288,7 +327,7 @@ module _ (instance : ℕ → Json → Bool) where
     place-accepts n inline deprecated description (named d ts) h v = declared-accepts n inline description (named d ts) v
 
     -- the items of a tuple, and no element behind them
-    places-accept : (ts : Opens) → ArePlainTypes ts → (vs : List Json) →
+    places-accept : (ts : Opens) → ArePlainTypes ss ts → (vs : List Json) →
         (each_in_order (leaf_shape instance) (inline_places ts) vs && list_all (λ w. false) (drop (schema_count (inline_places ts)) vs)) ≡ items_fit instance ts vs
     places-accept no_types h [] = refl
     places-accept no_types h (v ∷ vs) = refl
@@ -300,7 +339,7 @@ module _ (instance : ℕ → Json → Bool) where
   -- ---- named fields
 
   -- the properties of members and the names that are required ask what the members do
-  members-accept : (ms : List MemberOf) → AreAllPlain (member_types ms) → (es : List (List ℕ × Json)) →
+  members-accept : (ms : List MemberOf) → AreAllPlain ss (member_types ms) → (es : List (List ℕ × Json)) →
       (properties_accept (leaf_shape instance) (properties_of ms) es && (list_all (λ k. is_in k (names es)) (required_names ms) && true)) ≡ list_all (member_fits instance es) ms
   members-accept [] h es = refl
   members-accept (m ∷ ms) h es =
@@ -310,7 +349,7 @@ module _ (instance : ℕ → Json → Bool) where
       ∙ ap (λ b. member_fits instance es m && b) (members-accept ms h.1 es)
 
   -- what members ask of entries, and where others are denied that there are none
-  fields-accept : (denies : Bool) (notes : Notes) (ms : List MemberOf) → AreAllPlain (member_types ms) → (es : Members) →
+  fields-accept : (denies : Bool) (notes : Notes) (ms : List MemberOf) → AreAllPlain ss (member_types ms) → (es : Members) →
       tree_accepts (leaf_shape instance) (object_of notes denies (required_names ms) (properties_of ms)) (map es) ≡ (list_all (member_fits instance (entries es)) ms && (not denies || no_others ms (entries es)))
   fields-accept false notes ms h es = members-accept ms h (entries es) ∙ sym (and-true (list_all (member_fits instance (entries es)) ms))
   fields-accept true notes ms h es =
@@ -333,7 +372,7 @@ module _ (instance : ℕ → Json → Bool) where
       ∙ (λ i. type_shape instance (equal i) v && elements-accept same t us (and-right (same_type t u) (are_all t us) h) vs i)
 
   -- Elements that the fields' schemas accept by position, as many as there are types, fit the types.
-  in_order-accept : (ts : List Open) → AreAllPlain ts → (vs : List Json) →
+  in_order-accept : (ts : List Open) → AreAllPlain ss ts → (vs : List Json) →
       (int_le (pos (length vs)) (pos (length ts)) && (int_le (pos (length ts)) (pos (length vs))
       && (each_in_order (leaf_shape instance) (field_terms ts) vs && list_all (λ w. false) (drop (schema_count (field_terms ts)) vs)))) ≡ elements_fit instance ts vs
   in_order-accept [] h [] = refl
@@ -349,7 +388,7 @@ module _ (instance : ℕ → Json → Bool) where
       ∙ and-third more fewer (type_shape instance t v) (front && rest)
       ∙ (λ i. type_shape instance t v && in_order-accept ts h.1 vs i)
 
-  alike-accepts : SameIsEqual → (r : Remarks) (t : Open) (ts : List Open) → IsPlainType t → IsTrue (are_all t ts) → (v : Json) →
+  alike-accepts : SameIsEqual → (r : Remarks) (t : Open) (ts : List Open) → IsPlainType ss t → IsTrue (are_all t ts) → (v : Json) →
       tree_accepts (leaf_shape instance) (alike_term r (length ts) t) v ≡ is_list v (elements_fit instance ts)
   alike-accepts same r t ts h alike v =
       (λ i. word_accepts (array_word false) v && (on_list v (λ vs. int_le (pos (length vs)) (pos (length ts))) && (on_list v (λ vs. int_le (pos (length ts)) (pos (length vs)))
@@ -357,14 +396,14 @@ module _ (instance : ℕ → Json → Bool) where
       ∙ exactly-accept v (λ vs. int_le (pos (length vs)) (pos (length ts))) (λ vs. int_le (pos (length ts)) (pos (length vs))) (λ vs. true) (list_all (type_shape instance t))
       ∙ (λ i. is_list v (λ vs. elements-accept same t ts alike vs i))
 
-  mixed-accepts : (r : Remarks) (ts : List Open) → AreAllPlain ts → (v : Json) → tree_accepts (leaf_shape instance) (mixed_term r ts) v ≡ is_list v (elements_fit instance ts)
+  mixed-accepts : (r : Remarks) (ts : List Open) → AreAllPlain ss ts → (v : Json) → tree_accepts (leaf_shape instance) (mixed_term r ts) v ≡ is_list v (elements_fit instance ts)
   mixed-accepts r ts h v =
       exactly-accept v (λ vs. int_le (pos (length vs)) (pos (length ts))) (λ vs. int_le (pos (length ts)) (pos (length vs)))
       (each_in_order (leaf_shape instance) (field_terms ts)) (λ vs. list_all (λ w. false) (drop (schema_count (field_terms ts)) vs))
       ∙ (λ i. is_list v (λ vs. in_order-accept ts h vs i))
 
   -- one place is the schema itself, several are a list
-  unnamed-accepts : SameIsEqual → (r : Remarks) (ts : List Open) → AreAllPlain ts → (v : Json) → tree_accepts (leaf_shape instance) (unnamed_term r ts) v ≡ unnamed_shape instance ts v
+  unnamed-accepts : SameIsEqual → (r : Remarks) (ts : List Open) → AreAllPlain ss ts → (v : Json) → tree_accepts (leaf_shape instance) (unnamed_term r ts) v ≡ unnamed_shape instance ts v
   unnamed-accepts same r [] h v = mixed-accepts r [] h v
   unnamed-accepts same r (t ∷ []) h v = place-accepts false false r.deprecated r.description t h.0 v
   unnamed-accepts same r (t ∷ u ∷ us) h v = by (are_all t (u ∷ us)) refl
@@ -376,7 +415,7 @@ module _ (instance : ℕ → Json → Bool) where
 
   -- ---- declarations
 
-  form-accepts : SameIsEqual → (r : Remarks) (form : FormOf) → IsPlainForm form → (v : Json) →
+  form-accepts : SameIsEqual → (r : Remarks) (form : FormOf) → IsPlainForm ss form → (v : Json) →
       tree_accepts (leaf_shape instance) (form_term r form) v ≡ form_shape instance form v
   form-accepts same r (named_fields denies ms) h (map es) = fields-accept denies (noted r.deprecated r.description) ms h es
   form-accepts same r (named_fields denies ms) h null = refl
@@ -387,6 +426,21 @@ module _ (instance : ℕ → Json → Bool) where
   form-accepts same r (unnamed_fields ts) h v = unnamed-accepts same r ts h v
   form-accepts same r no_fields h v = absurd h
 
+  -- ---- enums
+
+  units-accept : (r : Remarks) (tagging : Tagging) (names : List (List ℕ)) → HasOne tagging names → (v : Json) →
+      tree_accepts (leaf_shape instance) (units_term r tagging names) v ≡ list_any (λ name. unit_shape tagging name v) names
+  units-accept r External names h v = texts-accept (leaf_shape instance) (noted r.deprecated r.description) names v
+  units-accept r (Internal tag) names h v = tags-accept (leaf_shape instance) tag names v
+  units-accept r (Adjacent tag content) names h v = tags-accept (leaf_shape instance) tag names v
+  units-accept r Untagged [] h v = absurd h
+  units-accept r Untagged (name ∷ names) h v = null-accepts (leaf_shape instance) (notes_of r.description (Some null) (where_true r.deprecated)) v ∙ every-one (is_null v) name names
+
+  body-accepts : SameIsEqual → (r : Remarks) (body : BodyOf) → IsPlainBody ss body → (v : Json) →
+      tree_accepts (leaf_shape instance) (body_term r body) v ≡ body_shape instance body v
+  body-accepts same r (fields form) h v = form-accepts same r form h v
+  body-accepts same r (units tagging names) h v = units-accept r tagging names h v
+
 -- The term of a plain declaration accepts what has its shape.
 pub terms-accept : SameIsEqual → TermsAccept
-terms-accept same instance s h v = form-accepts instance same s.remarks s.form h v
+terms-accept same ss instance s h v = body-accepts ss instance same s.remarks s.body h v

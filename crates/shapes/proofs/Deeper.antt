@@ -4,8 +4,8 @@ use Rattle.std.specs.List.{list_all}
 use Rattle.acceptance.specs.Json.{Json, null, boolean, number, text, list, map, entries, elements, names, look, distinct, if_there}
 use Rattle.texts.specs.Names.{is_in}
 use Rattle.open_types.specs.Open.{Open, Opens, leaf, any_value, free_object, unit, tuple, items, set, map_of, option, through, param, named, no_types, more_types}
-use Rattle.shapes.specs.Declarations.{MemberOf, FormOf, named_fields, unnamed_fields, no_fields, DeclarationOf, declaration_at}
-use Rattle.shapes.specs.Shape.{is_null, is_list, is_map, type_shape, items_fit, member_fits, no_others, elements_fit, unnamed_shape, form_shape, shape}
+use Rattle.shapes.specs.Declarations.{MemberOf, FormOf, named_fields, unnamed_fields, no_fields, BodyOf, fields, units, DeclarationOf, declaration_at}
+use Rattle.shapes.specs.Shape.{is_null, is_list, is_map, type_shape, items_fit, member_fits, no_others, elements_fit, unnamed_shape, form_shape, body_shape, shape}
 
 both-more : (a b c d : Bool) → (IsTrue a → IsTrue c) → (IsTrue b → IsTrue d) → IsTrue (a && b) → IsTrue (c && d)
 both-more true true c d f g h = subst (λ x. IsTrue (x && d)) (sym (f refl)) (g refl)
@@ -92,10 +92,14 @@ module _ (a b : ℕ → Json → Bool) (more : (d : ℕ) (v : Json) → IsTrue (
   form-more (unnamed_fields ts) v h = unnamed-more ts v h
   form-more no_fields v h = h
 
+  body-more : (body : BodyOf) (v : Json) → IsTrue (body_shape a body v) → IsTrue (body_shape b body v)
+  body-more (fields form) v h = form-more form v h
+  body-more (units tagging names) v h = h
+
 module _ (ss : List DeclarationOf) where
   next : (depth d : ℕ) (v : Json) → IsTrue (shape ss depth d v) → IsTrue (shape ss (suc depth) d v)
   next zero d v h = cc
-  next (suc depth) d v h = form-more (shape ss depth) (shape ss (suc depth)) (next depth) (declaration_at ss d).form v h
+  next (suc depth) d v h = body-more (shape ss depth) (shape ss (suc depth)) (next depth) (declaration_at ss d).body v h
 
   further : (depth more d : ℕ) (v : Json) → IsTrue (shape ss depth d v) → IsTrue (shape ss (depth + more) d v)
   further depth zero d v h = let same : depth ≡ depth + zero = omega arith in subst (λ n. IsTrue (shape ss n d v)) same h

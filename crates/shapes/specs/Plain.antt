@@ -3,7 +3,9 @@ use Rattle.std.specs.Prelude.{◌≡◌, ◌≢◌, ◌⊎◌, ℕ, List, [], �
 use Rattle.leaves.specs.Leaves.{kind_of}
 use Rattle.leaves.specs.declared.leaf.LeafKind.TheVariants as kinds
 use Rattle.open_types.specs.Open.{Open, Opens, leaf, any_value, free_object, unit, tuple, items, set, map_of, option, through, param, named, no_types, more_types}
-use Rattle.shapes.specs.Declarations.{FormOf, named_fields, unnamed_fields, no_fields, DeclarationOf, declaration_at, types_of}
+use Rattle.shapes.specs.Declarations.{FormOf, named_fields, unnamed_fields, no_fields, BodyOf, fields, units, DeclarationOf, declaration_at, types_of, body_types}
+use Rattle.shapes.specs.declared.tagging.Tagging.{Tagging}
+use Rattle.shapes.specs.declared.tagging.Tagging.TheVariants.{External, Untagged}
 
 -- the declaration stands in the type
 abbrev mutual
@@ -30,46 +32,62 @@ abbrev pub StandsInOne : ℕ → List Open → Type 0
 StandsInOne e [] = ⊥
 StandsInOne e (t ∷ ts) = StandsIn e t ⊎ StandsInOne e ts
 
--- what serde reads for a map's key is a text: a key of texts, passed through perhaps
-abbrev pub IsTextKey : Open → Type 0
-IsTextKey (leaf x) = kind_of x ≡ kinds.Text
-IsTextKey (through h t) = IsTextKey t
-IsTextKey _ = ⊥
+-- an enum of which each value is the name of a variant
+abbrev pub IsNames : BodyOf → Type 0
+IsNames (units External names) = Unit {0}
+IsNames _ = ⊥
 
--- neither a float nor the unit stands in the type, and each map has texts as its keys
+-- what serde reads for a map's key is a text: a text, or the name of a variant, passed through perhaps
+abbrev pub IsKey : List DeclarationOf → Open → Type 0
+IsKey ss (leaf x) = kind_of x ≡ kinds.Text
+IsKey ss (through h t) = IsKey ss t
+IsKey ss (named d ts) = IsNames (declaration_at ss d).body
+IsKey ss _ = ⊥
+
+-- neither a float nor the unit stands in the type, and the keys of each map are texts
 abbrev mutual
-  pub IsPlainType : Open → Type 0
-  IsPlainType (leaf x) = kind_of x ≢ kinds.Float
-  IsPlainType any_value = Unit {0}
-  IsPlainType free_object = Unit {0}
-  IsPlainType unit = ⊥
-  IsPlainType (tuple ts) = ArePlainTypes ts
-  IsPlainType (items h t) = IsPlainType t
-  IsPlainType (set h t) = IsPlainType t
-  IsPlainType (map_of h k t) = IsTextKey k × IsPlainType t
-  IsPlainType (option t) = IsPlainType t
-  IsPlainType (through h t) = IsPlainType t
-  IsPlainType (param i) = ⊥
-  IsPlainType (named d ts) = ArePlainTypes ts
+  pub IsPlainType : List DeclarationOf → Open → Type 0
+  IsPlainType ss (leaf x) = kind_of x ≢ kinds.Float
+  IsPlainType ss any_value = Unit {0}
+  IsPlainType ss free_object = Unit {0}
+  IsPlainType ss unit = ⊥
+  IsPlainType ss (tuple ts) = ArePlainTypes ss ts
+  IsPlainType ss (items h t) = IsPlainType ss t
+  IsPlainType ss (set h t) = IsPlainType ss t
+  IsPlainType ss (map_of h k t) = IsKey ss k × IsPlainType ss k × IsPlainType ss t
+  IsPlainType ss (option t) = IsPlainType ss t
+  IsPlainType ss (through h t) = IsPlainType ss t
+  IsPlainType ss (param i) = ⊥
+  IsPlainType ss (named d ts) = ArePlainTypes ss ts
 
-  pub ArePlainTypes : Opens → Type 0
-  ArePlainTypes no_types = Unit {0}
-  ArePlainTypes (more_types t ts) = IsPlainType t × ArePlainTypes ts
+  pub ArePlainTypes : List DeclarationOf → Opens → Type 0
+  ArePlainTypes ss no_types = Unit {0}
+  ArePlainTypes ss (more_types t ts) = IsPlainType ss t × ArePlainTypes ss ts
 
-abbrev pub AreAllPlain : List Open → Type 0
-AreAllPlain [] = Unit {0}
-AreAllPlain (t ∷ ts) = IsPlainType t × AreAllPlain ts
+abbrev pub AreAllPlain : List DeclarationOf → List Open → Type 0
+AreAllPlain ss [] = Unit {0}
+AreAllPlain ss (t ∷ ts) = IsPlainType ss t × AreAllPlain ss ts
 
-abbrev pub IsPlainForm : FormOf → Type 0
-IsPlainForm (named_fields denies ms) = AreAllPlain (types_of (named_fields denies ms))
-IsPlainForm (unnamed_fields ts) = AreAllPlain ts
-IsPlainForm no_fields = ⊥
+abbrev pub IsPlainForm : List DeclarationOf → FormOf → Type 0
+IsPlainForm ss (named_fields denies ms) = AreAllPlain ss (types_of (named_fields denies ms))
+IsPlainForm ss (unnamed_fields ts) = AreAllPlain ss ts
+IsPlainForm ss no_fields = ⊥
+
+-- an untagged enum has a variant: the schema of one that has none accepts null, and no value is one
+abbrev pub HasOne : Tagging → List (List ℕ) → Type 0
+HasOne Untagged [] = ⊥
+HasOne _ _ = Unit {0}
+
+-- each value of the declaration is what its schema accepts, as far as its own places tell
+abbrev pub IsPlainBody : List DeclarationOf → BodyOf → Type 0
+IsPlainBody ss (fields form) = IsPlainForm ss form
+IsPlainBody ss (units tagging names) = HasOne tagging names
 
 -- places lead from one declaration to another, or to itself
 pub data Reaches (ss : List DeclarationOf) : ℕ → ℕ → Type 0 where
   itself : (d : ℕ) → Reaches ss d d
-  through_place : (d e f : ℕ) → StandsInOne e (types_of (declaration_at ss d).form) → Reaches ss e f → Reaches ss d f
+  through_place : (d e f : ℕ) → StandsInOne e (body_types (declaration_at ss d).body) → Reaches ss e f → Reaches ss d f
 
--- the declaration and each that its places reach have plain forms
+-- the declaration and each that its places reach have plain bodies
 abbrev pub IsPlain : List DeclarationOf → ℕ → Type 0
-IsPlain ss d = (e : ℕ) → Reaches ss d e → IsPlainForm (declaration_at ss e).form
+IsPlain ss d = (e : ℕ) → Reaches ss d e → IsPlainBody ss (declaration_at ss e).body

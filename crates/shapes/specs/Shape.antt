@@ -1,13 +1,15 @@
 -- When a JSON value has the shape of a type or of a declaration (the serde data model, in JSON with whole numbers of any size; docs/SERDE.md says where this is wider or narrower than what serde reads). No schema is known here.
-use Rattle.std.specs.Prelude.{ℕ, zero, suc, ◌≤◌, ℤ, pos, List, [], ◌∷◌, Bool, true, false, not, ◌&&◌, ◌||◌, int_le, IsTrue}
-use Rattle.std.specs.List.{list_all}
-use Rattle.acceptance.specs.Json.{Json, null, boolean, number, text, list, map, elements, entries, names, look, distinct, if_there}
+use Rattle.std.specs.Prelude.{ℕ, zero, suc, ◌≤◌, ℤ, pos, List, [], ◌∷◌, Bool, true, false, not, ◌&&◌, ◌||◌, int_le, IsTrue, bytes_eq}
+use Rattle.std.specs.List.{list_all, list_any}
+use Rattle.acceptance.specs.Json.{Json, null, boolean, number, text, list, map, elements, entries, names, look, distinct, there, if_there}
 use Rattle.texts.specs.Names.{is_in}
 use Rattle.leaves.specs.Leaves.{kind_of}
 use Rattle.leaves.specs.declared.leaf.LeafKind.{LeafKind}
 use Rattle.leaves.specs.declared.leaf.LeafKind.TheVariants as kinds
 use Rattle.open_types.specs.Open.{Open, Opens, leaf, any_value, free_object, unit, tuple, items, set, map_of, option, through, param, named, no_types, more_types}
-use Rattle.shapes.specs.Declarations.{MemberOf, FormOf, named_fields, unnamed_fields, no_fields, DeclarationOf, member_names, declaration_at}
+use Rattle.shapes.specs.Declarations.{MemberOf, FormOf, named_fields, unnamed_fields, no_fields, BodyOf, fields, units, DeclarationOf, member_names, declaration_at}
+use Rattle.shapes.specs.declared.tagging.Tagging.{Tagging}
+use Rattle.shapes.specs.declared.tagging.Tagging.TheVariants.{External, Internal, Adjacent, Untagged}
 
 abbrev pub is_null : Json → Bool
 is_null null = true
@@ -91,10 +93,31 @@ form_shape instance (named_fields denies ms) v = is_map v (λ es. list_all (memb
 form_shape instance (unnamed_fields ts) v = unnamed_shape instance ts v
 form_shape instance no_fields v = is_null v
 
+-- the text alone
+abbrev pub is_the : List ℕ → Json → Bool
+is_the name (text s) = bytes_eq s name
+is_the name _ = false
+
+-- a map that has a member of the name, which passes; others may stand beside it
+abbrev pub has_member : List ℕ → (Json → Bool) → Json → Bool
+has_member k p v = is_map v (λ es. there (look k es) p)
+
+-- The value tells the variant of the name, which has no fields.
+abbrev pub unit_shape : Tagging → List ℕ → Json → Bool
+unit_shape External name v = is_the name v
+unit_shape (Internal tag) name v = has_member tag (is_the name) v
+unit_shape (Adjacent tag content) name v = has_member tag (is_the name) v
+unit_shape Untagged name v = is_null v
+
+-- the fields of a struct, or one of the variants
+abbrev pub body_shape : (ℕ → Json → Bool) → BodyOf → Json → Bool
+body_shape instance (fields form) v = form_shape instance form v
+body_shape instance (units tagging names) v = list_any (λ name. unit_shape tagging name v) names
+
 -- The value has the shape of the declaration at the place, seen to a depth: at 0 nothing has.
 abbrev pub shape : List DeclarationOf → ℕ → ℕ → Json → Bool
 shape ss zero d v = false
-shape ss (suc depth) d v = form_shape (shape ss depth) (declaration_at ss d).form v
+shape ss (suc depth) d v = body_shape (shape ss depth) (declaration_at ss d).body v
 
 -- The value has the shape of the declaration at the place.
 abbrev pub HasShape : List DeclarationOf → ℕ → Json → Type 0

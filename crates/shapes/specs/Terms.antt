@@ -1,17 +1,21 @@
 -- The schemas of declarations, over the declarations that their types name.
-use Rattle.std.specs.Prelude.{ℕ, List, [], ◌∷◌, Bool, true, false, ◌&&◌, cond, pos, length, map, Some}
+use Rattle.std.specs.Prelude.{ℕ, List, [], ◌∷◌, Bool, true, false, ◌&&◌, cond, pos, length, map, Some, None}
+use Rattle.acceptance.specs.Json.{Json, null, text}
 use Rattle.schema_core.specs.declared.tree.SchemaTypeInner.TheVariants as word
 use Rattle.schema_core.specs.declared.tree.TypeWord.TheVariants.{Any, One}
 use Rattle.schema_core.specs.declared.notes.Notes.{Notes}
-use Rattle.schema_core.specs.Schema.{SchemaOf, object, array, SchemasOf, no_schemas, schemas_of, PropertiesOf, no_properties, property, PartOf, no_part, truth, part}
+use Rattle.schema_core.specs.Schema.{Facts, SchemaOf, object, array, one_of, SchemasOf, no_schemas, schemas_of, PropertiesOf, no_properties, property, PartOf, no_part, truth, part}
 use Rattle.open_types.specs.Open.{Open}
 use Rattle.open_types.specs.Same.{same_type}
 use Rattle.component.specs.Leaves.{LeafOf}
-use Rattle.schema_core.specs.Notes.{noted, described, null_default}
+use Rattle.schema_core.specs.Bounds.{no_bounds}
+use Rattle.schema_core.specs.Notes.{notes_of, no_notes, where_true, noted, described, null_default}
 use Rattle.schema_core.specs.Objects.{word_facts, with_required, only_word}
 use Rattle.component.specs.Places.{place}
 use Rattle.shapes.specs.declared.remarks.Remarks.{Remarks}
-use Rattle.shapes.specs.Declarations.{MemberOf, FormOf, named_fields, unnamed_fields, no_fields, DeclarationOf, no_remarks}
+use Rattle.shapes.specs.declared.tagging.Tagging.{Tagging}
+use Rattle.shapes.specs.declared.tagging.Tagging.TheVariants.{External, Internal, Adjacent, Untagged}
+use Rattle.shapes.specs.Declarations.{MemberOf, FormOf, named_fields, unnamed_fields, no_fields, BodyOf, fields, units, DeclarationOf, no_remarks}
 
 -- the schema of a field
 abbrev pub field_term : Remarks → Open → SchemaOf LeafOf
@@ -69,6 +73,44 @@ form_term remarks (named_fields denies ms) =
 form_term remarks (unnamed_fields ts) = unnamed_term remarks ts
 form_term remarks no_fields = only_word Any (null_default remarks.description)
 
--- The schema of a declaration: an object with a property for each member, a list or its content, or null as the default.
+-- ---- enums
+
+-- one of the texts
+abbrev pub texts_facts : Notes → List Json → Facts
+texts_facts notes texts = record {
+  type_word = One word.String;
+  format = None;
+  enum_values = Some texts;
+  required = [];
+  bounds = no_bounds;
+  notes = notes;
+}
+
+abbrev pub texts_schema : {X : Type 0} → Notes → List (List ℕ) → SchemaOf X
+texts_schema notes names = object (texts_facts notes (map text names)) no_properties no_part no_part
+
+-- an object that has a tag with the name as its text, and perhaps other members
+abbrev pub tag_alone : {X : Type 0} → (tag name : List ℕ) → SchemaOf X
+tag_alone tag name = object_of no_notes false (tag ∷ []) (property tag (texts_schema no_notes (name ∷ [])) no_properties)
+
+abbrev pub tags_term : Remarks → (tag : List ℕ) → List (List ℕ) → SchemaOf LeafOf
+tags_term remarks tag names = one_of (noted remarks.deprecated remarks.description) (schemas_of (map (tag_alone tag) names))
+
+-- null, which is the default too
+abbrev pub null_term : Remarks → SchemaOf LeafOf
+null_term remarks = only_word (One word.Null) (notes_of remarks.description (Some null) (where_true remarks.deprecated))
+
+-- Variants without fields: one of their names, an object with a tag for each, or null.
+abbrev pub units_term : Remarks → Tagging → List (List ℕ) → SchemaOf LeafOf
+units_term remarks External names = texts_schema (noted remarks.deprecated remarks.description) names
+units_term remarks (Internal tag) names = tags_term remarks tag names
+units_term remarks (Adjacent tag content) names = tags_term remarks tag names
+units_term remarks Untagged names = null_term remarks
+
+abbrev pub body_term : Remarks → BodyOf → SchemaOf LeafOf
+body_term remarks (fields form) = form_term remarks form
+body_term remarks (units tagging names) = units_term remarks tagging names
+
+-- The schema of a declaration: of a struct an object with a property for each member, a list or its content, or null as the default; of an enum its variants.
 abbrev pub term : DeclarationOf → SchemaOf LeafOf
-term s = form_term s.remarks s.form
+term s = body_term s.remarks s.body

@@ -1,17 +1,17 @@
 -- What is in the grammar is read, unless a type nests too deep, where ty reads types.
-use Rattle.std.proofs.Common.{◌≡◌, ◌∙◌, inl, inr, List, [], ◌∷◌, refl, ap, sym, subst, true, false, not, ◌&&◌, cond, is_some, Option, Some, None, Ok, Err}
+use Rattle.std.proofs.Common.{◌≡◌, ◌∙◌, inl, inr, List, [], ◌∷◌, refl, ap, sym, subst, Bool, true, false, not, ◌&&◌, cond, is_some, Option, Some, None, Ok, Err}
 use Rattle.texts.specs.declared.span.Span.{Span}
-use Rattle.tokens.specs.declared.token.Bracket.TheVariants.{Round, Square}
+use Rattle.tokens.specs.declared.token.Bracket.TheVariants.{Round, Square, Curly}
 use Rattle.tokens.specs.declared.token.Token.{Token}
 use Rattle.tokens.specs.Trees.{Trees}
 use Rattle.written_types.specs.declared.written.Ident.{Ident}
 use Rattle.written_types.specs.Written.{Written}
 use Rattle.words.specs.declared.vocabulary.Keyword.{Keyword}
 use Rattle.words.specs.declared.vocabulary.Keyword.TheVariants as keywords
-use Rattle.words.specs.declared.vocabulary.Keyword.TheVariants.{Pub, Struct, Use}
+use Rattle.words.specs.declared.vocabulary.Keyword.TheVariants.{Pub, Struct, Enum, Use}
 use Rattle.words.specs.declared.vocabulary.Sign.{Sign}
 use Rattle.words.specs.declared.vocabulary.Sign.TheVariants as signs
-use Rattle.words.specs.declared.vocabulary.Sign.TheVariants.{Colon, Comma, Semicolon, Hash, Exclamation}
+use Rattle.words.specs.declared.vocabulary.Sign.TheVariants.{Colon, Comma, Hash, Exclamation}
 use Rattle.words.specs.Words.{Word, name, underscore, keyword, sign, lifetime, literal, doc, group, words_of}
 use Rattle.words.specs.Reading.{wrong, Read, ◌>>=◌, as_sign, as_keyword, name_at, keyword_at, sign_at}
 use Rattle.type_grammar.specs.Starts.{Stops, begins_type}
@@ -22,16 +22,16 @@ use Rattle.attributes.specs.AttributeWords.{is_inner_text}
 use Rattle.attributes.specs.AttributeGrammar.{IsAttributes}
 use Rattle.attributes.specs.AttributeReading.{begins_attribute}
 use Rattle.attributes.proofs.Whole.{attributes_complete}
-use Rattle.syntax.specs.Items.{FieldItem, FieldItems, named, unnamed, DeclaredItem}
-use Rattle.syntax.specs.ItemWords.{is_restriction}
-use Rattle.syntax.specs.ItemGrammar.{IsVisibility, private, public, restricted, IsNamedField, named_field, IsUnnamedField, unnamed_field, IsFields, named_fields, unnamed_fields, no_fields, IsUse, use_line, IsStruct, struct_item, IsItems, nothing, used, declared, IsSource, inner_doc, inner_attribute, items}
-use Rattle.syntax.specs.ItemReading.{is_scope, ends_item, after_visibility, field_of, named_field_at, unnamed_field_at, fields_at, declared_of, struct_at, left_by, use_or_struct, item_at, kept, inner_at, items_at, source_at}
+use Rattle.syntax.specs.Items.{FieldItem, FieldItems, named, unnamed, unit, VariantItem, BodyItem, struct_body, enum_body, DeclaredItem}
+use Rattle.syntax.specs.ItemWords.{before_comma, from_comma, is_restriction}
+use Rattle.syntax.specs.ItemGrammar.{IsVisibility, private, public, restricted, IsNamedField, named_field, IsUnnamedField, unnamed_field, IsFields, named_fields, unnamed_fields, no_fields, IsStructEnd, behind_named, behind_unnamed, behind_name, IsDiscriminant, no_discriminant, discriminant, IsVariant, variant_item, IsUse, use_line, IsStruct, struct_item, IsEnum, enum_item, IsDeclaration, structure, enumeration, IsItems, nothing, used, declared, IsSource, inner_doc, inner_attribute, items}
+use Rattle.syntax.specs.ItemReading.{is_scope, ends_item, after_visibility, field_of, named_field_at, unnamed_field_at, fields_at, after_struct, discriminant_at, variant_of, variant_at, declared_of, struct_at, enum_at, declaration_at, left_by, use_or_declaration, item_at, kept, inner_at, items_at, source_at}
 use Rattle.syntax.proofs.Fronts.{bool_cases, NoAttribute, scope-is, visibility_no_attribute, pub_left, scope_left, scope_passed, visibility_complete, NoInner, attributes_no_inner, visibility_no_inner}
 use Rattle.syntax.proofs.Types.{Begins, type_begins, group_alone}
 use Rattle.syntax.proofs.Inner.{inner_step, inner_stop}
 use Rattle.words.proofs.Many.{many_none}
 use Rattle.words.proofs.Complete.{Ends, at_end, at_comma, Finds, like_finds, then_finds, more_finds, list_complete}
-use Rattle.syntax.proofs.Sound.{named_shorter, unnamed_shorter, use_shorter, struct_shorter, named_shortens, unnamed_shortens, item_shortens}
+use Rattle.syntax.proofs.Sound.{named_shorter, unnamed_shorter, variant_shorter, use_shorter, declaration_shorter, named_shortens, unnamed_shortens, variant_shortens, item_shortens}
 
 -- ---- what a type begins with, and what ends an item of a list
 no_type_keyword : (k : Keyword) (x : Ident) → begins_type (keyword k x) ≡ true → as_keyword Pub (keyword k x) ≡ None
@@ -101,14 +101,55 @@ type_visibility (restricted {x = x} {inside = inside} {s = s} {rest = rest} h) b
 pub begins_type_alone : (ws : List Word) → Begins ws → NoAttribute ws
 begins_type_alone ws b = subst (λ v. NoAttribute v) (sym b.2) (begins_no_attribute b.0 b.3)
 
+-- ---- what ends fields, a discriminant and a struct
+abbrev begins_group : List Word → Bool
+begins_group (group b inside s ∷ ws) = true
+begins_group _ = false
+
+-- behind a name without fields stands no group
+abbrev EndsFields : FieldItems → List Word → Type 0
+EndsFields (named fs) ws = Unit {0}
+EndsFields (unnamed fs) ws = Unit {0}
+EndsFields unit ws = begins_group ws ≡ false
+
+no_group : (fs : FieldItems) (ws : List Word) → begins_group ws ≡ false → EndsFields fs ws
+no_group (named fs) ws e = tt
+no_group (unnamed fs) ws e = tt
+no_group unit ws e = e
+
+discriminant_no_group : {ws rest : List Word} {o : Option (List Word)} → IsDiscriminant ws o rest → Ends rest → begins_group ws ≡ false
+discriminant_no_group no_discriminant at_end = refl
+discriminant_no_group no_discriminant at_comma = refl
+discriminant_no_group (discriminant e) ends = refl
+
+discriminant_complete : {ws rest : List Word} {o : Option (List Word)} → IsDiscriminant ws o rest → Ends rest → discriminant_at ws ≡ Ok (o, rest)
+unfolding discriminant_at
+discriminant_complete no_discriminant at_end = refl
+discriminant_complete no_discriminant at_comma = refl
+discriminant_complete (discriminant {ws = ws} e) ends = ap (λ b. cond {A = Read (Option (List Word))} b (Err wrong) (Ok (Some (before_comma ws), from_comma ws))) e
+
+end_fields : {fs : FieldItems} {ws rest : List Word} → IsStructEnd fs ws rest → EndsFields fs ws
+end_fields behind_named = tt
+end_fields behind_unnamed = tt
+end_fields behind_name = refl
+
+end_complete : {fs : FieldItems} {ws rest : List Word} → IsStructEnd fs ws rest → after_struct fs ws ≡ Ok rest
+end_complete behind_named = refl
+end_complete behind_unnamed = refl
+end_complete behind_name = refl
+
 -- ---- items have no inner attrs and attributes at their front
 pub inner_doc_at : (t : Token) (ws : List Word) → is_inner_text t.text ≡ true → inner_at (doc t ∷ ws) ≡ Ok ws
 inner_doc_at t ws e = ap (λ b. cond b (Ok ws) (Err wrong)) e
 
+pub declaration_no_inner : {ws rest : List Word} {d : DeclaredItem} → IsDeclaration ws d rest → NoInner ws
+declaration_no_inner (structure (struct_item d v r end)) = attributes_no_inner d (visibility_no_inner v refl)
+declaration_no_inner (enumeration (enum_item d v r)) = attributes_no_inner d (visibility_no_inner v refl)
+
 items_no_inner : {ws : List Word} {ds : List DeclaredItem} → IsItems ws ds → NoInner ws
 items_no_inner nothing = refl
 items_no_inner (used (use_line d v e) h) = attributes_no_inner d (visibility_no_inner v refl)
-items_no_inner (declared (struct_item d v r) h) = attributes_no_inner d (visibility_no_inner v refl)
+items_no_inner (declared r h) = declaration_no_inner r
 
 -- ---- heads of readers
 abbrev named_tail : (List Word → Read Written) → List AttributeItem → Ident → List Word → List Word → Read FieldItem
@@ -117,8 +158,20 @@ named_tail ty attrs x us vs = ty vs >>= λ t. Ok (field_of attrs (Some x) us t)
 abbrev unnamed_tail : (List Word → Read Written) → List AttributeItem → List Word → List Word → Read FieldItem
 unnamed_tail ty attrs us vs = ty vs >>= λ t. Ok (field_of attrs None us t)
 
-abbrev struct_tail : (List Word → Read Written) → List AttributeItem → Ident → List Word → List Word → Read DeclaredItem
-struct_tail ty attrs y us vs = fields_at ty vs >>= λ fs. Ok (declared_of attrs y us fs)
+abbrev pub variant_end : List AttributeItem → Ident → List Word → FieldItems × List Word → Read VariantItem
+variant_end attrs x us fs = discriminant_at fs.1 >>= λ value. Ok (variant_of attrs x us fs.0 value)
+
+abbrev variant_tail : (List Word → Read Written) → List AttributeItem → Ident → List Word → List Word → Read VariantItem
+variant_tail ty attrs x us vs = fields_at ty vs >>= variant_end attrs x us
+
+abbrev pub struct_end : Ident → FieldItems × List Word → Read (Ident × BodyItem)
+struct_end y fs = after_struct fs.0 fs.1 >>= λ rest. Ok ((y, struct_body fs.0), rest)
+
+abbrev pub enum_end : Ident → List Word → List VariantItem → Read (Ident × BodyItem)
+enum_end y rest vs = Ok ((y, enum_body vs), rest)
+
+abbrev pub item_end : List AttributeItem → List Word → (Ident × BodyItem) × List Word → Read (Option DeclaredItem)
+item_end attrs us d = Ok (Some (declared_of attrs us d), d.1)
 
 module _ (ty : List Word → Read Written) where
   abbrev named_from : List AttributeItem → List Word → List Word → Read FieldItem
@@ -136,7 +189,7 @@ module _ (ty : List Word → Read Written) where
       ap (λ (r : Read (List AttributeItem)). r >>= λ p. unnamed_tail ty p.0 p.1 (after_visibility true p.1)) (attributes_complete d (visibility_no_attribute v n)) ∙ ap (unnamed_tail ty attrs us) e
 
   abbrev item_from : List AttributeItem → List Word → List Word → Read (Option DeclaredItem)
-  item_from attrs us vs = use_or_struct ty attrs us vs (keyword_at Use vs)
+  item_from attrs us vs = use_or_declaration ty attrs us vs (keyword_at Use vs)
 
   item_head : {ws us : List Word} {attrs : List AttributeItem} (w : Word) (vs : List Word) → IsAttributes ws attrs us → IsVisibility us (w ∷ vs) → begins_attribute w ≡ false → as_keyword Pub w ≡ None → is_scope w ≡ false
       → item_at ty ws ≡ item_from attrs us (w ∷ vs)
@@ -149,9 +202,33 @@ module _ (ty : List Word → Read Written) where
   use_head (use_line {x = x} {vs = vs} d v e) = item_head (keyword Use x) vs d v refl refl refl ∙ ap left_by e
 
   pub struct_head : {ws us vs : List Word} {attrs : List AttributeItem} {x y : Ident} → IsAttributes ws attrs us → IsVisibility us (keyword Struct x ∷ name y ∷ vs)
-      → item_at ty ws ≡ (struct_tail ty attrs y us vs >>= λ d. Ok (Some d.0, d.1))
-  unfolding struct_at
+      → item_at ty ws ≡ (fields_at ty vs >>= struct_end y >>= item_end attrs us)
+  unfolding declaration_at struct_at
   struct_head {vs = vs} {x = x} {y = y} d v = item_head (keyword Struct x) (name y ∷ vs) d v refl refl refl
+
+  pub enum_head : {ws us rest : List Word} {attrs : List AttributeItem} {x y : Ident} {inside : Trees} {s : Span} → IsAttributes ws attrs us → IsVisibility us (keyword Enum x ∷ name y ∷ group Curly inside s ∷ rest)
+      → item_at ty ws ≡ (list_of (variant_at ty) (words_of inside) >>= enum_end y rest >>= item_end attrs us)
+  unfolding declaration_at enum_at
+  enum_head {rest = rest} {x = x} {y = y} {inside = inside} {s = s} d v = item_head (keyword Enum x) (name y ∷ group Curly inside s ∷ rest) d v refl refl refl
+
+  abbrev variant_from : List AttributeItem → List Word → Read VariantItem
+  variant_from attrs us = name_at us >>= λ x. variant_tail ty attrs x.0 us x.1
+
+  pub variant_head : {ws vs : List Word} {attrs : List AttributeItem} {x : Ident} → IsAttributes ws attrs (name x ∷ vs) → variant_at ty ws ≡ variant_tail ty attrs x (name x ∷ vs) vs
+  unfolding variant_at
+  variant_head d = ap (λ (r : Read (List AttributeItem)). r >>= λ p. variant_from p.0 p.1) (attributes_complete d refl)
+
+  unit_complete : (ws : List Word) → begins_group ws ≡ false → fields_at ty ws ≡ Ok (unit, ws)
+  unfolding fields_at
+  unit_complete [] e = refl
+  unit_complete (name x ∷ ws) e = refl
+  unit_complete (underscore x ∷ ws) e = refl
+  unit_complete (keyword k x ∷ ws) e = refl
+  unit_complete (sign k s ∷ ws) e = refl
+  unit_complete (lifetime x ∷ ws) e = refl
+  unit_complete (literal t ∷ ws) e = refl
+  unit_complete (doc t ∷ ws) e = refl
+  unit_complete (group b inside s ∷ ws) e = cc
 
   module _ (sound : (ws : List Word) (t : Written) (rest : List Word) → ty ws ≡ Ok (t, rest) → IsType ws t rest) (type_found : (ws rest : List Word) (t : Written) → IsType ws t rest → Stops rest → Finds ty (ty ws) (t, rest)) where
     -- ---- fields
@@ -173,29 +250,46 @@ module _ (ty : List Word → Read Written) where
     list_unnamed : {ws : List Word} {fs : List FieldItem} → IsList IsUnnamedField ws fs → Finds ty (list_of (unnamed_field_at ty) ws) fs
     list_unnamed r = list_complete ty (unnamed_field_at ty) IsUnnamedField (unnamed_shortens ty sound) (λ ws rest x r. unnamed_shorter r) unnamed_complete r
 
-    -- ---- structs
-    fields_complete : {ws rest : List Word} {fs : FieldItems} → IsFields ws fs rest → Finds ty (fields_at ty ws) (fs, rest)
+    fields_complete : {ws rest : List Word} {fs : FieldItems} → IsFields ws fs rest → EndsFields fs rest → Finds ty (fields_at ty ws) (fs, rest)
     unfolding fields_at
-    fields_complete (named_fields {inside = inside} {rest = rest} {fs = fs} r) =
+    fields_complete (named_fields {inside = inside} {rest = rest} {fs = fs} r) ends =
         let f : List FieldItem → Read FieldItems = λ fs. Ok (named fs, rest) in
         then_finds ty (list_of (named_field_at ty) (words_of inside)) f fs (named fs, rest) (list_named r) (inl refl)
-    fields_complete (unnamed_fields {inside = inside} {end = end} {rest = rest} {fs = fs} r) =
-        let f : List FieldItem → Read FieldItems = λ fs. sign_at Semicolon (sign Semicolon end ∷ rest) >>= λ end. Ok (unnamed fs, end.1) in
+    fields_complete (unnamed_fields {inside = inside} {rest = rest} {fs = fs} r) ends =
+        let f : List FieldItem → Read FieldItems = λ fs. Ok (unnamed fs, rest) in
         then_finds ty (list_of (unnamed_field_at ty) (words_of inside)) f fs (unnamed fs, rest) (list_unnamed r) (inl refl)
-    fields_complete no_fields = inl refl
+    fields_complete (no_fields {rest = rest}) ends = inl (unit_complete rest ends)
 
-    pub struct_complete : {ws rest : List Word} {d : DeclaredItem} → IsStruct ws d rest → Finds ty (item_at ty ws) (Some d, rest)
-    struct_complete (struct_item {y = y} {attrs = attrs} {us = us} {vs = vs} {rest = rest} {fs = fs} ds v r) =
-        let f : FieldItems × List Word → Read DeclaredItem = λ fs. Ok (declared_of attrs y us fs) in
-        let g : DeclaredItem × List Word → Read (Option DeclaredItem) = λ d. Ok (Some d.0, d.1) in
-        let d = declared_of attrs y us (fs, rest) in
-        like_finds ty (struct_head ds v) (then_finds ty (struct_tail ty attrs y us vs) g d (Some d.0, d.1) (then_finds ty (fields_at ty vs) f (fs, rest) d (fields_complete r) (inl refl)) (inl refl))
+    -- ---- declarations
+    pub variant_complete : (ws rest : List Word) (v : VariantItem) → IsVariant ws v rest → Ends rest → Finds ty (variant_at ty ws) (v, rest)
+    variant_complete _ rest _ (variant_item {x = x} {attrs = attrs} {fs = fs} {value = value} {vs = vs} {mid = mid} d f o) ends =
+        let done : Option (List Word) × List Word → Read VariantItem = λ v. Ok (variant_of attrs x (name x ∷ vs) fs v) in
+        like_finds ty (variant_head d) (then_finds ty (fields_at ty vs) (variant_end attrs x (name x ∷ vs)) (fs, mid) (variant_of attrs x (name x ∷ vs) fs (value, rest))
+        (fields_complete f (no_group fs mid (discriminant_no_group o ends))) (inl (ap (λ r. r >>= done) (discriminant_complete o ends))))
+
+    list_variants : {ws : List Word} {vs : List VariantItem} → IsList IsVariant ws vs → Finds ty (list_of (variant_at ty) ws) vs
+    list_variants r = list_complete ty (variant_at ty) IsVariant (variant_shortens ty sound) (λ ws rest x r. variant_shorter r) variant_complete r
+
+    struct_complete : {ws rest : List Word} {d : DeclaredItem} → IsStruct ws d rest → Finds ty (item_at ty ws) (Some d, rest)
+    struct_complete (struct_item {y = y} {attrs = attrs} {fs = fs} {us = us} {vs = vs} {mid = mid} {rest = rest} ds v r end) =
+        let done : List Word → Read (Ident × BodyItem) = λ rest. Ok ((y, struct_body fs), rest) in
+        like_finds ty (struct_head ds v) (then_finds ty (fields_at ty vs >>= struct_end y) (item_end attrs us) ((y, struct_body fs), rest) _
+        (then_finds ty (fields_at ty vs) (struct_end y) (fs, mid) ((y, struct_body fs), rest) (fields_complete r (end_fields end)) (inl (ap (λ r. r >>= done) (end_complete end)))) (inl refl))
+
+    enum_complete : {ws rest : List Word} {d : DeclaredItem} → IsEnum ws d rest → Finds ty (item_at ty ws) (Some d, rest)
+    enum_complete (enum_item {y = y} {inside = inside} {attrs = attrs} {us = us} {rest = rest} {vs = vs} ds v r) =
+        let variants = list_of (variant_at ty) (words_of inside) in
+        like_finds ty (enum_head ds v) (then_finds ty (variants >>= enum_end y rest) (item_end attrs us) ((y, enum_body vs), rest) _ (then_finds ty variants (enum_end y rest) vs ((y, enum_body vs), rest) (list_variants r) (inl refl)) (inl refl))
+
+    pub declaration_complete : {ws rest : List Word} {d : DeclaredItem} → IsDeclaration ws d rest → Finds ty (item_at ty ws) (Some d, rest)
+    declaration_complete (structure s) = struct_complete s
+    declaration_complete (enumeration e) = enum_complete e
 
     -- ---- a source
     items_complete : {ws : List Word} {ds : List DeclaredItem} → IsItems ws ds → Finds ty (items_at ty ws) ds
     items_complete nothing = inl (many_none kept (item_at ty) (item_shortens ty sound) [] refl)
     items_complete (used {ws = ws} {rest = rest} {ds = ds} r h) = more_finds ty kept (item_at ty) (item_shortens ty sound) ws rest None ds (use_shorter r) (inl (use_head r)) (items_complete h)
-    items_complete (declared {ws = ws} {rest = rest} {d = d} {ds = ds} r h) = more_finds ty kept (item_at ty) (item_shortens ty sound) ws rest (Some d) ds (struct_shorter r) (struct_complete r) (items_complete h)
+    items_complete (declared {ws = ws} {rest = rest} {d = d} {ds = ds} r h) = more_finds ty kept (item_at ty) (item_shortens ty sound) ws rest (Some d) ds (declaration_shorter r) (declaration_complete r) (items_complete h)
 
     pub source_complete : {ws : List Word} {ds : List DeclaredItem} → IsSource ws ds → Finds ty (source_at ty ws) ds
     unfolding source_at

@@ -4,11 +4,13 @@ use Rattle.texts.specs.declared.span.Span.{Span}
 use Rattle.tokens.specs.declared.token.Bracket.{Bracket}
 use Rattle.tokens.specs.declared.token.Bracket.TheVariants.{Round, Square, Curly}
 use Rattle.tokens.specs.Trees.{Trees}
+use Rattle.written_types.specs.declared.written.Ident.{Ident}
 use Rattle.written_types.specs.Written.{Written}
-use Rattle.words.specs.declared.vocabulary.Keyword.TheVariants.{Struct, Use}
-use Rattle.words.specs.declared.vocabulary.Sign.TheVariants.{Colon, Comma, Semicolon, Hash, Exclamation}
+use Rattle.words.specs.declared.vocabulary.Keyword.{Keyword}
+use Rattle.words.specs.declared.vocabulary.Keyword.TheVariants.{Struct, Enum, Use}
+use Rattle.words.specs.declared.vocabulary.Sign.TheVariants.{Colon, Comma, Semicolon, Equals, Hash, Exclamation}
 use Rattle.words.specs.Words.{Word, name, underscore, keyword, sign, lifetime, literal, doc, group, words_of}
-use Rattle.words.specs.Reading.{Fault, deep, Read, ◌>>=◌, first_as, as_name, as_keyword, as_sign, keyword_at, sign_at, group_at}
+use Rattle.words.specs.Reading.{Fault, deep, wrong, Read, ◌>>=◌, first_as, as_name, as_keyword, as_sign, as_group, name_at, keyword_at, sign_at, group_at}
 use Rattle.type_grammar.specs.Starts.{Stops}
 use Rattle.type_grammar.specs.Grammar.{IsType}
 use Rattle.type_grammar.specs.Opening.{OpensList, in_first, behind}
@@ -22,10 +24,10 @@ use Rattle.attributes.specs.AttributeGrammar.{IsAttributes}
 use Rattle.attributes.specs.AttributeReading.{attributes_at}
 use Rattle.attributes.proofs.Whole.{attributes_sound, attributes_shallow, attributes_no_longer}
 use Rattle.syntax.specs.Items.{FieldItem, FieldItems, named, unnamed, unit, DeclaredItem}
-use Rattle.syntax.specs.ItemWords.{after_semicolon}
-use Rattle.syntax.specs.ItemGrammar.{IsVisibility, IsNamedField, IsUnnamedField, use_line, struct_item}
-use Rattle.syntax.specs.ItemDepth.{most_levels, OpensNamed, in_named, OpensUnnamed, in_unnamed, OpensFields, in_named_fields, in_unnamed_fields, OpensStruct, in_fields, OpensItems, in_struct, behind_use, behind_struct, OpensSource, behind_inner_doc, behind_inner_attribute, in_items}
-use Rattle.syntax.specs.ItemReading.{after_visibility, field_of, named_field_at, unnamed_field_at, fields_in, fields_at, declared_of, struct_at, left_by, use_or_struct, item_at, kept, after_inner_attribute, inner_at, inner_from, after_inner_within, after_inner, items_at, source_at}
+use Rattle.syntax.specs.ItemWords.{after_semicolon, before_comma, from_comma, is_end}
+use Rattle.syntax.specs.ItemGrammar.{IsVisibility, IsNamedField, IsUnnamedField, IsVariant, use_line}
+use Rattle.syntax.specs.ItemDepth.{most_levels, OpensNamed, in_named, OpensUnnamed, in_unnamed, OpensFields, in_named_fields, in_unnamed_fields, OpensVariant, in_variant_fields, OpensStruct, in_fields, OpensEnum, in_variants, OpensDeclaration, in_struct, in_enum, OpensItems, in_declaration, behind_use, behind_declaration, OpensSource, behind_inner_doc, behind_inner_attribute, in_items}
+use Rattle.syntax.specs.ItemReading.{after_visibility, field_of, named_field_at, unnamed_field_at, fields_in, fields_at, after_struct, value_or_none, discriminant_at, variant_of, variant_at, struct_at, enum_at, struct_or_enum, declaration_at, left_by, use_or_declaration, item_at, kept, after_inner_attribute, inner_at, inner_from, after_inner_within, after_inner, items_at, source_at}
 use Rattle.words.proofs.Read.{bind_ok, bind_err, ok_is, first_shallow}
 use Rattle.words.proofs.Stands.{name-is, keyword-is, sign-is, group-is}
 use Rattle.syntax.proofs.Fronts.{visibility_sound, visibility_no_longer, NoInner, attributes_no_inner, visibility_no_inner}
@@ -35,9 +37,9 @@ use Rattle.words.proofs.Many.{Shortens}
 use Rattle.words.proofs.Sound.{comma_read, turn_sound, turn_shortens}
 use Rattle.words.proofs.Complete.{Ends, at_comma, turn_finds, turn_deep, more_deep, first_deep}
 use Rattle.words.proofs.Complete as lists
-use Rattle.syntax.proofs.Sound.{ItemRead, named_shorter, unnamed_shorter, use_shorter, struct_shorter, named_shortens, unnamed_shortens, item_shortens}
+use Rattle.syntax.proofs.Sound.{ItemRead, named_shorter, unnamed_shorter, variant_shorter, use_shorter, declaration_shorter, named_shortens, unnamed_shortens, variant_shortens, item_shortens}
 use Rattle.syntax.proofs.Sound as sound
-use Rattle.syntax.proofs.Complete.{type_visibility, begins_type_alone, inner_doc_at, named_head, unnamed_head, use_head, struct_head}
+use Rattle.syntax.proofs.Complete.{type_visibility, begins_type_alone, inner_doc_at, declaration_no_inner, variant_end, struct_end, enum_end, item_end, named_head, unnamed_head, variant_head, use_head, struct_head, enum_head}
 use Rattle.syntax.proofs.Complete as complete
 
 abbrev ty : List Word → Read Written
@@ -178,31 +180,22 @@ list_unnamed =
     list_agrees (unnamed_field_at ty) IsUnnamedField OpensUnnamed (λ ws at. (λ e. unnamed_deep ws at e, λ o. unnamed_opens o)) (unnamed_shortens ty (type_sound most_levels)) (sound.unnamed_sound ty (type_sound most_levels))
     (λ ws rest x r. unnamed_shorter r) (complete.unnamed_complete ty (type_sound most_levels) (type_found most_levels)) unnamed_some
 
--- ---- structs
+-- what follows the name of a struct or of a variant
 fields_in_deep : (b : Bracket) (inside : Trees) (s : Span) (ws : List Word) (at : Span) → fields_in ty b (words_of inside) ws ≡ Err (deep at) → OpensFields (group b inside s ∷ ws) at
 fields_in_deep Curly inside s ws at e = in_named_fields ((list_named (words_of inside) at).0 (handed_on (list_of (named_field_at ty) (words_of inside)) _ at e))
-fields_in_deep Round inside s ws at e = elim (bind_err (list_of (unnamed_field_at ty) (words_of inside)) e) [
-  | inl h ↦ in_unnamed_fields ((list_unnamed (words_of inside) at).0 h)
-  | inr h ↦ absurd (first_shallow (as_sign Semicolon) ws at (handed_on (sign_at Semicolon ws) _ at h.2))
-]
+fields_in_deep Round inside s ws at e = in_unnamed_fields ((list_unnamed (words_of inside) at).0 (handed_on (list_of (unnamed_field_at ty) (words_of inside)) _ at e))
 fields_in_deep Square inside s ws at e = cc
-
-abbrev unit_of : Span × List Word → FieldItems × List Word
-unit_of end = (unit, end.1)
-
-unit_deep : (ws : List Word) (at : Span) → (sign_at Semicolon ws >>= λ end. Ok (unit_of end)) ≡ Err (deep at) → OpensFields ws at
-unit_deep ws at e = absurd (first_shallow (as_sign Semicolon) ws at (handed_on (sign_at Semicolon ws) unit_of at e))
 
 fields_deep : (ws : List Word) (at : Span) → fields_at ty ws ≡ Err (deep at) → OpensFields ws at
 unfolding fields_at
 fields_deep [] at e = cc
-fields_deep (name x ∷ ws) at e = unit_deep (name x ∷ ws) at e
-fields_deep (underscore x ∷ ws) at e = unit_deep (underscore x ∷ ws) at e
-fields_deep (keyword k x ∷ ws) at e = unit_deep (keyword k x ∷ ws) at e
-fields_deep (sign k s ∷ ws) at e = unit_deep (sign k s ∷ ws) at e
-fields_deep (lifetime x ∷ ws) at e = unit_deep (lifetime x ∷ ws) at e
-fields_deep (literal t ∷ ws) at e = unit_deep (literal t ∷ ws) at e
-fields_deep (doc t ∷ ws) at e = unit_deep (doc t ∷ ws) at e
+fields_deep (name x ∷ ws) at e = cc
+fields_deep (underscore x ∷ ws) at e = cc
+fields_deep (keyword k x ∷ ws) at e = cc
+fields_deep (sign k s ∷ ws) at e = cc
+fields_deep (lifetime x ∷ ws) at e = cc
+fields_deep (literal t ∷ ws) at e = cc
+fields_deep (doc t ∷ ws) at e = cc
 fields_deep (group b inside s ∷ ws) at e = fields_in_deep b inside s ws at e
 
 fields_open : {ws : List Word} {at : Span} → OpensFields ws at → fields_at ty ws ≡ Err (deep at)
@@ -211,69 +204,138 @@ fields_open (in_named_fields {inside = inside} {at = at} {rest = rest} o) =
     let f : List FieldItem → Read FieldItems = λ fs. Ok (named fs, rest) in
     ap (λ r. r >>= f) ((list_named (words_of inside) at).1 o)
 fields_open (in_unnamed_fields {inside = inside} {at = at} {rest = rest} o) =
-    let f : List FieldItem → Read FieldItems = λ fs. sign_at Semicolon rest >>= λ end. Ok (unnamed fs, end.1) in
+    let f : List FieldItem → Read FieldItems = λ fs. Ok (unnamed fs, rest) in
     ap (λ r. r >>= f) ((list_unnamed (words_of inside) at).1 o)
 
-struct_deep : (ws us : List Word) (attrs : List AttributeItem) (start : List Word) (at : Span) → IsAttributes ws attrs start → IsVisibility start us → struct_at ty attrs start us ≡ Err (deep at) → OpensStruct ws at
-unfolding struct_at
-struct_deep ws us attrs start at ds v e =
-    let k = past (as_keyword Struct) us _ at e in
-    let x = past as_name k.0.1 _ at k.2 in
-    let word = keyword-is Struct us k.0 k.1 in
-    let is : us ≡ keyword Struct word.0 ∷ name x.0.0 ∷ x.0.1 = word.1 ∙ ap (λ v. keyword Struct word.0 ∷ v) (name-is k.0.1 x.0 x.1) in
-    in_fields ds (subst (λ v. IsVisibility start v) is v) (fields_deep x.0.1 at (handed_on (fields_at ty x.0.1) _ at x.2))
+-- ---- variants
+-- nothing in a discriminant is deep
+value_shallow : (ws : List Word) (b : Bool) (at : Span) → ◌≡◌ {A = Read (Option (List Word))} (cond {A = Read (Option (List Word))} b (Err wrong) (Ok (Some (before_comma ws), from_comma ws))) (Err (deep at)) → ⊥
+value_shallow ws true at e = cc
+value_shallow ws false at e = cc
+
+value_or_none_shallow : (ws : List Word) (r : Read Span) (at : Span) → value_or_none ws r ≡ Err (deep at) → ⊥
+value_or_none_shallow ws (Ok s) at e = value_shallow s.1 (is_end (before_comma s.1)) at e
+value_or_none_shallow ws (Err f) at e = cc
+
+discriminant_shallow : (ws : List Word) (at : Span) → discriminant_at ws ≡ Err (deep at) → ⊥
+unfolding discriminant_at
+discriminant_shallow ws at e = value_or_none_shallow ws (sign_at Equals ws) at e
+
+variant_deep : (ws : List Word) (at : Span) → variant_at ty ws ≡ Err (deep at) → OpensVariant ws at
+unfolding variant_at
+variant_deep ws at e =
+    let d = past_attributes ws _ at e in
+    let x = past as_name d.0.1 _ at d.2 in
+    let is : d.0.1 ≡ name x.0.0 ∷ x.0.1 = name-is d.0.1 x.0 x.1 in
+    elim (bind_err (fields_at ty x.0.1) x.2) [
+      | inl h ↦ in_variant_fields (subst (λ us. IsAttributes ws d.0.0 us) is (attributes_sound ws d.0.0 d.0.1 d.1)) (fields_deep x.0.1 at h)
+      | inr h ↦ absurd (discriminant_shallow h.0.1 at (handed_on (discriminant_at h.0.1) (λ value. variant_of d.0.0 x.0.0 d.0.1 h.0.0 value) at h.2))
+    ]
+
+variant_opens : {ws : List Word} {at : Span} → OpensVariant ws at → variant_at ty ws ≡ Err (deep at)
+variant_opens (in_variant_fields {x = x} {attrs = attrs} {vs = vs} d o) = variant_head ty d ∙ ap (λ r. r >>= variant_end attrs x (name x ∷ vs)) (fields_open o)
+
+variant_some : (ws : List Word) (at : Span) → OpensVariant ws at → 0 < length ws
+variant_some ws at (in_variant_fields d o) = omega (arith, attributes_no_longer d)
+
+list_variants : Agrees (list_of (variant_at ty)) (OpensList IsVariant OpensVariant)
+list_variants =
+    list_agrees (variant_at ty) IsVariant OpensVariant (λ ws at. (λ e. variant_deep ws at e, λ o. variant_opens o)) (variant_shortens ty (type_sound most_levels)) (sound.variant_sound ty (type_sound most_levels)) (λ ws rest x r. variant_shorter r)
+    (complete.variant_complete ty (type_sound most_levels) (type_found most_levels)) variant_some
+
+-- ---- declarations
+end_shallow : (fs : FieldItems) (ws : List Word) (at : Span) → after_struct fs ws ≡ Err (deep at) → ⊥
+end_shallow (named fs) ws at e = cc
+end_shallow (unnamed fs) ws at e = first_shallow (as_sign Semicolon) ws at (handed_on (sign_at Semicolon ws) (λ end. end.1) at e)
+end_shallow unit ws at e = first_shallow (as_sign Semicolon) ws at (handed_on (sign_at Semicolon ws) (λ end. end.1) at e)
+
+-- what reads on after a keyword and a name
+past_head : {A : Type 0} (k : Keyword) (us : List Word) (f : Ident × List Word → Result A Fault) (at : Span) → (keyword_at k us >>= λ s. name_at s.1 >>= f) ≡ Err (deep at)
+    → (x : Ident) × (p : Ident × List Word) × (us ≡ keyword k x ∷ name p.0 ∷ p.1) × (f p ≡ Err (deep at))
+past_head k us f at e =
+    let s = past (as_keyword k) us _ at e in
+    let x = past as_name s.0.1 f at s.2 in
+    let word = keyword-is k us s.0 s.1 in
+    (word.0, x.0, word.1 ∙ ap (λ v. keyword k word.0 ∷ v) (name-is s.0.1 x.0 x.1), x.2)
+
+module _ (ws start us : List Word) (attrs : List AttributeItem) (ds : IsAttributes ws attrs start) (v : IsVisibility start us) (at : Span) where
+  struct_deep : struct_at ty us ≡ Err (deep at) → OpensStruct ws at
+  unfolding struct_at
+  struct_deep e =
+      let h = past_head Struct us _ at e in
+      elim (bind_err (fields_at ty h.1.1) h.3) [
+        | inl d ↦ in_fields ds (subst (IsVisibility start) h.2 v) (fields_deep h.1.1 at d)
+        | inr fs ↦ absurd (end_shallow fs.0.0 fs.0.1 at (handed_on (after_struct fs.0.0 fs.0.1) _ at fs.2))
+      ]
+
+  enum_deep : enum_at ty us ≡ Err (deep at) → OpensEnum ws at
+  unfolding enum_at
+  enum_deep e =
+      let h = past_head Enum us _ at e in
+      let g = past (as_group Curly) h.1.1 _ at h.3 in
+      let is : us ≡ keyword Enum h.0 ∷ name h.1.0 ∷ group Curly g.0.0.0 g.0.0.1 ∷ g.0.1 = h.2 ∙ ap (λ v. keyword Enum h.0 ∷ name h.1.0 ∷ v) (group-is Curly h.1.1 g.0 g.1) in
+      in_variants ds (subst (IsVisibility start) is v) ((list_variants (words_of g.0.0.0) at).0 (handed_on (list_of (variant_at ty) (words_of g.0.0.0)) _ at g.2))
+
+  declaration_from_deep : (r : Read Span) → struct_or_enum ty us r ≡ Err (deep at) → OpensDeclaration ws at
+  declaration_from_deep (Ok k) e = in_struct (struct_deep e)
+  declaration_from_deep (Err f) e = in_enum (enum_deep e)
+
+  declaration_deep : declaration_at ty us ≡ Err (deep at) → OpensDeclaration ws at
+  unfolding declaration_at
+  declaration_deep e = declaration_from_deep (keyword_at Struct us) e
 
 left_shallow : (r : Option (List Word)) (at : Span) → left_by r ≡ Err (deep at) → ⊥
 left_shallow None at e = cc
 left_shallow (Some rest) at e = cc
 
-item_from_deep : (ws start us : List Word) (attrs : List AttributeItem) (at : Span) (r : Read Span) → IsAttributes ws attrs start → IsVisibility start us → use_or_struct ty attrs start us r ≡ Err (deep at) → OpensStruct ws at
+item_from_deep : (ws start us : List Word) (attrs : List AttributeItem) (at : Span) (r : Read Span) → IsAttributes ws attrs start → IsVisibility start us → use_or_declaration ty attrs start us r ≡ Err (deep at) → OpensDeclaration ws at
 item_from_deep ws start us attrs at (Ok u) ds v e = absurd (left_shallow (after_semicolon u.1) at e)
-item_from_deep ws start us attrs at (Err f) ds v e = struct_deep ws us attrs start at ds v (handed_on (struct_at ty attrs start us) _ at e)
+item_from_deep ws start us attrs at (Err f) ds v e = declaration_deep ws start us attrs ds v at (handed_on (declaration_at ty us) _ at e)
 
-item_deep : (ws : List Word) (at : Span) → item_at ty ws ≡ Err (deep at) → OpensStruct ws at
+item_deep : (ws : List Word) (at : Span) → item_at ty ws ≡ Err (deep at) → OpensDeclaration ws at
 unfolding item_at
 item_deep ws at e = let d = past_attributes ws _ at e in let us = after_visibility false d.0.1 in item_from_deep ws d.0.1 us d.0.0 at (keyword_at Use us) (attributes_sound ws d.0.0 d.0.1 d.1) (visibility_sound false d.0.1) d.2
 
-struct_opens : {ws : List Word} {at : Span} → OpensStruct ws at → item_at ty ws ≡ Err (deep at)
-struct_opens (in_fields {y = y} {at = at} {attrs = attrs} {us = us} {vs = vs} d v o) =
-    let f : FieldItems × List Word → Read DeclaredItem = λ fs. Ok (declared_of attrs y us fs) in
-    let g : DeclaredItem × List Word → Read (Option DeclaredItem) = λ d. Ok (Some d.0, d.1) in
-    struct_head ty d v ∙ ap (λ r. r >>= f >>= g) (fields_open o)
+declaration_opens : {ws : List Word} {at : Span} → OpensDeclaration ws at → item_at ty ws ≡ Err (deep at)
+declaration_opens (in_struct (in_fields {y = y} {attrs = attrs} {us = us} d v o)) = struct_head ty d v ∙ ap (λ r. r >>= struct_end y >>= item_end attrs us) (fields_open o)
+declaration_opens (in_enum (in_variants {y = y} {inside = inside} {at = at} {attrs = attrs} {us = us} {rest = rest} d v o)) =
+    enum_head ty d v ∙ ap (λ r. r >>= enum_end y rest >>= item_end attrs us) ((list_variants (words_of inside) at).1 o)
 
-item_agrees : Agrees (item_at ty) OpensStruct
-item_agrees ws at = (λ e. item_deep ws at e, λ o. struct_opens o)
+item_agrees : Agrees (item_at ty) OpensDeclaration
+item_agrees ws at = (λ e. item_deep ws at e, λ o. declaration_opens o)
 
 -- ---- items
 behind_item : (ws rest : List Word) (o : Option DeclaredItem) (at : Span) → item_at ty ws ≡ Ok (o, rest) → ItemRead ws o rest → OpensItems rest at → OpensItems ws at
 behind_item ws rest None at e r h = behind_use r h
-behind_item ws rest (Some d) at e r h = behind_struct r (read_passes item_agrees ws (Some d, rest) e) h
+behind_item ws rest (Some d) at e r h = behind_declaration r (read_passes item_agrees ws (Some d, rest) e) h
 
 items_within : (n : ℕ) (ws : List Word) (at : Span) → many_at kept (item_at ty) n ws ≡ Err (deep at) → OpensItems ws at
 unfolding many_at
 items_within zero ws at e = cc
 items_within (suc n) [] at e = cc
 items_within (suc n) (w ∷ ws) at e = elim (bind_err (item_at ty (w ∷ ws)) e) [
-  | inl h ↦ in_struct (item_deep (w ∷ ws) at h)
+  | inl h ↦ in_declaration (item_deep (w ∷ ws) at h)
   | inr h ↦ behind_item (w ∷ ws) h.0.1 h.0.0 at h.1 (sound.item_sound ty (type_sound most_levels) (w ∷ ws) h.0.0 h.0.1 h.1)
       (items_within n h.0.1 at (handed_on (many_at kept (item_at ty) n h.0.1) (λ xs. kept h.0.0 ++ xs) at h.2))
 ]
 
-struct_some : {ws : List Word} {at : Span} → OpensStruct ws at → 0 < length ws
-struct_some (in_fields d v o) = omega (arith, attributes_no_longer d, visibility_no_longer v)
+declaration_some : {ws : List Word} {at : Span} → OpensDeclaration ws at → 0 < length ws
+declaration_some (in_struct (in_fields d v o)) = omega (arith, attributes_no_longer d, visibility_no_longer v)
+declaration_some (in_enum (in_variants d v o)) = omega (arith, attributes_no_longer d, visibility_no_longer v)
 
 items_open : {ws : List Word} {at : Span} → OpensItems ws at → items_at ty ws ≡ Err (deep at)
-items_open (in_struct {at = at} {ws = ws} o) = there (items_at ty ws) at (first_deep (only at) kept (item_at ty) (item_shortens ty (type_sound most_levels)) ws (struct_some o) (told (item_at ty ws) at (struct_opens o)))
+items_open (in_declaration {at = at} {ws = ws} o) = there (items_at ty ws) at (first_deep (only at) kept (item_at ty) (item_shortens ty (type_sound most_levels)) ws (declaration_some o) (told (item_at ty ws) at (declaration_opens o)))
 items_open (behind_use {at = at} {ws = ws} {rest = rest} r o) =
     there (items_at ty ws) at (more_deep (only at) kept (item_at ty) (item_shortens ty (type_sound most_levels)) ws rest None (use_shorter r) (inl (use_head ty r)) (told (items_at ty rest) at (items_open o)))
-items_open (behind_struct {at = at} {ws = ws} {rest = rest} {d = d} r passes o) =
-    let read = passed_reads item_agrees ws (Some d, rest) (reaches (complete.struct_complete ty (type_sound most_levels) (type_found most_levels) r)) passes in
-    there (items_at ty ws) at (more_deep (only at) kept (item_at ty) (item_shortens ty (type_sound most_levels)) ws rest (Some d) (struct_shorter r) (inl read) (told (items_at ty rest) at (items_open o)))
+items_open (behind_declaration {at = at} {ws = ws} {rest = rest} {d = d} r passes o) =
+    let read = passed_reads item_agrees ws (Some d, rest) (reaches (complete.declaration_complete ty (type_sound most_levels) (type_found most_levels) r)) passes in
+    there (items_at ty ws) at (more_deep (only at) kept (item_at ty) (item_shortens ty (type_sound most_levels)) ws rest (Some d) (declaration_shorter r) (inl read) (told (items_at ty rest) at (items_open o)))
 
 opens_no_inner : {ws : List Word} {at : Span} → OpensItems ws at → NoInner ws
-opens_no_inner (in_struct (in_fields d v o)) = attributes_no_inner d (visibility_no_inner v refl)
+opens_no_inner (in_declaration (in_struct (in_fields d v o))) = attributes_no_inner d (visibility_no_inner v refl)
+opens_no_inner (in_declaration (in_enum (in_variants d v o))) = attributes_no_inner d (visibility_no_inner v refl)
 opens_no_inner (behind_use (use_line d v e) o) = attributes_no_inner d (visibility_no_inner v refl)
-opens_no_inner (behind_struct (struct_item d v r) passes o) = attributes_no_inner d (visibility_no_inner v refl)
+opens_no_inner (behind_declaration r passes o) = declaration_no_inner r
 
 -- ---- a source
 inner_doc_from : (w : Word) (ws : List Word) (at : Span) → is_inner_doc w ≡ true → OpensSource ws at → OpensSource (w ∷ ws) at

@@ -1,4 +1,5 @@
 mod Turns
+mod Commas
 mod Inner
 mod Types
 mod Fronts

@@ -3,8 +3,8 @@ use Rattle.std.proofs.Common.{List, refl}
 use Rattle.std.specs.List.{AllByRecursion}
 use Rattle.words.specs.Words.{Word}
 use Rattle.words.specs.Lists.{IsList, no_items, last_item, more_items}
-use Rattle.syntax.specs.Items.{FieldItem, FieldItems, DeclaredItem}
-use Rattle.syntax.specs.ItemGrammar.{IsNamedField, named_field, IsFields, named_fields, unnamed_fields, no_fields, IsStruct, struct_item, IsItems, nothing, used, declared, IsSource, inner_doc, inner_attribute, items}
+use Rattle.syntax.specs.Items.{FieldItem, FieldItems, VariantItem, DeclaredItem}
+use Rattle.syntax.specs.ItemGrammar.{IsNamedField, named_field, IsFields, named_fields, unnamed_fields, no_fields, IsVariant, variant_item, struct_item, enum_item, IsDeclaration, structure, enumeration, IsItems, nothing, used, declared, IsSource, inner_doc, inner_attribute, items}
 use Rattle.syntax.specs.Named.{HasName, HaveNames, IsNamedBody, AreNamed}
 
 field_named : {ws rest : List Word} {f : FieldItem} → IsNamedField ws f rest → HasName f
@@ -20,13 +20,19 @@ fields_named (named_fields fs) = list_named fs
 fields_named (unnamed_fields fs) = tt
 fields_named no_fields = tt
 
-struct_named : {ws rest : List Word} {d : DeclaredItem} → IsStruct ws d rest → IsNamedBody d.body
-struct_named (struct_item a v fs) = fields_named fs
+variants_named : {ws : List Word} {vs : List VariantItem} → IsList IsVariant ws vs → AllByRecursion (λ v. HaveNames v.fields) vs
+variants_named no_items = tt
+variants_named (last_item (variant_item a fs d)) = (fields_named fs, tt)
+variants_named (more_items (variant_item a fs d) vs) = (fields_named fs, variants_named vs)
+
+declaration_named : {ws rest : List Word} {d : DeclaredItem} → IsDeclaration ws d rest → IsNamedBody d.body
+declaration_named (structure (struct_item a v fs end)) = fields_named fs
+declaration_named (enumeration (enum_item a v vs)) = variants_named vs
 
 items_named : {ws : List Word} {ds : List DeclaredItem} → IsItems ws ds → AreNamed ds
 items_named nothing = tt
 items_named (used u is) = items_named is
-items_named (declared d is) = (struct_named d, items_named is)
+items_named (declared d is) = (declaration_named d, items_named is)
 
 pub source_named : {ws : List Word} {ds : List DeclaredItem} → IsSource ws ds → AreNamed ds
 source_named (inner_doc t is) = source_named is

@@ -5,7 +5,7 @@ use Rattle.tokens.specs.declared.token.Token.{Token}
 use Rattle.tokens.specs.declared.token.Bracket.TheVariants.{Round, Square, Curly}
 use Rattle.tokens.specs.Trees.{Trees}
 use Rattle.written_types.specs.declared.written.Ident.{Ident}
-use Rattle.words.specs.declared.vocabulary.Keyword.TheVariants.{Struct}
+use Rattle.words.specs.declared.vocabulary.Keyword.TheVariants.{Struct, Enum}
 use Rattle.words.specs.declared.vocabulary.Sign.TheVariants.{Colon, Hash, Exclamation}
 use Rattle.words.specs.Words.{Word, name, keyword, sign, doc, group, words_of}
 use Rattle.type_grammar.specs.Opening.{Passes, OpensList, OpensType}
@@ -13,7 +13,7 @@ use Rattle.attributes.specs.Attributes.{AttributeItem}
 use Rattle.attributes.specs.AttributeWords.{is_inner_text}
 use Rattle.attributes.specs.AttributeGrammar.{IsAttributes}
 use Rattle.syntax.specs.Items.{DeclaredItem}
-use Rattle.syntax.specs.ItemGrammar.{IsVisibility, IsNamedField, IsUnnamedField, IsUse, IsStruct}
+use Rattle.syntax.specs.ItemGrammar.{IsVisibility, IsNamedField, IsUnnamedField, IsVariant, IsUse, IsDeclaration}
 
 abbrev pub most_levels : ℕ
 most_levels = 64
@@ -25,20 +25,32 @@ pub data OpensNamed : List Word → Span → Type 0 where
 pub data OpensUnnamed : List Word → Span → Type 0 where
   in_unnamed : {at : Span} {attrs : List AttributeItem} {ws us vs : List Word} → IsAttributes ws attrs us → IsVisibility us vs → OpensType most_levels vs at → OpensUnnamed ws at
 
--- in what follows the name of a struct
+-- in what follows the name of a struct or of a variant
 pub data OpensFields : List Word → Span → Type 0 where
   in_named_fields : {inside : Trees} {s at : Span} {rest : List Word} → OpensList IsNamedField OpensNamed (words_of inside) at → OpensFields (group Curly inside s ∷ rest) at
   in_unnamed_fields : {inside : Trees} {s at : Span} {rest : List Word} → OpensList IsUnnamedField OpensUnnamed (words_of inside) at → OpensFields (group Round inside s ∷ rest) at
 
--- in a struct
+-- in a variant, behind whose fields no types stand
+pub data OpensVariant : List Word → Span → Type 0 where
+  in_variant_fields : {x : Ident} {at : Span} {attrs : List AttributeItem} {ws vs : List Word} → IsAttributes ws attrs (name x ∷ vs) → OpensFields vs at → OpensVariant ws at
+
+-- in a struct, an enum, and either
 pub data OpensStruct : List Word → Span → Type 0 where
   in_fields : {x y : Ident} {at : Span} {attrs : List AttributeItem} {ws us vs : List Word} → IsAttributes ws attrs us → IsVisibility us (keyword Struct x ∷ name y ∷ vs) → OpensFields vs at → OpensStruct ws at
 
--- in items: in their first struct, or where nothing opens there, in those behind it
+pub data OpensEnum : List Word → Span → Type 0 where
+  in_variants : {x y : Ident} {inside : Trees} {s at : Span} {attrs : List AttributeItem} {ws us rest : List Word} → IsAttributes ws attrs us → IsVisibility us (keyword Enum x ∷ name y ∷ group Curly inside s ∷ rest)
+      → OpensList IsVariant OpensVariant (words_of inside) at → OpensEnum ws at
+
+pub data OpensDeclaration : List Word → Span → Type 0 where
+  in_struct : {at : Span} {ws : List Word} → OpensStruct ws at → OpensDeclaration ws at
+  in_enum : {at : Span} {ws : List Word} → OpensEnum ws at → OpensDeclaration ws at
+
+-- in items: in their first declaration, or where nothing opens there, in those behind it
 pub data OpensItems : List Word → Span → Type 0 where
-  in_struct : {at : Span} {ws : List Word} → OpensStruct ws at → OpensItems ws at
+  in_declaration : {at : Span} {ws : List Word} → OpensDeclaration ws at → OpensItems ws at
   behind_use : {at : Span} {ws rest : List Word} → IsUse ws rest → OpensItems rest at → OpensItems ws at
-  behind_struct : {at : Span} {ws rest : List Word} {d : DeclaredItem} → IsStruct ws d rest → Passes OpensStruct ws → OpensItems rest at → OpensItems ws at
+  behind_declaration : {at : Span} {ws rest : List Word} {d : DeclaredItem} → IsDeclaration ws d rest → Passes OpensDeclaration ws → OpensItems rest at → OpensItems ws at
 
 -- in a source
 pub data OpensSource : List Word → Span → Type 0 where

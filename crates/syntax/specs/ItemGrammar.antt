@@ -1,21 +1,21 @@
--- The grammar of items (The Rust Reference, "Items", "Structs", "Visibility and Privacy"). In `IsX before x rest` the words before begin with an x, and rest is what follows it.
-use Rattle.std.specs.Prelude.{◌≡◌, List, [], ◌∷◌, Some, None, true}
+-- The grammar of items (The Rust Reference, "Items", "Structs", "Enumerations", "Visibility and Privacy"). In `IsX before x rest` the words before begin with an x, and rest is what follows it.
+use Rattle.std.specs.Prelude.{◌≡◌, List, [], ◌∷◌, Option, Some, None, true, false}
 use Rattle.texts.specs.declared.span.Span.{Span}
 use Rattle.tokens.specs.declared.token.Token.{Token}
 use Rattle.tokens.specs.declared.token.Bracket.TheVariants.{Round, Square, Curly}
 use Rattle.tokens.specs.Trees.{Trees}
 use Rattle.written_types.specs.declared.written.Ident.{Ident}
 use Rattle.written_types.specs.Written.{Written}
-use Rattle.words.specs.declared.vocabulary.Keyword.TheVariants.{Pub, Struct, Use}
-use Rattle.words.specs.declared.vocabulary.Sign.TheVariants.{Colon, Semicolon, Hash, Exclamation}
+use Rattle.words.specs.declared.vocabulary.Keyword.TheVariants.{Pub, Struct, Enum, Use}
+use Rattle.words.specs.declared.vocabulary.Sign.TheVariants.{Colon, Semicolon, Equals, Hash, Exclamation}
 use Rattle.words.specs.Words.{Word, name, keyword, sign, doc, group, words_of}
 use Rattle.type_grammar.specs.Grammar.{IsType}
 use Rattle.words.specs.Lists.{IsList}
 use Rattle.attributes.specs.Attributes.{AttributeItem}
 use Rattle.attributes.specs.AttributeWords.{is_inner_text}
 use Rattle.attributes.specs.AttributeGrammar.{IsAttributes}
-use Rattle.syntax.specs.Items.{FieldItem, FieldItems, named, unnamed, unit, struct_body, DeclaredItem}
-use Rattle.syntax.specs.ItemWords.{after_semicolon, is_restriction, spanning}
+use Rattle.syntax.specs.Items.{FieldItem, FieldItems, named, unnamed, unit, VariantItem, struct_body, enum_body, DeclaredItem}
+use Rattle.syntax.specs.ItemWords.{after_semicolon, before_comma, from_comma, is_end, is_restriction, spanning}
 
 -- vis? = ("pub" ( "(" ("crate" | "self" | "super") ")" | "(" "in" any* ")" )?)?
 pub data IsVisibility : List Word → List Word → Type 0 where
@@ -33,27 +33,52 @@ pub data IsUnnamedField : List Word → FieldItem → List Word → Type 0 where
   unnamed_field : {t : Written} {attrs : List AttributeItem} {ws us vs rest : List Word} → IsAttributes ws attrs us → IsVisibility us vs → IsType vs t rest
       → IsUnnamedField ws (record { attrs = attrs; ident = None; ty = t; span = spanning us rest }) rest
 
--- what follows the name of a struct: "{" list of named "}" | "(" list of unnamed ")" ";" | ";"
+-- what follows the name of a struct or of a variant: "{" list of named "}" | "(" list of unnamed ")" | nothing
 pub data IsFields : List Word → FieldItems → List Word → Type 0 where
   named_fields : {inside : Trees} {s : Span} {rest : List Word} {fs : List FieldItem} → IsList IsNamedField (words_of inside) fs → IsFields (group Curly inside s ∷ rest) (named fs) rest
-  unnamed_fields : {inside : Trees} {s end : Span} {rest : List Word} {fs : List FieldItem} → IsList IsUnnamedField (words_of inside) fs
-      → IsFields (group Round inside s ∷ sign Semicolon end ∷ rest) (unnamed fs) rest
-  no_fields : {end : Span} {rest : List Word} → IsFields (sign Semicolon end ∷ rest) unit rest
+  unnamed_fields : {inside : Trees} {s : Span} {rest : List Word} {fs : List FieldItem} → IsList IsUnnamedField (words_of inside) fs → IsFields (group Round inside s ∷ rest) (unnamed fs) rest
+  no_fields : {rest : List Word} → IsFields rest unit rest
+
+-- what follows the fields of a struct: ";", unless they stand in braces
+pub data IsStructEnd : FieldItems → List Word → List Word → Type 0 where
+  behind_named : {fs : List FieldItem} {rest : List Word} → IsStructEnd (named fs) rest rest
+  behind_unnamed : {end : Span} {fs : List FieldItem} {rest : List Word} → IsStructEnd (unnamed fs) (sign Semicolon end ∷ rest) rest
+  behind_name : {end : Span} {rest : List Word} → IsStructEnd unit (sign Semicolon end ∷ rest) rest
+
+-- ("=" expr)?, where the expression is all up to the next comma, and is not empty
+pub data IsDiscriminant : List Word → Option (List Word) → List Word → Type 0 where
+  no_discriminant : {rest : List Word} → IsDiscriminant rest None rest
+  discriminant : {s : Span} {ws : List Word} → is_end (before_comma ws) ≡ false → IsDiscriminant (sign Equals s ∷ ws) (Some (before_comma ws)) (from_comma ws)
+
+-- attribute* name, the fields and the discriminant
+pub data IsVariant : List Word → VariantItem → List Word → Type 0 where
+  variant_item : {x : Ident} {attrs : List AttributeItem} {fs : FieldItems} {value : Option (List Word)} {ws vs mid rest : List Word} → IsAttributes ws attrs (name x ∷ vs) → IsFields vs fs mid → IsDiscriminant mid value rest
+      → IsVariant ws (record { attrs = attrs; ident = x; fields = fs; discriminant = value; span = spanning (name x ∷ vs) rest }) rest
 
 -- attribute* vis? "use" any* ";"
 pub data IsUse : List Word → List Word → Type 0 where
   use_line : {x : Ident} {attrs : List AttributeItem} {ws us vs rest : List Word} → IsAttributes ws attrs us → IsVisibility us (keyword Use x ∷ vs) → after_semicolon vs ≡ Some rest → IsUse ws rest
 
--- attribute* vis? "struct" name and the fields
+-- attribute* vis? "struct" name, the fields and the end
 pub data IsStruct : List Word → DeclaredItem → List Word → Type 0 where
-  struct_item : {x y : Ident} {attrs : List AttributeItem} {ws us vs rest : List Word} {fs : FieldItems} → IsAttributes ws attrs us → IsVisibility us (keyword Struct x ∷ name y ∷ vs) → IsFields vs fs rest
+  struct_item : {x y : Ident} {attrs : List AttributeItem} {fs : FieldItems} {ws us vs mid rest : List Word} → IsAttributes ws attrs us → IsVisibility us (keyword Struct x ∷ name y ∷ vs) → IsFields vs fs mid → IsStructEnd fs mid rest
       → IsStruct ws (record { attrs = attrs; ident = y; body = struct_body fs; span = spanning us rest }) rest
+
+-- attribute* vis? "enum" name "{" list of variant "}"
+pub data IsEnum : List Word → DeclaredItem → List Word → Type 0 where
+  enum_item : {x y : Ident} {inside : Trees} {s : Span} {attrs : List AttributeItem} {ws us rest : List Word} {vs : List VariantItem} → IsAttributes ws attrs us → IsVisibility us (keyword Enum x ∷ name y ∷ group Curly inside s ∷ rest)
+      → IsList IsVariant (words_of inside) vs → IsEnum ws (record { attrs = attrs; ident = y; body = enum_body vs; span = spanning us rest }) rest
+
+-- struct | enum
+pub data IsDeclaration : List Word → DeclaredItem → List Word → Type 0 where
+  structure : {ws rest : List Word} {d : DeclaredItem} → IsStruct ws d rest → IsDeclaration ws d rest
+  enumeration : {ws rest : List Word} {d : DeclaredItem} → IsEnum ws d rest → IsDeclaration ws d rest
 
 -- item*, where a `use` line leaves nothing
 pub data IsItems : List Word → List DeclaredItem → Type 0 where
   nothing : IsItems [] []
   used : {ws rest : List Word} {ds : List DeclaredItem} → IsUse ws rest → IsItems rest ds → IsItems ws ds
-  declared : {ws rest : List Word} {d : DeclaredItem} {ds : List DeclaredItem} → IsStruct ws d rest → IsItems rest ds → IsItems ws (d ∷ ds)
+  declared : {ws rest : List Word} {d : DeclaredItem} {ds : List DeclaredItem} → IsDeclaration ws d rest → IsItems rest ds → IsItems ws (d ∷ ds)
 
 -- source = (inner-doc | "#" "!" square-group)* item*
 pub data IsSource : List Word → List DeclaredItem → Type 0 where

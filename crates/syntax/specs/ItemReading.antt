@@ -8,8 +8,8 @@ use Rattle.tokens.specs.declared.token.Bracket.{Bracket}
 use Rattle.tokens.specs.declared.token.Bracket.TheVariants.{Round, Square, Curly}
 use Rattle.written_types.specs.declared.written.Ident.{Ident}
 use Rattle.written_types.specs.Written.{Written}
-use Rattle.words.specs.declared.vocabulary.Keyword.TheVariants.{Pub, Struct, Use}
-use Rattle.words.specs.declared.vocabulary.Sign.TheVariants.{Colon, Comma, Semicolon, Hash, Exclamation}
+use Rattle.words.specs.declared.vocabulary.Keyword.TheVariants.{Pub, Struct, Enum, Use}
+use Rattle.words.specs.declared.vocabulary.Sign.TheVariants.{Colon, Comma, Semicolon, Equals, Hash, Exclamation}
 use Rattle.words.specs.declared.stopping.Stop.{Stop}
 use Rattle.words.specs.declared.stopping.Stop.TheVariants as stop
 use Rattle.words.specs.Words.{Word, group, words_of}
@@ -18,8 +18,8 @@ use Rattle.words.specs.Lists.{many_of, list_of}
 use Rattle.attributes.specs.Attributes.{AttributeItem}
 use Rattle.attributes.specs.AttributeWords.{is_inner_doc}
 use Rattle.attributes.specs.AttributeReading.{attributes_at}
-use Rattle.syntax.specs.Items.{FieldItem, FieldItems, named, unnamed, unit, struct_body, DeclaredItem}
-use Rattle.syntax.specs.ItemWords.{after_semicolon, is_restriction, spanning}
+use Rattle.syntax.specs.Items.{FieldItem, FieldItems, named, unnamed, unit, VariantItem, BodyItem, struct_body, enum_body, DeclaredItem}
+use Rattle.syntax.specs.ItemWords.{after_semicolon, before_comma, from_comma, is_end, is_restriction, spanning}
 
 -- what follows vis?; behind `pub`, where an unnamed field may end, a group is its type
 abbrev pub is_scope : Word → Bool
@@ -50,38 +50,70 @@ named_field_at ty ws = attributes_at ws >>= λ d. name_at (after_visibility fals
 unfoldable pub unnamed_field_at : (List Word → Read Written) → List Word → Read FieldItem
 unnamed_field_at ty ws = attributes_at ws >>= λ d. ty (after_visibility true d.1) >>= λ t. Ok (field_of d.0 None d.1 t)
 
--- what follows the name of a struct
+-- what follows the name of a struct or of a variant
 abbrev pub fields_in : (List Word → Read Written) → Bracket → List Word → List Word → Read FieldItems
 fields_in ty Curly inside ws = list_of (named_field_at ty) inside >>= λ fs. Ok (named fs, ws)
-fields_in ty Round inside ws = list_of (unnamed_field_at ty) inside >>= λ fs. sign_at Semicolon ws >>= λ end. Ok (unnamed fs, end.1)
+fields_in ty Round inside ws = list_of (unnamed_field_at ty) inside >>= λ fs. Ok (unnamed fs, ws)
 fields_in ty Square inside ws = Err wrong
 
 unfoldable pub fields_at : (List Word → Read Written) → List Word → Read FieldItems
-fields_at ty [] = Err wrong
+fields_at ty [] = Ok (unit, [])
 fields_at ty (group b inside s ∷ ws) = fields_in ty b (words_of inside) ws
-fields_at ty (w ∷ ws) = sign_at Semicolon (w ∷ ws) >>= λ end. Ok (unit, end.1)
+fields_at ty (w ∷ ws) = Ok (unit, w ∷ ws)
 
-abbrev pub declared_of : List AttributeItem → Ident → List Word → FieldItems × List Word → DeclaredItem × List Word
-declared_of attrs x start fs = (record { attrs = attrs; ident = x; body = struct_body fs.0; span = spanning start fs.1 }, fs.1)
+-- what follows a struct, behind its fields
+abbrev pub after_struct : FieldItems → List Word → Result (List Word) Fault
+after_struct (named fs) ws = Ok ws
+after_struct _ ws = sign_at Semicolon ws >>= λ end. Ok end.1
 
--- a struct whose attributes and visibility were read
-unfoldable pub struct_at : (List Word → Read Written) → List AttributeItem → List Word → List Word → Read DeclaredItem
-struct_at ty attrs start ws = keyword_at Struct ws >>= λ s. name_at s.1 >>= λ x. fields_at ty x.1 >>= λ fs. Ok (declared_of attrs x.0 start fs)
+-- behind `=`, all up to the next comma
+abbrev pub value_at : List Word → Read (Option (List Word))
+value_at ws = cond (is_end (before_comma ws)) (Err wrong) (Ok (Some (before_comma ws), from_comma ws))
+
+abbrev pub value_or_none : List Word → Read Span → Read (Option (List Word))
+value_or_none ws (Ok e) = value_at e.1
+value_or_none ws (Err e) = Ok (None, ws)
+
+unfoldable pub discriminant_at : List Word → Read (Option (List Word))
+discriminant_at ws = value_or_none ws (sign_at Equals ws)
+
+abbrev pub variant_of : List AttributeItem → Ident → List Word → FieldItems → Option (List Word) × List Word → VariantItem × List Word
+variant_of attrs x start fs value = (record { attrs = attrs; ident = x; fields = fs; discriminant = value.0; span = spanning start value.1 }, value.1)
+
+unfoldable pub variant_at : (List Word → Read Written) → List Word → Read VariantItem
+variant_at ty ws = attributes_at ws >>= λ d. name_at d.1 >>= λ x. fields_at ty x.1 >>= λ fs. discriminant_at fs.1 >>= λ value. Ok (variant_of d.0 x.0 d.1 fs.0 value)
+
+-- the name and the body of a struct, of an enum, and of either
+unfoldable pub struct_at : (List Word → Read Written) → List Word → Read (Ident × BodyItem)
+struct_at ty ws = keyword_at Struct ws >>= λ s. name_at s.1 >>= λ x. fields_at ty x.1 >>= λ fs. after_struct fs.0 fs.1 >>= λ rest. Ok ((x.0, struct_body fs.0), rest)
+
+unfoldable pub enum_at : (List Word → Read Written) → List Word → Read (Ident × BodyItem)
+enum_at ty ws = keyword_at Enum ws >>= λ e. name_at e.1 >>= λ x. group_at Curly x.1 >>= λ g. list_of (variant_at ty) (words_of g.0.0) >>= λ vs. Ok ((x.0, enum_body vs), g.1)
+
+abbrev pub struct_or_enum : (List Word → Read Written) → List Word → Read Span → Read (Ident × BodyItem)
+struct_or_enum ty ws (Ok s) = struct_at ty ws
+struct_or_enum ty ws (Err e) = enum_at ty ws
+
+unfoldable pub declaration_at : (List Word → Read Written) → List Word → Read (Ident × BodyItem)
+declaration_at ty ws = struct_or_enum ty ws (keyword_at Struct ws)
+
+abbrev pub declared_of : List AttributeItem → List Word → (Ident × BodyItem) × List Word → DeclaredItem
+declared_of attrs start d = record { attrs = attrs; ident = d.0.0; body = d.0.1; span = spanning start d.1 }
 
 abbrev pub left_by : Option (List Word) → Read (Option DeclaredItem)
 left_by None = Err wrong
 left_by (Some rest) = Ok (None, rest)
 
--- a `use` line, of which nothing is kept, or a struct
-abbrev pub use_or_struct : (List Word → Read Written) → List AttributeItem → List Word → List Word → Read Span → Read (Option DeclaredItem)
-use_or_struct ty attrs start ws (Ok u) = left_by (after_semicolon u.1)
-use_or_struct ty attrs start ws (Err e) = struct_at ty attrs start ws >>= λ d. Ok (Some d.0, d.1)
+-- a `use` line, of which nothing is kept, or a declaration
+abbrev pub use_or_declaration : (List Word → Read Written) → List AttributeItem → List Word → List Word → Read Span → Read (Option DeclaredItem)
+use_or_declaration ty attrs start ws (Ok u) = left_by (after_semicolon u.1)
+use_or_declaration ty attrs start ws (Err e) = declaration_at ty ws >>= λ d. Ok (Some (declared_of attrs start d), d.1)
 
-abbrev pub use_or_struct_in : (List Word → Read Written) → List AttributeItem → List Word → List Word → Read (Option DeclaredItem)
-use_or_struct_in ty attrs start us = use_or_struct ty attrs start us (keyword_at Use us)
+abbrev pub use_or_declaration_in : (List Word → Read Written) → List AttributeItem → List Word → List Word → Read (Option DeclaredItem)
+use_or_declaration_in ty attrs start us = use_or_declaration ty attrs start us (keyword_at Use us)
 
 unfoldable pub item_at : (List Word → Read Written) → List Word → Read (Option DeclaredItem)
-item_at ty ws = attributes_at ws >>= λ d. use_or_struct_in ty d.0 d.1 (after_visibility false d.1)
+item_at ty ws = attributes_at ws >>= λ d. use_or_declaration_in ty d.0 d.1 (after_visibility false d.1)
 
 abbrev pub kept : Option DeclaredItem → List DeclaredItem
 kept None = []

@@ -1,9 +1,9 @@
--- Words of items: visibilities, and what a `use` line takes (The Rust Reference, "Visibility and Privacy", "Use declarations").
+-- Words of items: visibilities, and what a `use` line and a discriminant take (The Rust Reference, "Visibility and Privacy", "Use declarations", "Enumerations").
 use Rattle.std.specs.Prelude.{◌-◌, List, [], ◌∷◌, length, get_or, Bool, true, false, cond, Option, Some, None, is_some, is_none}
 use Rattle.texts.specs.Span.{no_span}
 use Rattle.texts.specs.declared.span.Span.{Span}
 use Rattle.words.specs.declared.vocabulary.Keyword.TheVariants as keywords
-use Rattle.words.specs.declared.vocabulary.Sign.TheVariants.{Semicolon}
+use Rattle.words.specs.declared.vocabulary.Sign.TheVariants.{Comma, Semicolon}
 use Rattle.words.specs.Words.{Word, name, underscore, keyword, sign, lifetime, literal, doc, group, cover}
 use Rattle.words.specs.Reading.{as_sign}
 
@@ -11,6 +11,15 @@ use Rattle.words.specs.Reading.{as_sign}
 abbrev pub after_semicolon : List Word → Option (List Word)
 after_semicolon [] = None
 after_semicolon (w ∷ ws) = cond (is_some (as_sign Semicolon w)) (Some ws) (after_semicolon ws)
+
+-- what stands before the first comma, and from it on
+abbrev pub before_comma : List Word → List Word
+before_comma [] = []
+before_comma (w ∷ ws) = cond (is_some (as_sign Comma w)) [] (w ∷ before_comma ws)
+
+abbrev pub from_comma : List Word → List Word
+from_comma [] = []
+from_comma (w ∷ ws) = cond (is_some (as_sign Comma w)) (w ∷ ws) (from_comma ws)
 
 abbrev pub is_end : List Word → Bool
 is_end [] = true

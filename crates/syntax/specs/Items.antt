@@ -1,12 +1,14 @@
--- Fields and declarations, without where they lie in memory (The Rust Reference, "Structs").
-use Rattle.std.specs.Prelude.{List, Option, map}
+-- Fields, variants and declarations, without where they lie in memory (The Rust Reference, "Structs", "Enumerations").
+use Rattle.std.specs.Prelude.{List, Option, map, option_map}
 use Rattle.texts.specs.declared.span.Span.{Span}
 use Rattle.written_types.specs.declared.written.Ident.{Ident}
 use Rattle.written_types.specs.Written.{Written, written_view}
+use Rattle.words.specs.Words.{Word, words_view}
 use Rattle.attributes.specs.Attributes.{AttributeItem, attribute_view}
 use Rattle.syntax.specs.declared.item.Field.{Field}
 use Rattle.syntax.specs.declared.item.Fields.{Fields}
 use Rattle.syntax.specs.declared.item.Fields.TheVariants as forms
+use Rattle.syntax.specs.declared.item.Variant.{Variant}
 use Rattle.syntax.specs.declared.item.Body.{Body}
 use Rattle.syntax.specs.declared.item.Body.TheVariants as bodies
 use Rattle.syntax.specs.declared.item.Declaration.{Declaration}
@@ -25,8 +27,17 @@ pub data FieldItems : Type 0 where
   unnamed : List FieldItem → FieldItems
   unit : FieldItems
 
+-- a variant with its attributes, its name, its fields, and the words behind `=` where it has a discriminant
+pub record VariantItem : Type 0 where
+  pub attrs : List AttributeItem
+  pub ident : Ident
+  pub fields : FieldItems
+  pub discriminant : Option (List Word)
+  pub span : Span
+
 pub data BodyItem : Type 0 where
   struct_body : FieldItems → BodyItem
+  enum_body : List VariantItem → BodyItem
 
 pub record DeclaredItem : Type 0 where
   pub attrs : List AttributeItem
@@ -43,8 +54,18 @@ fields_view (forms.Named fs) = named (map field_view fs)
 fields_view (forms.Unnamed fs) = unnamed (map field_view fs)
 fields_view forms.Unit = unit
 
+abbrev pub variant_view : Variant → VariantItem
+variant_view v = record {
+  attrs = map attribute_view v.attrs;
+  ident = v.ident;
+  fields = fields_view v.fields;
+  discriminant = option_map words_view v.discriminant;
+  span = v.span;
+}
+
 abbrev pub body_view : Body → BodyItem
 body_view (bodies.Struct fs) = struct_body (fields_view fs)
+body_view (bodies.Enum vs) = enum_body (map variant_view vs)
 
 abbrev pub declaration_view : Declaration → DeclaredItem
 declaration_view d = record { attrs = map attribute_view d.attrs; ident = d.ident; body = body_view d.body; span = d.span }

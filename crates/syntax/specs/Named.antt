@@ -1,7 +1,7 @@
--- Fields in braces have names (The Rust Reference, "Structs": `StructFields`).
+-- Fields in braces have names (The Rust Reference, "Structs": `StructFields`; "Enumerations": `EnumVariantStruct`).
 use Rattle.std.specs.Prelude.{ℕ, List, IsSome}
 use Rattle.std.specs.List.{AllByRecursion}
-use Rattle.syntax.specs.Items.{FieldItem, FieldItems, named, unnamed, unit, BodyItem, struct_body, DeclaredItem}
+use Rattle.syntax.specs.Items.{FieldItem, FieldItems, named, unnamed, unit, BodyItem, struct_body, enum_body, DeclaredItem}
 use Rattle.syntax.specs.Source.{Reads}
 
 abbrev pub HasName : FieldItem → Type 0
@@ -14,6 +14,7 @@ HaveNames unit = Unit {0}
 
 abbrev pub IsNamedBody : BodyItem → Type 0
 IsNamedBody (struct_body fs) = HaveNames fs
+IsNamedBody (enum_body vs) = AllByRecursion (λ v. HaveNames v.fields) vs
 
 -- each field in braces has a name
 abbrev pub AreNamed : List DeclaredItem → Type 0

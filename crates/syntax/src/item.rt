@@ -1,8 +1,9 @@
 use attributes::Attribute;
 use texts::{List, Span};
+use tokens::TokenTree;
 use written_types::{Ident, WrittenType};
 
-/// A field of a struct, without a name where its form has none. The span goes from the visibility, or else from the
+/// A field of a struct or of a variant, without a name where its form has none. The span goes from the visibility, or else from the
 /// name or the type, to the end of the type.
 #[derive(Debug, Drop)]
 #[derive_where(PartialEq, Eq)]
@@ -23,14 +24,28 @@ pub enum Fields {
     Unit,
 }
 
-/// What a declaration declares.
+/// A variant of an enum, and the tokens behind `=` where it has a discriminant. The span goes from the name to the last
+/// token of the variant.
+#[derive(Debug, Drop)]
+#[derive_where(PartialEq, Eq)]
+pub struct Variant {
+    pub attrs: List<Attribute>,
+    pub ident: Ident,
+    pub fields: Fields,
+    pub discriminant: Option<List<TokenTree>>,
+    #[derive_where(skip(EqHashOrd))]
+    pub span: Span,
+}
+
+/// What a declaration declares: the fields of a struct, or the variants of an enum.
 #[derive(Debug, Drop)]
 #[derive_where(PartialEq, Eq)]
 pub enum Body {
     Struct(Fields),
+    Enum(List<Variant>),
 }
 
-/// A declaration. The span goes from its visibility, or else from `struct`, to its last token.
+/// A declaration. The span goes from its visibility, or else from `struct` or `enum`, to its last token.
 #[derive(Debug, Drop)]
 #[derive_where(PartialEq, Eq)]
 pub struct Declaration {

@@ -19,7 +19,7 @@ fn is_semicolon(tree: &TokenTree) -> bool
     matches!(word_of(tree), Word::Sign(Sign::Semicolon, _))
 }
 
-fn is_comma(tree: &TokenTree) -> bool
+pub(crate) fn is_comma(tree: &TokenTree) -> bool
     ensures { result ≡ is_some (as_sign Comma (word_of (tree_view tree.now))) }
 {
     matches!(word_of(tree), Word::Sign(Sign::Comma, _))
@@ -41,7 +41,7 @@ pub(crate) fn after_semicolon(trees: &[TokenTree]) -> Option<&[TokenTree]>
     None
 }
 
-fn is_end(trees: &[TokenTree]) -> bool
+pub(crate) fn is_end(trees: &[TokenTree]) -> bool
     ensures { result ≡ is_end (words_view trees.now) }
 {
     match trees {

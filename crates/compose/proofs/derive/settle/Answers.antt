@@ -1,4 +1,4 @@
-use Rattle.std.proofs.Common.{◌≡◌, sym, subst, inl, inr}
+use Rattle.std.proofs.Common.{sym, subst, inl, inr}
 use Rattle.std.proofs.lemmas.Result.{err_from_is_err_and}
 use Rattle.texts.specs.Names.{IsDistinct}
 use Rattle.compose.proofs.derive.settle.Goals as goal
@@ -38,6 +38,6 @@ returns-clause-settled c = record {
     faultless = λ e h. elim h [ inl twice ↦ c.in_ok-by_name.ensures.once e twice | inr fault ↦ c.in_ok-resolved.ensures.faultless e fault ];
   };
   names = c.in_ok-resolved.ensures.names;
-  apart = (subst IsDistinct (sym c.in_ok-resolved.ensures.names) c.in_ok-by_name.ensures.distinct, c.in_ok-resolved.ensures.distinct);
+  apart = (subst IsDistinct (sym c.in_ok-resolved.ensures.names) c.in_ok-by_name.ensures.distinct, c.in_ok-resolved.ensures.apart);
   within = c.in_ok-resolved.ensures.within;
 }

@@ -1,15 +1,17 @@
-use Rattle.std.proofs.Common.{◌≡◌, ◌<◌, length, map, take, subst, arith, inl, inr, Some}
+use Rattle.std.proofs.Common.{◌≡◌, ◌∙◌, ◌<◌, [], length, map, take, ap, sym, subst, arith, inl, inr, Some}
 use Rattle.std.proofs.lemmas.Grind.{common_steps}
+use Rattle.std.proofs.lemmas.List.{map-append}
 use Rattle.std.proofs.lemmas.Result.{err_from_is_err_and}
-use Rattle.std.specs.List.{AllByRecursion}
+use Rattle.std.specs.List.{AllByRecursion, cons_option}
 use Rattle.diag.specs.Refusal.{RefusesNone}
 use Rattle.syntax.specs.Items.{field_view}
 use Rattle.syntax.specs.Named.{HasName}
-use Rattle.derive_decl.specs.Fields.{kept, rules_view, written_idents}
+use Rattle.derive_decl.specs.declared.member.Member.{Member}
+use Rattle.derive_decl.specs.Fields.{is_kept, kept, rules_view, written_ident, written_idents}
 use Rattle.derive_decl.specs.Resolved.{all_of, member_of}
 use Rattle.derive_decl.specs.Faults.{IsFaultyMember}
 use Rattle.derive_decl.specs.Views.{known, member_view}
-use Rattle.derive_decl.proofs.Growing.{fact_at, members_more, idents_more, kept_facts_more, somewhere_kept}
+use Rattle.derive_decl.proofs.Growing.{fact_at, all_kept_more, some_kept_more, kept_facts_more, somewhere_kept}
 use Rattle.derive_decl.proofs.named_struct.resolve_members.Goals as goal
 
 pub resolve_member-requires : goal.resolve_member-requires
@@ -24,7 +26,7 @@ returns-in_err-member-clause-refused c =
     rw (p.1, p.2)
     (elim c.in_err-member.ensures.refused [
       | inl memory ↦ inl memory
-      | inr fault ↦ inr (somewhere_kept (λ f. IsFaultyMember (known c.args.container.now) (rules_view c.args.rules.now) f c.in_err-member.field-0.0) c.args.fields.now c.loop-field.field-index c.field-item.result lt c.field-item.is fault)
+      | inr fault ↦ inr (somewhere_kept field_view is_kept (λ f. IsFaultyMember (known c.args.container.now) (rules_view c.args.rules.now) f c.in_err-member.field-0.0) c.args.fields.now c.loop-field.field-index c.field-item.result lt c.field-item.is fault)
     ])
 
 pub loop-field-preserved : goal.loop-field-preserved
@@ -33,10 +35,14 @@ loop-field-preserved c =
     let at = c.loop-field.field-index in
     let field = c.field-item.result in
     let lt : at < length fields = omega arith in
+    let members = c.loop-field.members in
+    let more = cons_option c.in_ok-member.member [] in
+    let around = known c.args.container.now in
+    let rules = rules_view c.args.rules.now in
     rw c.in_ok-push_some.ensures (
-      members_more (known c.args.container.now) (rules_view c.args.rules.now) fields at field c.loop-field.members _ lt c.field-item.is c.loop-field.invariant.0 c.in_ok-member.ensures.member,
-      idents_more c.args.container.now.config.now.renames c.args.rules.now.rename_all fields at field c.loop-field.members _ lt c.field-item.is c.loop-field.invariant.1 c.in_ok-member.ensures.ident,
-      kept_facts_more (λ f. RefusesNone (IsFaultyMember (known c.args.container.now) (rules_view c.args.rules.now) f)) fields at field lt c.field-item.is c.loop-field.invariant.2 c.in_ok-member.ensures.faultless,
+      all_kept_more field_view is_kept (member_of around rules) fields at field (map member_view members) (map member_view more) lt c.field-item.is c.loop-field.invariant.0 c.in_ok-member.ensures.member ∙ ap Some (sym (map-append member_view members more)),
+      some_kept_more field_view is_kept (written_ident around.rows rules.rule) fields at field (map (λ m. m.ident) members) (map (λ m. m.ident) more) lt c.field-item.is c.loop-field.invariant.1 c.in_ok-member.ensures.ident ∙ sym (map-append (λ (m : Member). m.ident) members more),
+      kept_facts_more field_view is_kept (λ f. RefusesNone (IsFaultyMember around rules f)) fields at field lt c.field-item.is c.loop-field.invariant.2 c.in_ok-member.ensures.faultless,
     )
 
 pub returns-clause-members : goal.returns-clause-members

@@ -7,12 +7,12 @@ use Rattle.diag.specs.Refusal.{RefusesNone}
 use Rattle.syntax.specs.declared.item.Declaration.{Declaration}
 use Rattle.syntax.specs.Items.{declaration_view, declarations_view}
 use Rattle.syntax.specs.Named.{IsNamedBody}
-use Rattle.shapes.specs.Declarations.{MembersDiffer}
+use Rattle.shapes.specs.Declarations.{AreApartBodies}
 use Rattle.derive_decl.specs.Resolved.{around_of, all_of, resolved_of}
 use Rattle.derive_decl.specs.Faults.{IsFaultyItem}
 use Rattle.derive_decl.specs.Views.{resolved_view}
 use Rattle.derive_decl.proofs.Faultless.{none_somewhere}
-use Rattle.derive_decl.proofs.Growing.{all_more, facts_more, fact_at, somewhere, differ-push}
+use Rattle.derive_decl.proofs.Growing.{all_more, facts_more, fact_at, somewhere, apart-push}
 use Rattle.derive_decl.proofs.Within.{names_are, all_within}
 use Rattle.derive_decl.proofs.whole.resolved_declarations.Goals as goal
 
@@ -39,7 +39,7 @@ loop-owner-preserved c =
     let is : d ≡ get_or items at d = c.index-as_slice-owner.is ∙ ap (λ (xs : List Declaration). get_or xs at d) c.as_slice.ensures in
     rw c.in_ok-push.ensures.ok (
       all_more (resolved_of (around_of c.args.config.now.renames (declarations_view c.args.places.now.declarations.now))) declaration_view resolved_view items at d c.loop-owner.resolved _ lt is c.loop-owner.invariant.0 c.in_ok-resolved_of.ensures.resolved,
-      subst MembersDiffer (sym (map_push resolved_view c.loop-owner.resolved _)) (differ-push (map resolved_view c.loop-owner.resolved) _ c.loop-owner.invariant.1 c.in_ok-resolved_of.ensures.distinct),
+      subst AreApartBodies (sym (map_push resolved_view c.loop-owner.resolved _)) (apart-push (map resolved_view c.loop-owner.resolved) _ c.loop-owner.invariant.1 c.in_ok-resolved_of.ensures.apart),
       facts_more (λ x. RefusesNone (IsFaultyItem (around_of c.args.config.now.renames (declarations_view c.args.places.now.declarations.now)) x)) declaration_view items at d lt is c.loop-owner.invariant.2
           c.in_ok-resolved_of.ensures.faultless,
     )

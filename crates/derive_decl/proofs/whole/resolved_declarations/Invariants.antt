@@ -2,7 +2,7 @@ use Rattle.std.proofs.Common.{◌≡◌, map, take, Some}
 use Rattle.std.specs.List.{AllByRecursion}
 use Rattle.diag.specs.Refusal.{RefusesNone}
 use Rattle.syntax.specs.Items.{declaration_view, declarations_view}
-use Rattle.shapes.specs.Declarations.{MembersDiffer}
+use Rattle.shapes.specs.Declarations.{AreApartBodies}
 use Rattle.derive_decl.specs.Resolved.{around_of, all_of, resolved_of}
 use Rattle.derive_decl.specs.Faults.{IsFaultyItem}
 use Rattle.derive_decl.specs.Views.{resolved_view}
@@ -12,5 +12,5 @@ use Rattle.derive_decl.proofs.whole.resolved_declarations.Given as goal
 abbrev pub invariant-loop-owner : goal.invariant-loop-owner
 invariant-loop-owner l =
     (all_of (resolved_of (around_of l.config.renames (declarations_view l.places.declarations.now))) (map declaration_view (take l.owner l.places.declarations.now.items)) ≡ Some (map resolved_view l.resolved))
-    × MembersDiffer (map resolved_view l.resolved)
+    × AreApartBodies (map resolved_view l.resolved)
     × AllByRecursion (λ d. RefusesNone (IsFaultyItem (around_of l.config.renames (declarations_view l.places.declarations.now)) d)) (map declaration_view (take l.owner l.places.declarations.now.items))

@@ -1,4 +1,5 @@
-use Rattle.std.proofs.Common.{◌≡◌, ◌≤◌, ◌<◌, ◌⊎◌, ℕ, List, Some, length, inl, inr, subst, arith}
+use Rattle.std.proofs.Common.{◌≡◌, ◌∙◌, ◌≤◌, ◌<◌, ◌⊎◌, ℕ, List, Some, length, inl, inr, sym, subst, arith}
+use Rattle.std.proofs.lemmas.Option.{none-some}
 use Rattle.diag.specs.declared.error.DeriveError.{DeriveError}
 use Rattle.syntax.specs.Items.{DeclaredItem}
 use Rattle.syntax.specs.Source.{Reads}
@@ -24,7 +25,7 @@ clear_text one bounded c source e sound (inr (inr (ds, read, shallow, fault))) =
     IsFine ds = AreClear c.renames ds × ((resolved : List DeclarationOf) → resolved_declarations c.renames ds ≡ Some resolved → AreBounded c ds resolved)
 
     by : IsFine ds → AreAtFault c.renames ds e ⊎ IsBeyond c ds e → ⊥
-    by fine (inl (inl (span, attributed, is))) = fine.0.derivable span attributed
+    by fine (inl (inl (span, at, is))) = none-some span (sym fine.0.derivable ∙ at)
     by fine (inl (inr (derivable, fault))) = fine.0.faultless e fault
     by fine (inr (clear, (resolved, resolves, unbounded))) = bounded c ds resolved e (fine.1 resolved resolves) unbounded
 

@@ -1,6 +1,10 @@
 use Rattle.std.proofs.Common.{inl, inr}
-use Rattle.std.proofs.lemmas.Result.{IfErr-weaker, IfOk-weaker, err_from_is_err_and}
+use Rattle.std.proofs.lemmas.Result.{IfErr-weaker, err_from_is_err_and}
+use Rattle.derive_decl.proofs.First.{none-second}
 use Rattle.derive_decl.proofs.schema_variant.SchemaVariant.new.Goals as goal
+
+pub of_body-requires-clause-units : goal.of_body-requires-clause-units
+of_body-requires-clause-units c = none-second _ _ c.in_ok-derivable.ensures.derivable
 
 pub returns-in_err-derivable-clause-refused : goal.returns-in_err-derivable-clause-refused
 returns-in_err-derivable-clause-refused c =
@@ -11,12 +15,7 @@ returns-in_err-derivable-clause-refused c =
       | inr other ↦ inr (inl other)
     ])
 
-pub returns-clause-faultless : goal.returns-clause-faultless
-returns-clause-faultless c =
-    IfOk-weaker c.of_body.result _ _ (λ v none e fault. elim fault [ inl other ↦ c.in_ok-derivable.ensures.derivable e other | inr h ↦ none e h ])
-    c.of_body.ensures.faultless
-
 pub returns-clause-refused : goal.returns-clause-refused
 returns-clause-refused c =
-    IfErr-weaker c.of_body.result _ _ (λ e fault. elim fault [ inl memory ↦ inl memory | inr h ↦ inr (inr h) ])
+    IfErr-weaker c.of_body.result _ _ (λ e fault. elim fault [ inl memory ↦ inl memory | inr h ↦ inr (inr (c.in_ok-derivable.ensures.derivable, h)) ])
     c.of_body.ensures.refused

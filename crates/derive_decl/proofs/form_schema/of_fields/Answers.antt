@@ -7,7 +7,7 @@ use Rattle.derive_decl.specs.Fields.{field_rules}
 use Rattle.derive_decl.specs.Resolved.{form_of}
 use Rattle.derive_decl.specs.Faults.{AreFaulty, AreFaultyNamed, AreFaultyTypes}
 use Rattle.derive_decl.specs.Views.{known, items_of}
-use Rattle.derive_decl.proofs.schema_variant.of_fields.Goals as goal
+use Rattle.derive_decl.proofs.form_schema.of_fields.Goals as goal
 
 pub returns-in_err-new-in-Named-clause-refused : goal.returns-in_err-new-in-Named-clause-refused
 returns-in_err-new-in-Named-clause-refused c =

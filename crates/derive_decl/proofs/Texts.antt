@@ -1,0 +1,47 @@
+-- The texts of identifiers, and the names of variants.
+use Rattle.std.proofs.Common.{ℕ, List, [], ◌∷◌, ◌++◌, map, Option, Some, None, option_map, option_and_then, ◌≡◌, ◌∙◌, refl, ap}
+use Rattle.std.proofs.lemmas.Option.{none-some, same_Some}
+use Rattle.diag.specs.Refusal.{RefusesNone}
+use Rattle.diag.specs.declared.error.DeriveError.{DeriveError}
+use Rattle.diag.specs.declared.rename_rule.RenameRule.{RenameRule}
+use Rattle.diag.specs.declared.rename_row.RenameRow.{RenameRow}
+use Rattle.written_types.specs.declared.written.Ident.{Ident}
+use Rattle.syntax.specs.Items.{VariantItem}
+use Rattle.scopes.specs.Names.{texts, IsGivenTwice}
+use Rattle.shapes.specs.Declarations.{telling}
+use Rattle.shapes.specs.declared.tagging.Tagging.{Tagging}
+use Rattle.shapes.specs.declared.tagging.Tagging.TheVariants.{External, Internal, Adjacent, Untagged}
+use Rattle.derive_decl.specs.Fields.{named_at}
+use Rattle.derive_decl.specs.Variants.{variant_name, variant_ident}
+use Rattle.derive_decl.specs.Resolved.{all_of}
+
+pub map-texts : {B : Type 0} (f : List ℕ → B) (xs : List Ident) → map (λ (x : Ident). f x.text) xs ≡ map f (texts xs)
+map-texts f [] = refl
+map-texts f (x ∷ xs) = ap (λ ys. f x.text ∷ ys) (map-texts f xs)
+
+-- the names are the texts of the identifiers that stand for them
+pub names-are : (rows : List RenameRow) (rule : Option RenameRule) (tagging : Tagging) (vs : List VariantItem) (xs : List Ident) → all_of (variant_ident rows rule tagging) vs ≡ Some xs → all_of (variant_name rows rule tagging) vs ≡ Some (texts xs)
+names-are rows rule tagging [] xs e = ap (λ ys. Some (texts ys)) (same_Some [] xs e)
+names-are rows rule tagging (v ∷ vs) xs e = by (variant_name rows rule tagging v) (all_of (variant_ident rows rule tagging) vs) e (names-are rows rule tagging vs)
+  where
+    by : (n : Option (List ℕ)) (o : Option (List Ident)) → option_and_then (λ y. option_map (λ ys. y ∷ ys) o) (option_map (named_at v.ident) n) ≡ Some xs →
+        ((ys : List Ident) → o ≡ Some ys → all_of (variant_name rows rule tagging) vs ≡ Some (texts ys)) → option_and_then (λ y. option_map (λ ys. y ∷ ys) (all_of (variant_name rows rule tagging) vs)) n ≡ Some (texts xs)
+    by None o h later = absurd (none-some xs h)
+    by (Some n) None h later = absurd (none-some xs h)
+    by (Some n) (Some ys) h later = ap (option_map (λ ms. n ∷ ms)) (later ys refl) ∙ ap (λ zs. Some (texts zs)) (same_Some (named_at v.ident n ∷ ys) xs h)
+
+-- ---- names given twice
+
+pub none-twice : RefusesNone (IsGivenTwice [])
+none-twice e (x, (before, behind, is, distinct, among), refusal) = by before is
+  where
+    by : (before : List Ident) → [] ≡ before ++ x ∷ behind → ⊥
+    by [] is = cc
+    by (y ∷ ys) is = cc
+
+-- what tells variants apart is given twice only where the names are
+pub told-twice : (tagging : Tagging) (xs : List Ident) (e : DeriveError) → IsGivenTwice (telling tagging xs) e → IsGivenTwice xs e
+told-twice External xs e twice = twice
+told-twice (Internal tag) xs e twice = twice
+told-twice (Adjacent tag content) xs e twice = twice
+told-twice Untagged xs e twice = absurd (none-twice e twice)

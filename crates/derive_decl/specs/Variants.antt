@@ -1,0 +1,70 @@
+-- What serde's attributes say of an enum and of its variants (serde.rs, "Enum representations", "Variant attributes").
+use Rattle.std.specs.Prelude.{ℕ, List, Bool, true, false, not, Option, Some, None, option_map, Result, Ok, Err, filter, filter_map}
+use Rattle.std.specs.List.{list_all}
+use Rattle.diag.specs.declared.rename_rule.RenameRule.{RenameRule}
+use Rattle.diag.specs.declared.rename_row.RenameRow.{RenameRow}
+use Rattle.diag.specs.declared.rename_row.RenamePlace.TheVariants.{Variant}
+use Rattle.written_types.specs.declared.written.Ident.{Ident}
+use Rattle.attributes.specs.Attributes.{serde_items}
+use Rattle.attributes.specs.declared.serde_item.SerdeItem.{SerdeItem}
+use Rattle.serde_rules.specs.declared.value.SerdeValue.{SerdeValue}
+use Rattle.serde_rules.specs.declared.enum_repr.SerdeEnumRepr.{SerdeEnumRepr}
+use Rattle.serde_rules.specs.declared.enum_repr.SerdeEnumRepr.TheVariants as serde
+use Rattle.serde_rules.specs.Container.{TagFault, representation}
+use Rattle.serde_rules.specs.Value.{value_rules}
+use Rattle.syntax.specs.Items.{FieldItems, named, unnamed, unit, VariantItem}
+use Rattle.shapes.specs.declared.tagging.Tagging.{Tagging}
+use Rattle.shapes.specs.declared.tagging.Tagging.TheVariants.{External, Internal, Adjacent, Untagged}
+use Rattle.shapes.specs.Declarations.{telling}
+use Rattle.derive_decl.specs.Fields.{name_by, named_at}
+
+-- how the values of an enum tell their variant; nothing says it where a content is named and no tag
+abbrev pub tagging_of : SerdeEnumRepr → Option Tagging
+tagging_of serde.ExternallyTagged = Some External
+tagging_of (serde.InternallyTagged tag) = Some (Internal tag)
+tagging_of (serde.AdjacentlyTagged tag content) = Some (Adjacent tag content)
+tagging_of serde.Untagged = Some Untagged
+tagging_of (serde.UnfinishedAdjacentlyTagged content) = None
+
+abbrev pub tagging_by : Result SerdeEnumRepr TagFault → Option Tagging
+tagging_by (Ok repr) = tagging_of repr
+tagging_by (Err why) = None
+
+-- what serde's items before an enum say of it
+abbrev pub tagging_in : List SerdeItem → Option Tagging
+tagging_in items = tagging_by (representation items)
+
+abbrev pub is_unit : FieldItems → Bool
+is_unit (named fs) = false
+is_unit (unnamed fs) = false
+is_unit unit = true
+
+-- no variant has fields, those that serde skips counted
+abbrev pub are_units : List VariantItem → Bool
+are_units vs = list_all (λ v. is_unit v.fields) vs
+
+-- what serde's items before a variant say of it
+abbrev pub value_of_variant : VariantItem → SerdeValue
+value_of_variant v = value_rules (serde_items v.attrs)
+
+-- a variant that serde skips is left out
+abbrev pub is_kept_variant : VariantItem → Bool
+is_kept_variant v = not (value_of_variant v).skip
+
+abbrev pub kept_variants : List VariantItem → List VariantItem
+kept_variants vs = filter is_kept_variant vs
+
+-- the name of a variant in JSON, by the enum's rule; one of an untagged enum is told by none, so it keeps its identifier
+abbrev pub variant_name : List RenameRow → Option RenameRule → Tagging → VariantItem → Option (List ℕ)
+variant_name rows rule Untagged v = Some v.ident.text
+variant_name rows rule External v = name_by Variant rows rule (value_of_variant v) v.ident
+variant_name rows rule (Internal tag) v = name_by Variant rows rule (value_of_variant v) v.ident
+variant_name rows rule (Adjacent tag content) v = name_by Variant rows rule (value_of_variant v) v.ident
+
+-- the name, where the identifier stands
+abbrev pub variant_ident : List RenameRow → Option RenameRule → Tagging → VariantItem → Option Ident
+variant_ident rows rule tagging v = option_map (named_at v.ident) (variant_name rows rule tagging v)
+
+-- the names that tell variants apart, where their identifiers stand
+abbrev pub telling_idents : List RenameRow → Option RenameRule → Tagging → List VariantItem → List Ident
+telling_idents rows rule tagging vs = telling tagging (filter_map (variant_ident rows rule tagging) vs)

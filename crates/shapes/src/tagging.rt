@@ -1,0 +1,14 @@
+use texts::Text;
+
+/// How the values of an enum tell their variant (serde.rs, "Enum representations").
+#[derive(Debug, Drop)]
+pub enum Tagging {
+    /// By the name of an only member; a variant without fields is its name alone.
+    External,
+    /// By a tag among the members.
+    Internal { tag: Text },
+    /// By a tag beside a content.
+    Adjacent { tag: Text, content: Text },
+    /// By nothing.
+    Untagged,
+}
