@@ -1,7 +1,7 @@
 #!/usr/bin/env bash
 # Derives examples/shop.rs with examples/config.json, and compares the document with examples/components.json by bytes. Before
-# that it compares the library's example in README.md with its file, and what examples/structs.awk makes of examples/shop.rs with
-# the lines behind its last `use`.
+# that it compares the library's example in README.md with its file, and what examples/declarations.awk makes of examples/shop.rs
+# with the lines behind its last `use`.
 # Ends with 0 where all are equal, with 1 where some differ, and else with the program's own status.
 set -u
 cd "$(dirname "${BASH_SOURCE[0]}")/.." || exit 1
@@ -17,12 +17,12 @@ if ! diff "$found" "$program"; then
 fi
 echo "examples/check.sh: README.md quotes $program"
 
-awk -f examples/structs.awk examples/shop.rs > "$found"
+awk -f examples/declarations.awk examples/shop.rs > "$found"
 if ! sed '1,/^use crate::/d' examples/shop.rs | diff "$found" -; then
-    echo "examples/check.sh: examples/structs.awk prints other structs than examples/shop.rs has" >&2
+    echo "examples/check.sh: examples/declarations.awk prints other declarations than examples/shop.rs has" >&2
     exit 1
 fi
-echo "examples/check.sh: examples/structs.awk prints the structs of examples/shop.rs"
+echo "examples/check.sh: examples/declarations.awk prints the declarations of examples/shop.rs"
 
 ./schema_gen derive --config examples/config.json < examples/shop.rs > "$found"
 status=$?

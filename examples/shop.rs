@@ -104,6 +104,20 @@ pub struct Article {
     pub cost: u64,
 }
 
+/// Who brings the parcels.
+#[derive(Clone, Copy, Debug, Deserialize, Eq, Hash, PartialEq, Serialize)]
+#[serde(rename_all = "kebab-case")]
+pub enum Carrier {
+    #[serde(rename = "GLS")]
+    Gls,
+    Post,
+    /// Nobody: the customer comes to the shop.
+    PickUp,
+    // Stands in tests alone.
+    #[serde(skip)]
+    Unknown,
+}
+
 /// Some pieces of one article.
 #[derive(Clone, Debug, Deserialize, Serialize)]
 #[serde(deny_unknown_fields)]
@@ -129,6 +143,8 @@ pub struct NewOrder {
     #[serde(default)]
     pub gift: bool,
     pub coupons: HashSet<String>,
+    /// Who is to bring it, if that matters.
+    pub carrier: Option<Carrier>,
     /// When someone is at home: from and to, in hours of the day.
     pub hours: (u8, u8),
 }
@@ -144,9 +160,10 @@ pub struct Order {
     pub total: Money,
     /// What happened when, in seconds since 1970.
     pub events: Vec<(u64, String)>,
+    pub carrier: Carrier,
     /// Numbers of parcels by carrier.
     #[serde(default, skip_serializing_if = "HashMap::is_empty")]
-    pub parcels: HashMap<String, Vec<String>>,
+    pub parcels: HashMap<Carrier, Vec<String>>,
     pub metadata: Option<Value>,
     // Written for caches, never read.
     #[serde(skip_deserializing)]
