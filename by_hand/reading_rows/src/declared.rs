@@ -7,7 +7,11 @@ use rows::given::pair_of;
 use rows::refusal_text;
 use serde_json::Value;
 use std::alloc::{AllocError, Global};
-use syntax::{Attribute, Body, Declaration, Declarations, Field, Fields, Meta, parse_declarations};
+use syntax::{
+    Attribute, Body, Declaration, Declarations, Field, Fields, Meta, Variant, parse_declarations,
+};
+use texts::List;
+use tokens::TokenTree;
 
 /// The texts of doc comments and the first words of other attributes, each in brackets.
 fn attributes_text(alloc: Global, attributes: &[Attribute]) -> Result<String, AllocError> {
@@ -51,8 +55,7 @@ fn fields_text(alloc: Global, fields: &[Field]) -> Result<String, AllocError> {
 }
 
 /// The fields in the brackets of their form.
-fn body_text(alloc: Global, body: &Body) -> Result<String, AllocError> {
-    let Body::Struct(fields) = body;
+fn form_text(alloc: Global, fields: &Fields) -> Result<String, AllocError> {
     match fields {
         Fields::Named(fields) => {
             format!(in alloc; " {{{}}}", fields_text(alloc, fields.as_slice())?)
@@ -64,7 +67,52 @@ fn body_text(alloc: Global, body: &Body) -> Result<String, AllocError> {
     }
 }
 
-/// The attributes, the name, the span and the fields.
+/// How many tokens and groups stand behind `=`, where there is one.
+fn discriminant_text(
+    alloc: Global,
+    discriminant: &Option<List<TokenTree>>,
+) -> Result<String, AllocError> {
+    match discriminant {
+        Some(trees) => format!(in alloc; " = {} tokens", trees.len()),
+        None => Ok(String::new(alloc)),
+    }
+}
+
+/// The attributes, the name, the span, the fields and the discriminant.
+fn variant_text(alloc: Global, variant: &Variant) -> Result<String, AllocError> {
+    let attributes = attributes_text(alloc, variant.attrs.as_slice())?;
+    let form = form_text(alloc, &variant.fields)?;
+    let discriminant = discriminant_text(alloc, &variant.discriminant)?;
+    let (name, span) = (variant.ident.text.as_str(), variant.span);
+    format!(in alloc;
+        "{}{name} {}..{}{}{}",
+        attributes.as_str(),
+        span.start,
+        span.end,
+        form.as_str(),
+        discriminant.as_str()
+    )
+}
+
+fn variants_text(alloc: Global, variants: &[Variant]) -> Result<String, AllocError> {
+    let texts: Vec<String> = variants
+        .iter()
+        .map(|variant| variant_text(alloc, variant))
+        .try_collect(alloc)?;
+    texts.join(alloc, ", ")
+}
+
+/// The fields of a struct, or `enum` and the variants in brackets.
+fn body_text(alloc: Global, body: &Body) -> Result<String, AllocError> {
+    match body {
+        Body::Struct(fields) => form_text(alloc, fields),
+        Body::Enum(variants) => {
+            format!(in alloc; " enum {{{}}}", variants_text(alloc, variants.as_slice())?)
+        }
+    }
+}
+
+/// The attributes, the name, the span and the body.
 fn declaration_text(alloc: Global, declaration: &Declaration) -> Result<String, AllocError> {
     let attributes = attributes_text(alloc, declaration.attrs.as_slice())?;
     let body = body_text(alloc, &declaration.body)?;

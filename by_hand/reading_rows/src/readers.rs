@@ -3,16 +3,15 @@
 use crate::answers::{bytes, stopped, then_left};
 use crate::inputs::{first_tree, source_trees, span, two_sources};
 use anyhow::bail;
-use texts::Span;
-use words::after_comma;
 use rows::given::pair_of;
 use serde_json::Value;
 use std::alloc::{AllocError, Global};
+use texts::Span;
 use tokens::{Token, TokenTree};
 use words::{
-    Stop, Word, covering, group_at, ident_of, keyword_at, lifetime_at, lifetime_of, literal_at,
-    name_at, optional_keyword, optional_lifetime, optional_sign, path_word_at, sign_at, start_of,
-    stop_at, word_of,
+    Stop, Word, after_comma, covering, group_at, ident_of, keyword_at, lifetime_at, lifetime_of,
+    literal_at, name_at, optional_keyword, optional_lifetime, optional_sign, path_word_at, sign_at,
+    start_of, stop_at, word_of,
 };
 use written_types::Ident;
 
