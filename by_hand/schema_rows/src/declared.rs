@@ -1,6 +1,6 @@
 //! The schemas of declarations.
 
-use crate::structs::struct_text;
+use crate::resolved::declaration_text;
 use crate::terms::term_text;
 use component::ToTerm;
 use derive_decl::{Root, Schema, SchemaVariant};
@@ -14,10 +14,10 @@ use syntax::Body;
 pub(crate) enum OfDeclaration {
     /// The types of its places.
     PlaceTypes,
-    /// The struct that it is resolved to.
+    /// What it is resolved to.
     Resolved,
-    /// The JSON of that struct's schema.
-    StructTerm,
+    /// The JSON of the schema of what it is resolved to.
+    ResolvedTerm,
     /// The JSON of the schema of its body.
     Body,
 }
@@ -52,8 +52,8 @@ pub(crate) fn of_declaration(
         OfDeclaration::PlaceTypes => {
             Ok(types_text(alloc, schema.place_types(alloc)?.as_slice())?)
         }
-        OfDeclaration::Resolved => Ok(struct_text(alloc, &schema.resolve(alloc)?)?),
-        OfDeclaration::StructTerm => text_of(alloc, &schema.resolve(alloc)?),
+        OfDeclaration::Resolved => Ok(declaration_text(alloc, &schema.resolve(alloc)?)?),
+        OfDeclaration::ResolvedTerm => text_of(alloc, &schema.resolve(alloc)?),
         OfDeclaration::Body => text_of(alloc, &SchemaVariant::new(alloc, body, root)?),
     }
 }

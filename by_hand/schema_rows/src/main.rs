@@ -9,8 +9,8 @@ mod judged;
 mod notes;
 mod places;
 mod remarks;
+mod resolved;
 mod sources;
-mod structs;
 mod targets;
 mod terms;
 mod values;
@@ -64,7 +64,7 @@ fn question(call: &str) -> anyhow::Result<OfFirst> {
         "copy_term" => Ok(OfFirst::Place(OfPlace::CopiedTerm)),
         "place_types" => Ok(OfFirst::Declaration(OfDeclaration::PlaceTypes)),
         "resolve" => Ok(OfFirst::Declaration(OfDeclaration::Resolved)),
-        "struct_term" => Ok(OfFirst::Declaration(OfDeclaration::StructTerm)),
+        "resolved_term" => Ok(OfFirst::Declaration(OfDeclaration::ResolvedTerm)),
         "body" => Ok(OfFirst::Declaration(OfDeclaration::Body)),
         other => bail!("no call {other}"),
     }

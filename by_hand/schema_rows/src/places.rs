@@ -1,6 +1,5 @@
 //! The schemas of places, by what rows say of them.
 
-
 use crate::remarks::comments;
 use crate::terms::{named, term_text};
 use component::{SchemaReference, ToTerm, copy_term};

@@ -1,8 +1,9 @@
 //! What declarations are resolved to.
 
-use derive_decl::{Member, Resolved, SchemaVariant};
-use shapes::Remarks;
+use derive_decl::{FormSchema, Member, PlainEnum, Resolved, SchemaVariant};
+use shapes::{Remarks, Tagging};
 use std::alloc::{AllocError, Global};
+use syntax::Ident;
 
 /// Adds the names of the members, with `?` where one need not be there.
 fn push_members(text: &mut String, members: &[Member]) -> Result<(), AllocError> {
@@ -29,9 +30,9 @@ fn push_remarks(text: &mut String, remarks: &Remarks) -> Result<(), AllocError> 
 }
 
 /// Adds the form, its members, and what is said of it.
-fn push_form(text: &mut String, form: &SchemaVariant) -> Result<(), AllocError> {
+fn push_form(text: &mut String, form: &FormSchema) -> Result<(), AllocError> {
     match form {
-        SchemaVariant::Named(form) => {
+        FormSchema::Named(form) => {
             text.push_str(" named:")?;
             push_members(text, form.members.as_slice())?;
             if form.denies_others {
@@ -39,7 +40,7 @@ fn push_form(text: &mut String, form: &SchemaVariant) -> Result<(), AllocError> 
             }
             push_remarks(text, &form.remarks)
         }
-        SchemaVariant::Unnamed(form) => {
+        FormSchema::Unnamed(form) => {
             text.push_str(if form.types.len() == 1 {
                 " of one"
             } else {
@@ -47,29 +48,72 @@ fn push_form(text: &mut String, form: &SchemaVariant) -> Result<(), AllocError> 
             })?;
             push_remarks(text, &form.remarks)
         }
-        SchemaVariant::Unit(form) => {
+        FormSchema::Unit(form) => {
             text.push_str(" unit")?;
             push_remarks(text, &form.remarks)
         }
     }
 }
 
-/// The form of the struct, its members, and what is said of it.
-pub(crate) fn struct_text(alloc: Global, of: &Resolved) -> Result<String, AllocError> {
-    let mut text = String::from_str(alloc, of.name.as_str())?;
-    push_form(&mut text, &of.form)?;
+/// Adds how values tell their variant.
+fn push_tagging(text: &mut String, tagging: &Tagging) -> Result<(), AllocError> {
+    match tagging {
+        Tagging::External => text.push_str(" of"),
+        Tagging::Internal { tag } => {
+            text.push_str(" tagged ")?;
+            text.push_str(tag.as_str())
+        }
+        Tagging::Adjacent { tag, content } => {
+            text.push_str(" tagged ")?;
+            text.push_str(tag.as_str())?;
+            text.push_str(" beside ")?;
+            text.push_str(content.as_str())
+        }
+        Tagging::Untagged => text.push_str(" untagged"),
+    }
+}
+
+/// Adds the names of the variants, with where each stands.
+fn push_names(alloc: Global, text: &mut String, names: &[Ident]) -> Result<(), AllocError> {
+    for name in names {
+        let (name, span) = (name.text.as_str(), name.span);
+        text.push_str(format!(in alloc; " {name} {}..{}", span.start, span.end)?.as_str())?;
+    }
+    Ok(())
+}
+
+/// Adds how the enum tells its variants, their names, and what is said of it.
+fn push_enum(alloc: Global, text: &mut String, of: &PlainEnum) -> Result<(), AllocError> {
+    push_tagging(text, &of.tagging)?;
+    text.push(':')?;
+    push_names(alloc, text, of.names.as_slice())?;
+    push_remarks(text, &of.remarks)
+}
+
+/// Adds the name, and the form of the struct or the variants of the enum.
+fn push_declaration(alloc: Global, text: &mut String, of: &Resolved) -> Result<(), AllocError> {
+    text.push_str(of.name.as_str())?;
+    match &of.body {
+        SchemaVariant::Struct(form) => push_form(text, form),
+        SchemaVariant::Enum(plain) => push_enum(alloc, text, plain),
+    }
+}
+
+/// The form of a struct with its members, or the variants of an enum, and what is said of it.
+pub(crate) fn declaration_text(alloc: Global, of: &Resolved) -> Result<String, AllocError> {
+    let mut text = String::new(alloc);
+    push_declaration(alloc, &mut text, of)?;
     Ok(text)
 }
 
-/// The structs, one behind the other.
-pub(crate) fn structs_text(alloc: Global, structs: &[Resolved]) -> Result<String, AllocError> {
+/// The declarations, one behind the other.
+pub(crate) fn declarations_text(alloc: Global, all: &[Resolved]) -> Result<String, AllocError> {
     let mut text = String::new(alloc);
-    for of in structs {
+    for of in all {
         if !text.is_empty() {
             text.push_str("; ")?;
         }
-        text.push_str(of.name.as_str())?;
-        push_form(&mut text, &of.form)?;
+        push_declaration(alloc, &mut text, of)?;
     }
     Ok(text)
 }

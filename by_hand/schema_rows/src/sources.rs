@@ -2,7 +2,7 @@
 
 use crate::declared::{OfDeclaration, of_declaration};
 use crate::places::{OfPlace, of_place};
-use crate::structs::structs_text;
+use crate::resolved::declarations_text;
 use configuration::Config;
 use derive_decl::{Root, resolved_declarations};
 use diag::DeriveError;
@@ -30,8 +30,7 @@ fn first(
     question: OfFirst,
     places: &Places<'_>,
     given: &Value,
-) -> Result<String, DeriveError>
-{
+) -> Result<String, DeriveError> {
     let [first, ..] = places.declarations.items.as_slice() else {
         return Ok(String::from_str(alloc, "no declaration")?);
     };
@@ -52,15 +51,11 @@ fn first(
     }
 }
 
-/// The structs of all declarations.
-fn structs(
-    alloc: Global,
-    places: &Places<'_>,
-) -> Result<String, DeriveError>
-{
+/// What all declarations are resolved to.
+fn all_resolved(alloc: Global, places: &Places<'_>) -> Result<String, DeriveError> {
     let config = Config::new(alloc);
-    let structs = resolved_declarations(alloc, places, &config)?;
-    Ok(structs_text(alloc, structs.as_slice())?)
+    let all = resolved_declarations(alloc, places, &config)?;
+    Ok(declarations_text(alloc, all.as_slice())?)
 }
 
 /// The answer for the first declaration of the source that the row gives, or for all where none is asked for, or the refusal.
@@ -77,7 +72,7 @@ pub(crate) fn of_source(
     };
     let told = match question {
         Some(question) => first(alloc, question, &places, given),
-        None => structs(alloc, &places),
+        None => all_resolved(alloc, &places),
     };
     match told {
         Ok(text) => Ok(text),
