@@ -20,6 +20,7 @@ const DEPTH: usize = 9;
 pub(crate) fn told(alloc: Global, call: &str, given: &Value) -> anyhow::Result<String> {
     match call {
         "refusal" => refusal(alloc, given),
+        "components" => components(alloc, given),
         "accepted" => accepted(alloc, given),
         "types" => types(alloc, given),
         other => bail!("no call {other}"),
@@ -40,10 +41,27 @@ fn refusal(alloc: Global, given: &Value) -> anyhow::Result<String> {
     }
 }
 
+/// The row's configuration, or the empty one.
+fn config_of(alloc: Global, given: &Value) -> Result<Config, DeriveError> {
+    match given.get("configuration") {
+        Some(value) => Config::from_value(alloc, value),
+        None => Ok(Config::new(alloc)),
+    }
+}
+
+/// The document of the source, or why it is refused.
+fn components(alloc: Global, given: &Value) -> anyhow::Result<String> {
+    let config = config_of(alloc, given)?;
+    match derive(alloc, text_at(given, "source")?, &config) {
+        Ok(derived) => Ok(derived.components.to_value(alloc)?.to_string(alloc)?),
+        Err(error) => Ok(refused(alloc, &error)?),
+    }
+}
+
 /// Those of the values that the source's component of the name accepts, as a JSON list.
 fn accepted(alloc: Global, given: &Value) -> anyhow::Result<String> {
     let (source, name) = (text_at(given, "source")?, text_at(given, "name")?);
-    let derived = derive(alloc, source, &Config::new(alloc))?;
+    let derived = derive(alloc, source, &config_of(alloc, given)?)?;
     let document = json_of(&derived.components.to_value(alloc)?)?;
     let mut accepted = Vec::new(alloc);
     for value in items_at(given, "values")? {

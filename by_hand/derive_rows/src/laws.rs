@@ -8,6 +8,7 @@ fn of_reading() {
     literals::literals_have_quotes();
     lexing::one_cut();
     lexing::deep_brackets_nest_deep();
+    lexing::one_deep_bracket();
     tokens::trees_are_equal_by_text();
     written_types::types_are_equal_by_text();
     type_grammar::types_are_read();
@@ -16,25 +17,30 @@ fn of_reading() {
     type_grammar::bounds_are_read();
     type_grammar::one_bound();
     literal_values::texts_are_said();
+    literal_values::values_are_equal();
     attributes::attributes_are_read();
     attributes::items_are_of_their_lists();
     syntax::one_reading();
     syntax::one_type_reading();
+    syntax::one_deep_place();
     syntax::read_fields_are_named();
 }
 
 /// The laws of types, of schemas and of what they accept.
 fn of_schemas() {
+    scopes::names_repeat_or_not();
     open_types::closed_types_stay();
     open_types::same_types_are_equal();
     resolving::resolved_have_no_fault();
     resolving::resolved_are_within();
     type_tree::trees_are_equal_by_text();
+    type_tree::formats_are_equal();
     acceptance::accepts_deeper();
     acceptance::components_alone();
     schema_core::forms_accept();
     schema_core::forms_refer();
     schema_core::documents_hold();
+    schema_core::type_words_are_equal();
     component::references_are_leaves();
     shapes::terms_accept();
     shapes::shapes_deepen();

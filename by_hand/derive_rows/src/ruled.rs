@@ -10,8 +10,8 @@ use rows::given::{pair_of, text_at, text_of};
 use serde_json::Value;
 use serde_rules::names::rename;
 use serde_rules::{
-    FieldRename, NoRow, Rename, SerdeContainer, SerdeEnumRepr, SerdeValue, VariantRename,
-    has_item, is_required, parse_container, parse_value,
+    FieldRename, NoRow, Rename, SerdeContainer, SerdeEnumRepr, SerdeValue, VariantRename, has_item,
+    is_required, parse_container, parse_value,
 };
 use std::alloc::{AllocError, Global};
 use std::str::FromStr;
