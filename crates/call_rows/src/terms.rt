@@ -5,7 +5,7 @@ ghost use Rattle.syntax.specs.Named.{AreNamed, IsNamedBody};
 
 use component::{Term, ToTerm, copy_term};
 use configuration::Config;
-use derive_decl::{FormSchema, Resolved, Schema, SchemaVariant};
+use derive_decl::{EnumSchema, FormSchema, Resolved, Schema, SchemaVariant};
 use diag::DeriveError;
 use place_schemas::{ComponentSchema, ComponentSchemaProps};
 use rows::given::{is_said, pair_of, text_of};
@@ -51,13 +51,22 @@ fn push_fields(alloc: Global, text: &mut String, form: &FormSchema) -> Result<()
     }
 }
 
+/// Adds the forms of the enum, and of what it is.
+fn push_enum(alloc: Global, text: &mut String, of: &EnumSchema) -> Result<(), DeriveError> {
+    push_made(alloc, text, of)?;
+    match of {
+        EnumSchema::Plain(plain) => push_made(alloc, text, plain),
+        EnumSchema::Mixed(mixed) => push_made(alloc, text, mixed),
+    }
+}
+
 /// Adds the forms of the declaration, of its body, and of what its body holds.
 fn push_resolved(alloc: Global, text: &mut String, of: &Resolved) -> Result<(), DeriveError> {
     push_made(alloc, text, of)?;
     push_made(alloc, text, &of.body)?;
     match &of.body {
         SchemaVariant::Struct(form) => push_fields(alloc, text, form),
-        SchemaVariant::Enum(plain) => push_made(alloc, text, plain),
+        SchemaVariant::Enum(of) => push_enum(alloc, text, of),
     }
 }
 

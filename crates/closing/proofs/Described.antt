@@ -32,7 +32,7 @@ use Rattle.closing.specs.Described.{IsApart, AreComponents, HasComponent, Descri
 use Rattle.closing.proofs.Below.{Below, tree-below}
 use Rattle.closing.proofs.Bound.{bind-proper, bind-leaves, bind-accepts}
 use Rattle.closing.proofs.Targets.{IsShort, never-short, shorter, all-short, at-each, closed-stays, are-targets}
-use Rattle.closing.proofs.Terms.{body-proper, plain-types, body-leaves}
+use Rattle.closing.proofs.EnumTerms.{body-proper, plain-types, body-leaves}
 
 -- ---- names in order are distinct
 absent : (n : List ℕ) (ns : List (List ℕ)) → AllByRecursion (λ m. slice_cmp nat_cmp n m ≡ Less) ns → is_in n ns ≡ false

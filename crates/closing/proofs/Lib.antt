@@ -7,3 +7,4 @@ pub mod Leaves
 pub mod Made
 pub mod Targets
 pub mod Terms
+pub mod EnumTerms

@@ -14,7 +14,7 @@ use Rattle.inlining.specs.Inlining.{targets_of, IsAmong, AreTargets, IsPath, IsA
 use Rattle.closing.specs.Targets.{inlined_among, inlining_of, most_inlined}
 use Rattle.closing.specs.Closed.{put, closed}
 use Rattle.closing.proofs.Leaves.{each-both, bind-same, AtInlined, at-leaves, from-leaves}
-use Rattle.closing.proofs.Terms.{body-leaves}
+use Rattle.closing.proofs.EnumTerms.{body-leaves}
 
 -- the declarations that are inline in the term of a declaration
 abbrev pub targets_at : List DeclarationOf → ℕ → List ℕ

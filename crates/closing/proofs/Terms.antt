@@ -1,8 +1,8 @@
--- The terms of places and of declarations: no object names a property twice, and what holds of each leaf.
-use Rattle.std.proofs.Common.{ℕ, List, [], ◌∷◌, length, Bool, true, false, cond, Option, Some, None, map, ◌≡◌, refl, ap, sym, subst, inl, inr}
+-- The terms of places and of fields: no object names a property twice, and what holds of each leaf.
+use Rattle.std.proofs.Common.{ℕ, List, [], ◌∷◌, length, Bool, true, false, cond, Option, Some, None, ◌≡◌, refl, ap, sym, subst, inl, inr}
 use Rattle.schema_core.specs.declared.notes.Notes.{Notes}
 use Rattle.schema_core.specs.Notes.{no_notes, described}
-use Rattle.schema_core.specs.Schema.{SchemaOf, schemas_of, property_names, EachLeaf, EachSchemaLeaf, EachPropertyLeaf}
+use Rattle.schema_core.specs.Schema.{SchemaOf, property_names, EachLeaf, EachSchemaLeaf, EachPropertyLeaf}
 use Rattle.schema_core.specs.Schema as tree
 use Rattle.schema_core.specs.Meaning.{IsProper, AreProper, ArePropertiesProper}
 use Rattle.texts.specs.Names.{IsDistinct}
@@ -11,11 +11,9 @@ use Rattle.open_types.specs.Open as types
 use Rattle.component.specs.Leaves.{LeafOf, param, named}
 use Rattle.component.specs.Places.{or_null, in_place, declared, argument, place, inline_places}
 use Rattle.shapes.specs.declared.remarks.Remarks.{Remarks}
-use Rattle.shapes.specs.declared.tagging.Tagging.{Tagging}
-use Rattle.shapes.specs.declared.tagging.Tagging.TheVariants.{External, Internal, Adjacent, Untagged}
-use Rattle.shapes.specs.Declarations.{MemberOf, FormOf, named_fields, unnamed_fields, no_fields, BodyOf, fields, units, DeclarationOf, names_of, member_names, member_types, types_of, body_types, IsApartBody}
-use Rattle.shapes.specs.Plain.{StandsIn, StandsAmong, StandsInOne, IsPlainType, ArePlainTypes, AreAllPlain, IsPlainForm, IsPlainBody}
-use Rattle.shapes.specs.Terms.{properties_of, are_all, alike_term, field_terms, mixed_term, unnamed_term, form_term, tag_alone, units_term, body_term}
+use Rattle.shapes.specs.Declarations.{MemberOf, FormOf, named_fields, unnamed_fields, no_fields, fields, DeclarationOf, names_of, member_names, member_types, types_of}
+use Rattle.shapes.specs.Plain.{StandsIn, StandsAmong, StandsInOne, IsPlainType, ArePlainTypes, AreAllPlain, IsPlainForm}
+use Rattle.shapes.specs.Terms.{properties_of, are_all, alike_term, field_terms, mixed_term, unnamed_term, form_term}
 
 -- ---- no property is named twice
 
@@ -55,11 +53,11 @@ mutual
   inline-proper no_types = tt
   inline-proper (more_types t ts) = (place-proper false true false None t, inline-proper ts)
 
-properties-proper : (ms : List MemberOf) → ArePropertiesProper (properties_of ms)
+pub properties-proper : (ms : List MemberOf) → ArePropertiesProper (properties_of ms)
 properties-proper [] = tt
 properties-proper (m ∷ ms) = (place-proper false false m.remarks.deprecated m.remarks.description m.of, properties-proper ms)
 
-names-are : (ms : List MemberOf) → property_names (properties_of ms) ≡ member_names ms
+pub names-are : (ms : List MemberOf) → property_names (properties_of ms) ≡ member_names ms
 names-are [] = refl
 names-are (m ∷ ms) = ap (λ ns. m.name ∷ ns) (names-are ms)
 
@@ -71,43 +69,24 @@ either-proper : (b : Bool) (s t : SchemaOf LeafOf) → IsProper s → IsProper t
 either-proper true s t h k = h
 either-proper false s t h k = k
 
-unnamed-proper : (r : Remarks) (ts : List Open) → IsProper (unnamed_term r ts)
+pub unnamed-proper : (r : Remarks) (ts : List Open) → IsProper (unnamed_term r ts)
 unnamed-proper r [] = (tt, tt)
 unnamed-proper r (t ∷ []) = place-proper false false r.deprecated r.description t
 unnamed-proper r (t ∷ u ∷ us) =
     either-proper (are_all t (u ∷ us)) (alike_term r (length (t ∷ u ∷ us)) t) (mixed_term r (t ∷ u ∷ us)) (tt, place-proper false false r.deprecated r.description t) (fields-proper (t ∷ u ∷ us), tt)
 
-form-proper : (r : Remarks) (form : FormOf) → IsDistinct (names_of form) → IsProper (form_term r form)
+pub form-proper : (r : Remarks) (form : FormOf) → IsDistinct (names_of form) → IsProper (form_term r form)
 form-proper r (named_fields true ms) h = (subst IsDistinct (sym (names-are ms)) h, (properties-proper ms, (tt, tt)))
 form-proper r (named_fields false ms) h = (subst IsDistinct (sym (names-are ms)) h, (properties-proper ms, (tt, tt)))
 form-proper r (unnamed_fields ts) h = unnamed-proper r ts
 form-proper r no_fields h = (tt, (tt, (tt, tt)))
 
-tags-proper : (tag : List ℕ) (names : List (List ℕ)) → AreProper {X = LeafOf} (schemas_of (map (tag_alone tag) names))
-tags-proper tag [] = tt
-tags-proper tag (name ∷ names) = (((refl, tt), (((tt, (tt, (tt, tt))), tt), (tt, tt))), tags-proper tag names)
-
-units-proper : (r : Remarks) (tagging : Tagging) (names : List (List ℕ)) → IsProper (units_term r tagging names)
-units-proper r External names = (tt, (tt, (tt, tt)))
-units-proper r (Internal tag) names = tags-proper tag names
-units-proper r (Adjacent tag content) names = tags-proper tag names
-units-proper r Untagged names = (tt, (tt, (tt, tt)))
-
--- The term of a declaration is proper where its names differ.
-pub body-proper : (r : Remarks) (body : BodyOf) → IsApartBody body → IsProper (body_term r body)
-body-proper r (fields form) h = form-proper r form h
-body-proper r (units tagging names) h = units-proper r tagging names
-
 -- ---- what holds of each leaf
 
-form-plain-types : (ss : List DeclarationOf) (form : FormOf) → IsPlainForm ss form → AreAllPlain ss (types_of form)
+pub form-plain-types : (ss : List DeclarationOf) (form : FormOf) → IsPlainForm ss form → AreAllPlain ss (types_of form)
 form-plain-types ss (named_fields denies ms) h = h
 form-plain-types ss (unnamed_fields ts) h = h
 form-plain-types ss no_fields h = tt
-
-pub plain-types : (ss : List DeclarationOf) (body : BodyOf) → IsPlainBody ss body → AreAllPlain ss (body_types body)
-plain-types ss (fields form) h = form-plain-types ss form h
-plain-types ss (units tagging names) h = tt
 
 -- A fact that holds of each declaration which stands in the types, and of each parameter unless the types are to be plain, holds of each leaf.
 module _ (ss : List DeclarationOf) (Q : LeafOf → Type 0) (ToBePlain : Type 0) (P : ℕ → Type 0) (at_named : (d : ℕ) (ts : Opens) (inline : Bool) (notes : Notes) → P d → Q (named (types.named d ts) inline notes))
@@ -149,7 +128,7 @@ module _ (ss : List DeclarationOf) (Q : LeafOf → Type 0) (ToBePlain : Type 0) 
     inline-leaves no_types w p = tt
     inline-leaves (more_types t ts) w p = (place-leaves false true false None t (λ e s. w e (inl s)) (λ a. (p a).0), inline-leaves ts (λ e s. w e (inr s)) (λ a. (p a).1))
 
-  properties-leaves : (ms : List MemberOf) → ((e : ℕ) → StandsInOne e (member_types ms) → P e) → (ToBePlain → AreAllPlain ss (member_types ms)) → EachPropertyLeaf Q (properties_of ms)
+  pub properties-leaves : (ms : List MemberOf) → ((e : ℕ) → StandsInOne e (member_types ms) → P e) → (ToBePlain → AreAllPlain ss (member_types ms)) → EachPropertyLeaf Q (properties_of ms)
   properties-leaves [] w p = tt
   properties-leaves (m ∷ ms) w p = (place-leaves false false m.remarks.deprecated m.remarks.description m.of (λ e s. w e (inl s)) (λ a. (p a).0), properties-leaves ms (λ e s. w e (inr s)) (λ a. (p a).1))
 
@@ -161,29 +140,15 @@ module _ (ss : List DeclarationOf) (Q : LeafOf → Type 0) (ToBePlain : Type 0) 
   either-leaves true s t h k = h
   either-leaves false s t h k = k
 
-  unnamed-leaves : (r : Remarks) (ts : List Open) → ((e : ℕ) → StandsInOne e ts → P e) → (ToBePlain → AreAllPlain ss ts) → EachLeaf Q (unnamed_term r ts)
+  pub unnamed-leaves : (r : Remarks) (ts : List Open) → ((e : ℕ) → StandsInOne e ts → P e) → (ToBePlain → AreAllPlain ss ts) → EachLeaf Q (unnamed_term r ts)
   unnamed-leaves r [] w p = (tt, tt)
   unnamed-leaves r (t ∷ []) w p = place-leaves false false r.deprecated r.description t (λ e s. w e (inl s)) (λ a. (p a).0)
   unnamed-leaves r (t ∷ u ∷ us) w p =
       either-leaves (are_all t (u ∷ us)) (alike_term r (length (t ∷ u ∷ us)) t) (mixed_term r (t ∷ u ∷ us))
       (tt, place-leaves false false r.deprecated r.description t (λ e s. w e (inl s)) (λ a. (p a).0)) (fields-leaves (t ∷ u ∷ us) w p, tt)
 
-  form-leaves : (r : Remarks) (form : FormOf) → ((e : ℕ) → StandsInOne e (types_of form) → P e) → (ToBePlain → AreAllPlain ss (types_of form)) → EachLeaf Q (form_term r form)
+  pub form-leaves : (r : Remarks) (form : FormOf) → ((e : ℕ) → StandsInOne e (types_of form) → P e) → (ToBePlain → AreAllPlain ss (types_of form)) → EachLeaf Q (form_term r form)
   form-leaves r (named_fields true ms) w p = (properties-leaves ms w p, (tt, tt))
   form-leaves r (named_fields false ms) w p = (properties-leaves ms w p, (tt, tt))
   form-leaves r (unnamed_fields ts) w p = unnamed-leaves r ts w p
   form-leaves r no_fields w p = (tt, (tt, tt))
-
-  tags-leaves : (tag : List ℕ) (names : List (List ℕ)) → EachSchemaLeaf Q (schemas_of (map (tag_alone tag) names))
-  tags-leaves tag [] = tt
-  tags-leaves tag (name ∷ names) = ((((tt, (tt, tt)), tt), (tt, tt)), tags-leaves tag names)
-
-  units-leaves : (r : Remarks) (tagging : Tagging) (names : List (List ℕ)) → EachLeaf Q (units_term r tagging names)
-  units-leaves r External names = (tt, (tt, tt))
-  units-leaves r (Internal tag) names = tags-leaves tag names
-  units-leaves r (Adjacent tag content) names = tags-leaves tag names
-  units-leaves r Untagged names = (tt, (tt, tt))
-
-  pub body-leaves : (r : Remarks) (body : BodyOf) → ((e : ℕ) → StandsInOne e (body_types body) → P e) → (ToBePlain → AreAllPlain ss (body_types body)) → EachLeaf Q (body_term r body)
-  body-leaves r (fields form) w p = form-leaves r form w p
-  body-leaves r (units tagging names) w p = units-leaves r tagging names

@@ -17,7 +17,7 @@ use Rattle.inlining.specs.Inlining.{AreTargets, IsAtMost}
 use Rattle.closing.specs.Targets.{inlining_of, most_inlined}
 use Rattle.closing.specs.Closed.{put, declared_schema}
 
--- no two declarations have one name, and no two members or variants of one
+-- no two declarations have one name, and their bodies are apart
 abbrev pub IsApart : List DeclarationOf → Type 0
 IsApart ss = IsDistinct (declaration_names ss) × AreApartBodies ss
 

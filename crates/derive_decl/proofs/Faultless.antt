@@ -14,7 +14,7 @@ use Rattle.derive_decl.specs.Fields.{name_by, named_at}
 use Rattle.attributes.specs.Attributes.{AttributeItem, serde_items}
 use Rattle.syntax.specs.Items.{BodyItem}
 use Rattle.derive_decl.specs.Resolved.{Around}
-use Rattle.derive_decl.specs.Faults.{underivable_with, IsUnwritten, IsFaultyBody, IsFaultyDeclaration}
+use Rattle.derive_decl.specs.Faults.{attributes_with, first_other, IsUnwritten, IsFaultyBody, IsFaultyDeclaration}
 
 -- where none of the items is refused, no error refuses one
 pub none_somewhere : {A : Type 0} (P : A → DeriveError → Type 0) (xs : List A) → AllByRecursion (λ x. RefusesNone (P x)) xs → RefusesNone (λ e. Somewhere (λ x. P x e) xs)
@@ -23,7 +23,7 @@ none_somewhere P (x ∷ xs) all e (inl h) = all.0 e h
 none_somewhere P (x ∷ xs) all e (inr h) = none_somewhere P xs all.1 e h
 
 -- what is derived and has no fault in its body is not refused
-pub none_faulty : (around : Around) (attributes : List AttributeItem) (x : Ident) (body : BodyItem) → underivable_with attributes body ≡ None → RefusesNone (IsFaultyBody around (serde_items attributes) x body) →
+pub none_faulty : (around : Around) (attributes : List AttributeItem) (x : Ident) (body : BodyItem) → first_other (attributes_with attributes body) ≡ None → RefusesNone (IsFaultyBody around (serde_items attributes) x body) →
     RefusesNone (IsFaultyDeclaration around attributes x body)
 none_faulty around attributes x body derivable none e (inl (span, is, refused)) = none-some span (sym derivable ∙ is)
 none_faulty around attributes x body derivable none e (inr (same, fault)) = none e fault

@@ -1,11 +1,9 @@
--- The first of two lists, of attributes or of variants, is that of the first list, or else of the second.
-use Rattle.std.proofs.Common.{◌≡◌, ◌∙◌, ◌<◌, ◌+◌, ℕ, suc, List, [], ◌∷◌, ◌++◌, length, drop, get_or, refl, ap, sym, Option, Some, None, Bool, true, false, ◌&&◌, cond, add-one, drop-cons}
+-- The first attribute of two lists is that of the first list, or else of the second.
+use Rattle.std.proofs.Common.{◌≡◌, ◌∙◌, ◌<◌, ◌+◌, ℕ, suc, List, [], ◌∷◌, ◌++◌, length, drop, get_or, refl, ap, sym, Option, Some, None, Bool, true, false, cond, add-one, drop-cons}
 use Rattle.std.specs.Option.{option_or}
 use Rattle.texts.specs.declared.span.Span.{Span}
 use Rattle.attributes.specs.Attributes.{AttributeItem}
-use Rattle.syntax.specs.Items.{VariantItem}
-use Rattle.derive_decl.specs.Variants.{is_unit, are_units}
-use Rattle.derive_decl.specs.Faults.{is_other, first_other, first_mixed}
+use Rattle.derive_decl.specs.Faults.{is_other, first_other}
 
 pub first_joined : (xs ys : List AttributeItem) → first_other (xs ++ ys) ≡ option_or (first_other xs) (first_other ys)
 first_joined [] ys = refl
@@ -14,28 +12,6 @@ first_joined (a ∷ xs) ys = by (is_other a) (first_joined xs ys)
     by : (b : Bool) → first_other (xs ++ ys) ≡ option_or (first_other xs) (first_other ys) → cond b (Some a.span) (first_other (xs ++ ys)) ≡ option_or (cond b (Some a.span) (first_other xs)) (first_other ys)
     by true h = refl
     by false h = h
-
-pub first_mixed-joined : (xs ys : List VariantItem) → first_mixed (xs ++ ys) ≡ option_or (first_mixed xs) (first_mixed ys)
-first_mixed-joined [] ys = refl
-first_mixed-joined (v ∷ xs) ys = by (is_unit v.fields) (first_mixed-joined xs ys)
-  where
-    by : (b : Bool) → first_mixed (xs ++ ys) ≡ option_or (first_mixed xs) (first_mixed ys) → cond b (first_mixed (xs ++ ys)) (Some v.ident.span) ≡ option_or (cond b (first_mixed xs) (Some v.ident.span)) (first_mixed ys)
-    by true h = h
-    by false h = refl
-
--- where there is neither, there is not the second
-pub none-second : (o p : Option Span) → option_or o p ≡ None → p ≡ None
-none-second None p e = e
-none-second (Some s) p e = cc
-
--- where there is no variant with fields, all are units
-pub units-alone : (vs : List VariantItem) → first_mixed vs ≡ None → are_units vs ≡ true
-units-alone [] h = refl
-units-alone (v ∷ vs) h = by (is_unit v.fields) h (units-alone vs)
-  where
-    by : (b : Bool) → cond b (first_mixed vs) (Some v.ident.span) ≡ None → (first_mixed vs ≡ None → are_units vs ≡ true) → (b && are_units vs) ≡ true
-    by true h later = later h
-    by false h later = cc
 
 -- the first of a list is that of its first item, or else that of the others
 module _ {A : Type 0} (first : List A → Option Span) (one : A → Option Span) (split : (x : A) (xs : List A) → first (x ∷ xs) ≡ option_or (one x) (first xs)) where

@@ -71,7 +71,7 @@ facts_more P u items i item l is h p =
     subst (AllByRecursion P) (sym (ap (map u) (take_more items i item l) ∙ map_push u (take i items) (get_or items i item)))
     (all-push P (map u (take i items)) (u (get_or items i item)) h (subst (λ x. P (u x)) is p))
 
-all-append : {A : Type 0} (P : A → Type 0) (xs more : List A) → AllByRecursion P xs → AllByRecursion P more → AllByRecursion P (xs ++ more)
+pub all-append : {A : Type 0} (P : A → Type 0) (xs more : List A) → AllByRecursion P xs → AllByRecursion P more → AllByRecursion P (xs ++ more)
 all-append P [] more h g = g
 all-append P (x ∷ xs) more h g = (h.0, all-append P xs more h.1 g)
 

@@ -4,5 +4,6 @@ pub mod Growing
 pub mod Members
 pub mod Rules
 pub mod Texts
+pub mod EnumLaws
 pub mod Within
 pub mod Faultless

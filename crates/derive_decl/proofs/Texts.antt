@@ -1,5 +1,5 @@
 -- The texts of identifiers, and the names of variants.
-use Rattle.std.proofs.Common.{ℕ, List, [], ◌∷◌, ◌++◌, map, Option, Some, None, option_map, option_and_then, ◌≡◌, ◌∙◌, refl, ap}
+use Rattle.std.proofs.Common.{ℕ, List, [], ◌∷◌, ◌++◌, map, Option, Some, None, option_map, option_and_then, ◌≡◌, ◌∙◌, refl, ap, subst}
 use Rattle.std.proofs.lemmas.Option.{none-some, same_Some}
 use Rattle.diag.specs.Refusal.{RefusesNone}
 use Rattle.diag.specs.declared.error.DeriveError.{DeriveError}
@@ -45,3 +45,6 @@ told-twice External xs e twice = twice
 told-twice (Internal tag) xs e twice = twice
 told-twice (Adjacent tag content) xs e twice = twice
 told-twice Untagged xs e twice = absurd (none-twice e twice)
+
+pub untagged-twice : (tagging : Tagging) (xs : List Ident) (e : DeriveError) → tagging ≡ Untagged → IsGivenTwice (telling tagging xs) e → ⊥
+untagged-twice tagging xs e is twice = none-twice e (subst (λ t. IsGivenTwice (telling t xs) e) is twice)

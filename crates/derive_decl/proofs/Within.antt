@@ -1,5 +1,5 @@
 -- What the resolved declarations of all declarations say: their names, and that each place is within them.
-use Rattle.std.proofs.Common.{ℕ, suc, ◌<◌, List, [], ◌∷◌, Option, Some, None, option_map, option_and_then, Bool, true, false, cond, bytes_eq, length, ◌≡◌, refl, ap, sym, subst, ◌∙◌, arith}
+use Rattle.std.proofs.Common.{ℕ, suc, ◌<◌, List, [], ◌∷◌, ◌++◌, Option, Some, None, option_map, option_and_then, Bool, true, false, cond, bytes_eq, length, ◌≡◌, refl, ap, sym, subst, ◌∙◌, arith}
 use Rattle.std.proofs.lemmas.Option.{none-some, same_Some}
 use Rattle.texts.specs.Names.{place_in}
 use Rattle.diag.specs.declared.rename_rule.RenameRule.{RenameRule}
@@ -12,11 +12,11 @@ use Rattle.syntax.specs.Items.{FieldItem, FieldItems, named, unnamed, unit, Vari
 use Rattle.open_types.specs.Open.{Open}
 use Rattle.resolving.specs.Resolved.{type_of, ResolvedAreWithin}
 use Rattle.scopes.specs.Names.{declared_names}
-use Rattle.shapes.specs.Declarations.{MemberOf, FormOf, named_fields, unnamed_fields, no_fields, BodyOf, fields, units, DeclarationOf, member_types, types_of, body_types, declaration_names, TypesWithin, AreWithin}
+use Rattle.shapes.specs.Declarations.{MemberOf, FormOf, named_fields, unnamed_fields, no_fields, VariantOf, BodyOf, fields, units, variants, DeclarationOf, member_types, types_of, variant_types, body_types, declaration_names, TypesWithin, AreWithin}
 use Rattle.shapes.specs.declared.tagging.Tagging.{Tagging}
-use Rattle.derive_decl.specs.Variants.{tagging_in, are_units, kept_variants, variant_name}
+use Rattle.derive_decl.specs.Variants.{tagging_in, are_units, is_tagged, kept_variants, variant_name}
 use Rattle.derive_decl.specs.Fields.{FieldRules, field_rules, kept, written_name}
-use Rattle.derive_decl.specs.Resolved.{Around, around_of, all_of, member_from, member_as, member_of, form_of, units_of, body_of, declaration_from, resolved_of}
+use Rattle.derive_decl.specs.Resolved.{Around, around_of, all_of, member_from, member_as, member_of, form_of, variant_from, variant_of, units_of, mixed_of, enum_of, body_of, declaration_from, resolved_of}
 use Rattle.derive_decl.specs.Whole.{resolved_declarations}
 
 -- ---- results that may be missing
@@ -111,18 +111,47 @@ module _ (around : Around) where
         let m = mapped unnamed_fields (all_of (λ (g : FieldItem). type_of around.place_of g.ty) (f ∷ fs)) form e in subst (λ x. TypesWithin n (types_of x)) m.2 (types_within (f ∷ fs) m.0 m.1)
     form_within rules unit form e = subst (λ f. TypesWithin n (types_of f)) (same_Some no_fields form e) tt
 
-    units_within : (rule : Option RenameRule) (vs : List VariantItem) (tagging : Option Tagging) (body : BodyOf) → option_and_then (units_of around.rows rule vs) tagging ≡ Some body → TypesWithin n (body_types body)
-    units_within rule vs None body e = absurd (none-some body e)
-    units_within rule vs (Some tagging) body e = by (are_units vs) e
+    both_within : (ts us : List Open) → TypesWithin n ts → TypesWithin n us → TypesWithin n (ts ++ us)
+    both_within [] us h g = g
+    both_within (t ∷ ts) us h g = (h.0, both_within ts us h.1 g)
+
+    -- the form of a variant is that of its fields
+    variant_within : (rule : Option RenameRule) (tagging : Tagging) (v : VariantItem) (x : VariantOf) → variant_of around rule tagging v ≡ Some x → TypesWithin n (types_of x.form)
+    variant_within rule tagging v x e = by (variant_name around.rows rule tagging v) e
       where
-        by : (b : Bool) → cond b (option_map (units tagging) (all_of (variant_name around.rows rule tagging) (kept_variants vs))) None ≡ Some body → TypesWithin n (body_types body)
+        by : (o : Option (List ℕ)) → option_and_then (λ name. option_map (variant_from v name) (form_of around (field_rules (serde_items v.attrs)) v.fields)) o ≡ Some x → TypesWithin n (types_of x.form)
+        by None h = absurd (none-some x h)
+        by (Some name) h =
+            let m = mapped (variant_from v name) (form_of around (field_rules (serde_items v.attrs)) v.fields) x h in
+            subst (λ (y : VariantOf). TypesWithin n (types_of y.form)) m.2 (form_within (field_rules (serde_items v.attrs)) v.fields m.0 m.1)
+
+    variants_within : (rule : Option RenameRule) (tagging : Tagging) (vs : List VariantItem) (xs : List VariantOf) → all_of (variant_of around rule tagging) vs ≡ Some xs → TypesWithin n (variant_types xs)
+    variants_within rule tagging [] xs e = subst (λ ys. TypesWithin n (variant_types ys)) (same_Some [] xs e) tt
+    variants_within rule tagging (v ∷ vs) xs e =
+        let j = joined (variant_of around rule tagging v) (all_of (variant_of around rule tagging) vs) xs e in
+        subst (λ ys. TypesWithin n (variant_types ys)) j.4 (both_within (types_of j.0.form) (variant_types j.1) (variant_within rule tagging v j.0 j.2) (variants_within rule tagging vs j.1 j.3))
+
+    mixed_within : (rule : Option RenameRule) (vs : List VariantItem) (tagging : Tagging) (body : BodyOf) → mixed_of around rule vs tagging ≡ Some body → TypesWithin n (body_types body)
+    mixed_within rule vs tagging body e = by (is_tagged tagging) e
+      where
+        by : (b : Bool) → cond b None (option_map (variants tagging) (all_of (variant_of around rule tagging) (kept_variants vs))) ≡ Some body → TypesWithin n (body_types body)
+        by true h = absurd (none-some body h)
+        by false h =
+            let m = mapped (variants tagging) (all_of (variant_of around rule tagging) (kept_variants vs)) body h in
+            subst (λ x. TypesWithin n (body_types x)) m.2 (variants_within rule tagging (kept_variants vs) m.0 m.1)
+
+    enum_within : (rule : Option RenameRule) (vs : List VariantItem) (tagging : Option Tagging) (body : BodyOf) → option_and_then (enum_of around rule vs) tagging ≡ Some body → TypesWithin n (body_types body)
+    enum_within rule vs None body e = absurd (none-some body e)
+    enum_within rule vs (Some tagging) body e = by (are_units vs) e
+      where
+        by : (b : Bool) → cond b (units_of around rule vs tagging) (mixed_of around rule vs tagging) ≡ Some body → TypesWithin n (body_types body)
         by true h = subst (λ x. TypesWithin n (body_types x)) (mapped (units tagging) (all_of (variant_name around.rows rule tagging) (kept_variants vs)) body h).2 tt
-        by false h = absurd (none-some body h)
+        by false h = mixed_within rule vs tagging body h
 
     body_within : (items : List SerdeItem) (b : BodyItem) (body : BodyOf) → body_of around items b ≡ Some body → TypesWithin n (body_types body)
     body_within items (struct_body fs) body e =
         let m = mapped fields (form_of around (field_rules items) fs) body e in subst (λ x. TypesWithin n (body_types x)) m.2 (form_within (field_rules items) fs m.0 m.1)
-    body_within items (enum_body vs) body e = units_within (rename_rule items) vs (tagging_in items) body e
+    body_within items (enum_body vs) body e = enum_within (rename_rule items) vs (tagging_in items) body e
 
     are_within : (ds : List DeclaredItem) (ss : List DeclarationOf) → all_of (resolved_of around) ds ≡ Some ss → AreWithin n ss
     are_within [] ss e = subst (AreWithin n) (same_Some [] ss e) tt

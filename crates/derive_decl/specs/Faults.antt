@@ -1,7 +1,6 @@
--- Why a declaration has no schema: an attribute or a variant that nothing is derived from, serde's items that contradict each other or name a rename rule that there is not, a name that has no row or that two fields or variants have, a type that stands for nothing or is too large, a form of unnamed fields without a field.
-use Rattle.std.specs.Prelude.{◌≡◌, ◌⊎◌, ◌||◌, ℕ, List, [], ◌∷◌, ◌++◌, Bool, cond, Option, Some, None, Ok, codes}
+-- Why a declaration has no schema: an attribute that nothing is derived from, serde's items that contradict each other or name a rename rule that there is not, a name that has no row or that two fields or variants have, a type that stands for nothing or is too large, a form of unnamed fields without a field.
+use Rattle.std.specs.Prelude.{◌≡◌, ◌⊎◌, ◌||◌, ℕ, List, [], ◌∷◌, ◌++◌, Bool, true, false, cond, Option, Some, None, Ok, codes}
 use Rattle.std.specs.List.{flat_map}
-use Rattle.std.specs.Option.{option_or}
 use Rattle.diag.specs.Refusal.{IsRefusal, IsSyntaxRefusal, RefusesNone}
 use Rattle.diag.specs.declared.error.DeriveError.{DeriveError}
 use Rattle.diag.specs.declared.kind.Kind.TheVariants.{MissingRow, Arity, SerdeTag}
@@ -24,7 +23,7 @@ use Rattle.resolving.specs.Resolved.{Fault, IsFault, IsRefusedFor}
 use Rattle.scopes.specs.Names.{IsGivenTwice}
 use Rattle.shapes.specs.declared.tagging.Tagging.{Tagging}
 use Rattle.shapes.specs.declared.tagging.Tagging.TheVariants.{External, Internal, Adjacent, Untagged}
-use Rattle.derive_decl.specs.Variants.{tagging_in, is_unit, value_of_variant, kept_variants, telling_idents}
+use Rattle.derive_decl.specs.Variants.{tagging_in, are_units, is_tagged, value_of_variant, kept_variants, telling_idents}
 use Rattle.derive_decl.specs.Fields.{FieldRules, field_rules, value_of, kept, name_by, written_idents}
 use Rattle.derive_decl.specs.Resolved.{Around, around_of}
 
@@ -51,13 +50,6 @@ attributes_in d = attributes_with d.attrs d.body
 abbrev pub attributes_among : List DeclaredItem → List AttributeItem
 attributes_among ds = flat_map attributes_in ds
 
-abbrev pub variants_in : BodyItem → List VariantItem
-variants_in (struct_body fs) = []
-variants_in (enum_body vs) = vs
-
-abbrev pub variants_among : List DeclaredItem → List VariantItem
-variants_among ds = flat_map (λ d. variants_in d.body) ds
-
 -- an attribute of `schema` or `repr`, or a serde list that flattens: nothing is derived from these
 abbrev pub is_other : AttributeItem → Bool
 is_other a = is_word (codes "schema") a.path || is_word (codes "repr") a.path || has_item (codes "flatten") a.items
@@ -67,18 +59,6 @@ abbrev pub first_other : List AttributeItem → Option Span
 first_other [] = None
 first_other (a ∷ others) = cond (is_other a) (Some a.span) (first_other others)
 
--- where the name of the first variant stands that has fields
-abbrev pub first_mixed : List VariantItem → Option Span
-first_mixed [] = None
-first_mixed (v ∷ vs) = cond (is_unit v.fields) (first_mixed vs) (Some v.ident.span)
-
--- where nothing is derived: at the first of these attributes, or else at the first variant with fields
-abbrev pub underivable_with : List AttributeItem → BodyItem → Option Span
-underivable_with attrs body = option_or (first_other (attributes_with attrs body)) (first_mixed (variants_in body))
-
-abbrev pub underivable_among : List DeclaredItem → Option Span
-underivable_among ds = option_or (first_other (attributes_among ds)) (first_mixed (variants_among ds))
-
 abbrev pub fieldless_message : List ℕ
 fieldless_message = codes "a tuple form without a field"
 
@@ -87,9 +67,9 @@ row_message rule name = codes "no row for " ++ (name_of rule ++ (codes " of " ++
 
 -- ---- the answers
 
--- the error refuses what stands at the place, where there is one
-abbrev pub IsUnderivable : Option Span → DeriveError → Type 0
-IsUnderivable place e = (span : Span) × (place ≡ Some span) × IsSyntaxRefusal span e
+-- the error refuses an attribute that nothing is derived from, the first of them
+abbrev pub IsUnderivable : List AttributeItem → DeriveError → Type 0
+IsUnderivable attrs e = (span : Span) × (first_other attrs ≡ Some span) × IsSyntaxRefusal span e
 
 -- the error refuses the field's type
 abbrev pub IsFaultyType : Around → FieldItem → DeriveError → Type 0
@@ -140,31 +120,46 @@ IsFaultyTagging items x e =
     ⊎ ((content : List ℕ) × (representation items ≡ Ok (UnfinishedAdjacentlyTagged content)) × RefusesNone (IsContainerRefusal items) × IsRefusal SerdeTag x.span tagless_message e)
 
 -- the error refuses the variant's name; that of an untagged enum needs no row
-abbrev pub IsFaultyVariant : List RenameRow → Option RenameRule → Tagging → VariantItem → DeriveError → Type 0
-IsFaultyVariant rows rule Untagged v e = ⊥
-IsFaultyVariant rows rule External v e = IsUnwritten Variant rows rule (value_of_variant v) v.ident e
-IsFaultyVariant rows rule (Internal tag) v e = IsUnwritten Variant rows rule (value_of_variant v) v.ident e
-IsFaultyVariant rows rule (Adjacent tag content) v e = IsUnwritten Variant rows rule (value_of_variant v) v.ident e
+abbrev pub IsUnnamed : List RenameRow → Option RenameRule → Tagging → VariantItem → DeriveError → Type 0
+IsUnnamed rows rule Untagged v e = ⊥
+IsUnnamed rows rule External v e = IsUnwritten Variant rows rule (value_of_variant v) v.ident e
+IsUnnamed rows rule (Internal tag) v e = IsUnwritten Variant rows rule (value_of_variant v) v.ident e
+IsUnnamed rows rule (Adjacent tag content) v e = IsUnwritten Variant rows rule (value_of_variant v) v.ident e
 
--- the error refuses the variants that are kept: the name of one, or a name that two are told by
-abbrev pub AreFaultyVariants : List RenameRow → Option RenameRule → Tagging → List VariantItem → DeriveError → Type 0
-AreFaultyVariants rows rule tagging vs e = Somewhere (λ v. IsFaultyVariant rows rule tagging v e) (kept_variants vs) ⊎ IsGivenTwice (telling_idents rows rule tagging (kept_variants vs)) e
+-- the error refuses the name of one of the variants that are kept, or one that two are told by
+abbrev pub AreUnnamed : List RenameRow → Option RenameRule → Tagging → List VariantItem → DeriveError → Type 0
+AreUnnamed rows rule tagging vs e = Somewhere (λ v. IsUnnamed rows rule tagging v e) (kept_variants vs) ⊎ IsGivenTwice (telling_idents rows rule tagging (kept_variants vs)) e
+
+-- the error refuses the variant: its name, or its fields
+abbrev pub IsFaultyVariant : Around → Option RenameRule → Tagging → VariantItem → DeriveError → Type 0
+IsFaultyVariant around rule tagging v e = IsUnnamed around.rows rule tagging v e ⊎ AreFaulty around (serde_items v.attrs) v.ident v.fields e
+
+-- the error refuses the enum of the name, of which a variant has fields, since a tag tells them
+abbrev pub IsUnbuilt : Ident → Tagging → List VariantItem → DeriveError → Type 0
+IsUnbuilt x tagging vs e = (are_units vs ≡ false) × (is_tagged tagging ≡ true) × IsSyntaxRefusal x.span e
+
+-- the error refuses the variants that are kept: one of them, or a name that two are told by
+abbrev pub AreFaultyVariants : Around → Option RenameRule → Tagging → List VariantItem → DeriveError → Type 0
+AreFaultyVariants around rule tagging vs e =
+    Somewhere (λ v. IsFaultyVariant around rule tagging v e) (kept_variants vs) ⊎ IsGivenTwice (telling_idents around.rows rule tagging (kept_variants vs)) e
 
 -- the error refuses the enum of the name: serde's items before it, or its variants
-abbrev pub IsFaultyEnum : List RenameRow → List SerdeItem → Ident → List VariantItem → DeriveError → Type 0
-IsFaultyEnum rows items x vs e = IsFaultyTagging items x e ⊎ ((tagging : Tagging) × (tagging_in items ≡ Some tagging) × AreFaultyVariants rows (rename_rule items) tagging vs e)
+abbrev pub IsFaultyEnum : Around → List SerdeItem → Ident → List VariantItem → DeriveError → Type 0
+IsFaultyEnum around items x vs e =
+    IsFaultyTagging items x e
+    ⊎ ((tagging : Tagging) × (tagging_in items ≡ Some tagging) × (IsUnbuilt x tagging vs e ⊎ AreFaultyVariants around (rename_rule items) tagging vs e))
 
 -- ---- declarations
 
 -- the error refuses the body of the declaration of the name, before which serde's items stand
 abbrev pub IsFaultyBody : Around → List SerdeItem → Ident → BodyItem → DeriveError → Type 0
 IsFaultyBody around items x (struct_body fs) e = AreFaulty around items x fs e
-IsFaultyBody around items x (enum_body vs) e = IsFaultyEnum around.rows items x vs e
+IsFaultyBody around items x (enum_body vs) e = IsFaultyEnum around items x vs e
 
--- the error refuses the declaration of these attributes and the name: where nothing is derived, or else for its body
+-- the error refuses the declaration of these attributes and the name: for an attribute that nothing is derived from, or else for its body
 abbrev pub IsFaultyDeclaration : Around → List AttributeItem → Ident → BodyItem → DeriveError → Type 0
 IsFaultyDeclaration around attrs x body e =
-    IsUnderivable (underivable_with attrs body) e ⊎ ((underivable_with attrs body ≡ None) × IsFaultyBody around (serde_items attrs) x body e)
+    IsUnderivable (attributes_with attrs body) e ⊎ ((first_other (attributes_with attrs body) ≡ None) × IsFaultyBody around (serde_items attrs) x body e)
 
 abbrev pub IsFaultyItem : Around → DeclaredItem → DeriveError → Type 0
 IsFaultyItem around d e = IsFaultyDeclaration around d.attrs d.ident d.body e

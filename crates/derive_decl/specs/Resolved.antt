@@ -12,13 +12,13 @@ use Rattle.syntax.specs.Items.{FieldItem, FieldItems, named, unnamed, unit, Vari
 use Rattle.open_types.specs.Open.{Open}
 use Rattle.shapes.specs.declared.remarks.Remarks.{Remarks}
 use Rattle.shapes.specs.declared.tagging.Tagging.{Tagging}
-use Rattle.shapes.specs.Declarations.{MemberOf, FormOf, named_fields, unnamed_fields, no_fields, BodyOf, fields, units, DeclarationOf}
+use Rattle.shapes.specs.Declarations.{MemberOf, FormOf, named_fields, unnamed_fields, no_fields, VariantOf, BodyOf, fields, units, variants, DeclarationOf}
 use Rattle.open_types.specs.Open as types
 use Rattle.resolving.specs.Resolved.{type_of}
 use Rattle.scopes.specs.Names.{place_among}
 use Rattle.scopes.specs.Descriptions.{said}
 use Rattle.derive_decl.specs.Fields.{is_deprecated, FieldRules, field_rules, value_of, kept, written_name}
-use Rattle.derive_decl.specs.Variants.{tagging_in, are_units, kept_variants, variant_name}
+use Rattle.derive_decl.specs.Variants.{tagging_in, are_units, is_tagged, kept_variants, variant_name}
 
 -- null stands for the type
 abbrev pub is_option : Open → Bool
@@ -81,14 +81,30 @@ form_of around rules (unnamed []) = None
 form_of around rules (unnamed (f ∷ fs)) = option_map unnamed_fields (all_of (λ g. type_of around.place_of g.ty) (f ∷ fs))
 form_of around rules unit = Some no_fields
 
--- an enum of which no variant has fields, where each name that is needed has its row
-abbrev pub units_of : List RenameRow → Option RenameRule → List VariantItem → Tagging → Option BodyOf
-units_of rows rule vs tagging = cond (are_units vs) (option_map (units tagging) (all_of (variant_name rows rule tagging) (kept_variants vs))) None
+-- a variant of this name and these fields
+abbrev pub variant_from : VariantItem → List ℕ → FormOf → VariantOf
+variant_from v name form = record { name = name; remarks = remarks_of v.attrs; form = form }
+
+-- what a variant is resolved to, where its name has the row that it needs and its fields have a form; serde's items before it are the rules of its fields
+abbrev pub variant_of : Around → Option RenameRule → Tagging → VariantItem → Option VariantOf
+variant_of around rule tagging v =
+    option_and_then (λ name. option_map (variant_from v name) (form_of around (field_rules (serde_items v.attrs)) v.fields)) (variant_name around.rows rule tagging v)
+
+-- an enum of which no variant has fields, by the names of its variants
+abbrev pub units_of : Around → Option RenameRule → List VariantItem → Tagging → Option BodyOf
+units_of around rule vs tagging = option_map (units tagging) (all_of (variant_name around.rows rule tagging) (kept_variants vs))
+
+-- an enum of which a variant has fields, where no tag tells them
+abbrev pub mixed_of : Around → Option RenameRule → List VariantItem → Tagging → Option BodyOf
+mixed_of around rule vs tagging = cond (is_tagged tagging) None (option_map (variants tagging) (all_of (variant_of around rule tagging) (kept_variants vs)))
+
+abbrev pub enum_of : Around → Option RenameRule → List VariantItem → Tagging → Option BodyOf
+enum_of around rule vs tagging = cond (are_units vs) (units_of around rule vs tagging) (mixed_of around rule vs tagging)
 
 -- the body before which serde's items stand
 abbrev pub body_of : Around → List SerdeItem → BodyItem → Option BodyOf
 body_of around items (struct_body fs) = option_map fields (form_of around (field_rules items) fs)
-body_of around items (enum_body vs) = option_and_then (units_of around.rows (rename_rule items) vs) (tagging_in items)
+body_of around items (enum_body vs) = option_and_then (enum_of around (rename_rule items) vs) (tagging_in items)
 
 -- what a declaration is resolved to, where its body is to something
 abbrev pub declaration_from : List AttributeItem → Ident → BodyOf → DeclarationOf

@@ -39,9 +39,16 @@ is_unit (named fs) = false
 is_unit (unnamed fs) = false
 is_unit unit = true
 
--- no variant has fields, those that serde skips counted
+-- no variant has fields, skipped ones too
 abbrev pub are_units : List VariantItem → Bool
 are_units vs = list_all (λ v. is_unit v.fields) vs
+
+-- a tag tells the variant
+abbrev pub is_tagged : Tagging → Bool
+is_tagged External = false
+is_tagged (Internal tag) = true
+is_tagged (Adjacent tag content) = true
+is_tagged Untagged = false
 
 -- what serde's items before a variant say of it
 abbrev pub value_of_variant : VariantItem → SerdeValue
@@ -54,7 +61,7 @@ is_kept_variant v = not (value_of_variant v).skip
 abbrev pub kept_variants : List VariantItem → List VariantItem
 kept_variants vs = filter is_kept_variant vs
 
--- the name of a variant in JSON, by the enum's rule; one of an untagged enum is told by none, so it keeps its identifier
+-- the name of a variant in JSON, by the enum's rule; that of an untagged enum stands nowhere, so it needs no row
 abbrev pub variant_name : List RenameRow → Option RenameRule → Tagging → VariantItem → Option (List ℕ)
 variant_name rows rule Untagged v = Some v.ident.text
 variant_name rows rule External v = name_by Variant rows rule (value_of_variant v) v.ident

@@ -1,5 +1,5 @@
 -- What the program's resolved declarations are, and where their names are known.
-use Rattle.std.specs.Prelude.{List, map}
+use Rattle.std.specs.Prelude.{List, Bool, true, false, map}
 use Rattle.attributes.specs.Attributes.{AttributeItem, attribute_view, serde_items}
 use Rattle.attributes.specs.declared.serde_item.SerdeItem.{SerdeItem}
 use Rattle.open_types.specs.Open.{open_view}
@@ -7,7 +7,9 @@ use Rattle.scopes.specs.Scopes.{declared_in}
 use Rattle.scopes.specs.declared.container.Container.{Container}
 use Rattle.scopes.specs.Names.{texts}
 use Rattle.shapes.specs.declared.remarks.Remarks.{Remarks}
-use Rattle.shapes.specs.Declarations.{MemberOf, FormOf, named_fields, unnamed_fields, no_fields, BodyOf, fields, units, DeclarationOf}
+use Rattle.shapes.specs.declared.tagging.Tagging.{Tagging}
+use Rattle.shapes.specs.declared.tagging.Tagging.TheVariants.{External, Untagged}
+use Rattle.shapes.specs.Declarations.{MemberOf, FormOf, named_fields, unnamed_fields, no_fields, VariantOf, BodyOf, fields, units, variants, DeclarationOf}
 use Rattle.derive_decl.specs.Resolved.{Around, around_of}
 use Rattle.derive_decl.specs.declared.member.Member.{Member}
 use Rattle.derive_decl.specs.declared.root.Root.{Root}
@@ -16,6 +18,10 @@ use Rattle.derive_decl.specs.declared.unnamed_struct.UnnamedStructSchema.{Unname
 use Rattle.derive_decl.specs.declared.form_schema.FormSchema.{FormSchema}
 use Rattle.derive_decl.specs.declared.form_schema.FormSchema.TheVariants as forms
 use Rattle.derive_decl.specs.declared.plain_enum.PlainEnum.{PlainEnum}
+use Rattle.derive_decl.specs.declared.mixed_enum.MixedEnum.{MixedEnum}
+use Rattle.derive_decl.specs.declared.mixed_enum.MixedEnumVariant.{MixedEnumVariant}
+use Rattle.derive_decl.specs.declared.enum_schema.EnumSchema.{EnumSchema}
+use Rattle.derive_decl.specs.declared.enum_schema.EnumSchema.TheVariants as enums
 use Rattle.derive_decl.specs.declared.schema_variant.SchemaVariant.{SchemaVariant}
 use Rattle.derive_decl.specs.declared.schema_variant.SchemaVariant.TheVariants as bodies
 use Rattle.derive_decl.specs.declared.resolved.Resolved.{Resolved}
@@ -53,13 +59,32 @@ form_remarks (forms.Named s) = s.remarks
 form_remarks (forms.Unnamed s) = s.remarks
 form_remarks (forms.Unit s) = s.remarks
 
+abbrev pub variant_schema_view : MixedEnumVariant → VariantOf
+variant_schema_view x = record { name = x.ident.text; remarks = form_remarks x.form; form = form_view x.form }
+
+-- how variants that no tag tells are told
+abbrev pub untold : Bool → Tagging
+untold true = Untagged
+untold false = External
+
+abbrev pub mixed_view : MixedEnum → BodyOf
+mixed_view e = variants (untold e.untagged) (map variant_schema_view e.variants)
+
+abbrev pub enum_view : EnumSchema → BodyOf
+enum_view (enums.Plain e) = plain_view e
+enum_view (enums.Mixed e) = mixed_view e
+
+abbrev pub enum_remarks : EnumSchema → Remarks
+enum_remarks (enums.Plain e) = e.remarks
+enum_remarks (enums.Mixed e) = e.remarks
+
 abbrev pub schema_view : SchemaVariant → BodyOf
 schema_view (bodies.Struct form) = fields (form_view form)
-schema_view (bodies.Enum e) = plain_view e
+schema_view (bodies.Enum e) = enum_view e
 
 abbrev pub schema_remarks : SchemaVariant → Remarks
 schema_remarks (bodies.Struct form) = form_remarks form
-schema_remarks (bodies.Enum e) = e.remarks
+schema_remarks (bodies.Enum e) = enum_remarks e
 
 abbrev pub resolved_view : Resolved → DeclarationOf
 resolved_view s = record { name = s.name; remarks = schema_remarks s.body; body = schema_view s.body }

@@ -7,15 +7,15 @@ use Rattle.attributes.specs.Attributes.{AttributeItem, serde_items}
 use Rattle.syntax.specs.Items.{BodyItem, DeclaredItem}
 use Rattle.shapes.specs.Declarations.{DeclarationOf, IsApartBody}
 use Rattle.derive_decl.specs.Resolved.{Around, around_of, all_of, body_of, declaration_from, resolved_of}
-use Rattle.derive_decl.specs.Faults.{underivable_with, IsFaultyBody}
+use Rattle.derive_decl.specs.Faults.{attributes_with, first_other, IsFaultyBody}
 
--- This is what a declaration of these attributes, this name and this body is resolved to: its members or variants have different names, all of it is derived from, and nothing is at fault.
+-- This is what a declaration of these attributes, this name and this body is resolved to: its names are apart, something is derived from each attribute, and nothing is at fault.
 pub record IsResolved (around : Around) (attributes : List AttributeItem) (x : Ident) (body : BodyItem) (of : DeclarationOf) : Type 0 where
   pub resolved : option_map (declaration_from attributes x) (body_of around (serde_items attributes) body) ≡ Some of
   pub apart : IsApartBody of.body
-  pub derivable : underivable_with attributes body ≡ None
+  pub derivable : first_other (attributes_with attributes body) ≡ None
   pub faultless : RefusesNone (IsFaultyBody around (serde_items attributes) x body)
 
--- what all declarations are resolved to, where each type stands for something and each name has its row
+-- what all declarations are resolved to, where each is to something
 abbrev pub resolved_declarations : List RenameRow → List DeclaredItem → Option (List DeclarationOf)
 resolved_declarations rows ds = all_of (resolved_of (around_of rows ds)) ds

@@ -1,11 +1,11 @@
-//! Attributes and variants that nothing is derived from.
+//! Attributes that nothing is derived from.
 
 ghost use Rattle.std.specs.Prelude.{◌≡◌, [], ◌∷◌, ◌++◌, map, IfOk, None, Some};
 ghost use Rattle.std.specs.List.{flat_map};
 ghost use Rattle.diag.specs.Refusal.{Refuses};
 ghost use Rattle.attributes.specs.Attributes.{attribute_view};
 ghost use Rattle.syntax.specs.Items.{field_view, fields_view, variant_view, body_view, declaration_view, declarations_view};
-ghost use Rattle.derive_decl.specs.Faults.{fields_in, attributes_on, attributes_inside, attributes_with, attributes_in, attributes_among, variants_in, variants_among, is_other, first_other, first_mixed, underivable_with, underivable_among, IsUnderivable};
+ghost use Rattle.derive_decl.specs.Faults.{fields_in, attributes_on, attributes_inside, attributes_with, attributes_in, attributes_among, is_other, first_other, IsUnderivable};
 
 use diag::DeriveError;
 use serde_rules::has_item;
@@ -124,76 +124,33 @@ fn first_among(declarations: &[Declaration]) -> Option<Span>
     None
 }
 
-/// Where the name of the variant stands, if it has fields.
-fn mixed(variant: &Variant) -> Option<Span>
-    ensures { result ≡ first_mixed (variant_view variant.now ∷ []) }
-{
-    match &variant.fields {
-        Fields::Named(_) | Fields::Unnamed(_) => Some(variant.ident.span),
-        Fields::Unit => None,
-    }
-}
-
-/// Where the name of the first variant stands that has fields.
-fn first_mixed(variants: &[Variant]) -> Option<Span>
-    ensures { result ≡ first_mixed (map variant_view variants.now) }
-{
-    for variant in variants {
-        if let Some(span) = mixed(variant) {
-            return Some(span);
-        }
-    }
-    None
-}
-
-fn first_mixed_in(body: &Body) -> Option<Span>
-    ensures { result ≡ first_mixed (variants_in (body_view body.now)) }
-{
-    match body {
-        Body::Struct(_) => None,
-        Body::Enum(variants) => first_mixed(variants.as_slice()),
-    }
-}
-
-fn first_mixed_among(declarations: &[Declaration]) -> Option<Span>
-    ensures { result ≡ first_mixed (variants_among (map declaration_view declarations.now)) }
-{
-    for declaration in declarations {
-        if let Some(span) = first_mixed_in(&declaration.body) {
-            return Some(span);
-        }
-    }
-    None
-}
-
-/// Refuses a declaration of these attributes and this body of which nothing is derived: at the first attribute, or else
-/// at the first variant with fields.
+/// Refuses a declaration of these attributes and this body that has an attribute from which nothing is derived, at the
+/// first one.
 pub(crate) fn derivable(
     alloc: Global,
     attributes: &[Attribute],
     body: &Body,
 ) -> Result<(), DeriveError>
-    ensures derivable { IfOk result (λ _. underivable_with (map attribute_view attributes.now)
-        (body_view body.now) ≡ None) }
+    ensures derivable { IfOk result (λ _. first_other
+        (attributes_with (map attribute_view attributes.now) (body_view body.now)) ≡ None) }
     ensures refused { Refuses result (IsUnderivable
-        (underivable_with (map attribute_view attributes.now) (body_view body.now))) }
+        (attributes_with (map attribute_view attributes.now) (body_view body.now))) }
 {
-    match first_with(attributes, body).or(first_mixed_in(body)) {
+    match first_with(attributes, body) {
         Some(span) => Err(DeriveError::syntax(alloc, span)),
         None => Ok(()),
     }
 }
 
-/// Refuses declarations from which nothing is derived, at the first attribute of `schema` or `repr` or serde list with an
-/// item `flatten`, or else at the name of the first variant that has fields. The kind is `Syntax`.
+/// Refuses declarations that have an attribute from which nothing is derived, at the first one: one of `schema` or `repr`,
+/// or a serde list with an item `flatten`. The kind is `Syntax`.
 pub fn only_derivable(alloc: Global, declarations: &Declarations) -> Result<(), DeriveError>
     ensures derivable { IfOk result
-        (λ _. underivable_among (declarations_view declarations.now) ≡ None) }
+        (λ _. first_other (attributes_among (declarations_view declarations.now)) ≡ None) }
     ensures refused { Refuses result
-        (IsUnderivable (underivable_among (declarations_view declarations.now))) }
+        (IsUnderivable (attributes_among (declarations_view declarations.now))) }
 {
-    let declarations = declarations.items.as_slice();
-    match first_among(declarations).or(first_mixed_among(declarations)) {
+    match first_among(declarations.items.as_slice()) {
         Some(span) => Err(DeriveError::syntax(alloc, span)),
         None => Ok(()),
     }

@@ -2,9 +2,11 @@
 #![tactic(auto)]
 
 mod attributed;
+mod enum_schema;
 mod field_term;
 mod form_schema;
 mod member;
+mod mixed_enum;
 mod named_struct;
 mod names;
 mod plain_enum;
@@ -14,14 +16,17 @@ mod resolved;
 mod root;
 mod schema;
 mod schema_variant;
+mod tagged;
 mod unit_struct;
 mod unnamed_struct;
 mod variants;
 mod whole;
 
 pub use attributed::only_derivable;
+pub use enum_schema::EnumSchema;
 pub use form_schema::FormSchema;
 pub use member::Member;
+pub use mixed_enum::{MixedEnum, MixedEnumVariant};
 pub use named_struct::NamedStructSchema;
 pub use plain_enum::PlainEnum;
 pub use resolved::Resolved;

@@ -1,10 +1,12 @@
 ghost use Rattle.std.specs.Prelude.{◌≡◌, map, IfOk};
 ghost use Rattle.open_types.specs.Open.{open_view};
-ghost use Rattle.shapes.specs.Declarations.{member_types, types_of, body_types};
-ghost use Rattle.derive_decl.specs.Views.{member_view, form_view, schema_view, resolved_view};
+ghost use Rattle.shapes.specs.Declarations.{member_types, types_of, variant_types, body_types};
+ghost use Rattle.derive_decl.specs.Views.{member_view, form_view, variant_schema_view, schema_view, resolved_view};
 
+use crate::enum_schema::EnumSchema;
 use crate::form_schema::FormSchema;
 use crate::member::Member;
+use crate::mixed_enum::MixedEnumVariant;
 use crate::schema_variant::SchemaVariant;
 use component::{Term, ToTerm};
 use diag::DeriveError;
@@ -31,23 +33,48 @@ fn member_types(alloc: Global, members: &[Member]) -> Result<List<OpenType>, All
     Ok(types)
 }
 
-fn types_of(alloc: Global, form: FormSchema) -> Result<List<OpenType>, AllocError>
-    ensures { IfOk result (λ ts. map open_view ts ≡ types_of (form_view form)) }
+/// Other types that are equal.
+fn copied_types(alloc: Global, types: &[OpenType]) -> Result<List<OpenType>, AllocError>
+    ensures { IfOk result (λ ts. map open_view ts ≡ map open_view types.now) }
+{
+    let mut copies = List::new(alloc);
+    for ty in types {
+        copies.push(ty.copy(alloc)?)?;
+    }
+    Ok(copies)
+}
+
+fn types_of(alloc: Global, form: &FormSchema) -> Result<List<OpenType>, AllocError>
+    ensures { IfOk result (λ ts. map open_view ts ≡ types_of (form_view form.now)) }
 {
     match form {
         FormSchema::Named(form) => member_types(alloc, form.members.as_slice()),
-        FormSchema::Unnamed(form) => Ok(form.types),
+        FormSchema::Unnamed(form) => copied_types(alloc, form.types.as_slice()),
         FormSchema::Unit(_) => Ok(List::new(alloc)),
     }
 }
 
+fn variant_types(alloc: Global, variants: &[MixedEnumVariant]) -> Result<List<OpenType>, AllocError>
+    ensures { IfOk result
+        (λ ts. map open_view ts ≡ variant_types (map variant_schema_view variants.now)) }
+{
+    let mut types = List::new(alloc);
+    for variant in variants {
+        types.append(types_of(alloc, &variant.form)?)?;
+    }
+    Ok(types)
+}
+
 /// The types of the places, in order.
-pub(crate) fn body_types(alloc: Global, body: SchemaVariant) -> Result<List<OpenType>, AllocError>
-    ensures { IfOk result (λ ts. map open_view ts ≡ body_types (schema_view body)) }
+pub(crate) fn body_types(alloc: Global, body: &SchemaVariant) -> Result<List<OpenType>, AllocError>
+    ensures { IfOk result (λ ts. map open_view ts ≡ body_types (schema_view body.now)) }
 {
     match body {
         SchemaVariant::Struct(form) => types_of(alloc, form),
-        SchemaVariant::Enum(_) => Ok(List::new(alloc)),
+        SchemaVariant::Enum(EnumSchema::Plain(_)) => Ok(List::new(alloc)),
+        SchemaVariant::Enum(EnumSchema::Mixed(mixed)) => {
+            variant_types(alloc, mixed.variants.as_slice())
+        }
     }
 }
 

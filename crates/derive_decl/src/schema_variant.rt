@@ -8,12 +8,12 @@ ghost use Rattle.component.specs.Leaves.{term_view};
 ghost use Rattle.shapes.specs.Declarations.{IsApartBody};
 ghost use Rattle.shapes.specs.Terms.{body_term};
 ghost use Rattle.derive_decl.specs.Resolved.{body_of, remarks_of};
-ghost use Rattle.derive_decl.specs.Faults.{first_mixed, variants_in, underivable_with, IsFaultyBody, IsFaultyDeclaration};
+ghost use Rattle.derive_decl.specs.Faults.{attributes_with, first_other, IsFaultyBody, IsFaultyDeclaration};
 ghost use Rattle.derive_decl.specs.Views.{attributes_of, items_of, known, schema_view, schema_remarks};
 
 use crate::attributed::derivable;
+use crate::enum_schema::EnumSchema;
 use crate::form_schema::{FormSchema, of_fields};
-use crate::plain_enum::PlainEnum;
 use crate::root::Root;
 use component::{Term, ToTerm};
 use diag::DeriveError;
@@ -24,13 +24,12 @@ use syntax::Body;
 #[derive(Debug, Drop)]
 pub enum SchemaVariant {
     Struct(FormSchema),
-    Enum(PlainEnum),
+    Enum(EnumSchema),
 }
 
 /// The body of a declaration, of which each attribute is one that something is derived from.
 fn of_body(alloc: Global, root: &Root<'_>, body: &Body) -> Result<SchemaVariant, DeriveError>
-    requires named { IsNamedBody (body_view body.now) }
-    requires units { first_mixed (variants_in (body_view body.now)) ≡ None }
+    requires { IsNamedBody (body_view body.now) }
     ensures body { IfOk result
         (λ s. body_of (known root.now.container.now) (items_of root.now) (body_view body.now)
         ≡ Some (schema_view s)) }
@@ -48,7 +47,7 @@ fn of_body(alloc: Global, root: &Root<'_>, body: &Body) -> Result<SchemaVariant,
         Body::Struct(fields) => Ok(SchemaVariant::Struct(of_fields(alloc, root, fields)?)),
         Body::Enum(variants) => {
             let variants = variants.as_slice();
-            Ok(SchemaVariant::Enum(PlainEnum::new(alloc, root, variants)?))
+            Ok(SchemaVariant::Enum(EnumSchema::new(alloc, root, variants)?))
         }
     }
 }
@@ -64,7 +63,7 @@ impl SchemaVariant {
             (λ s. schema_remarks s ≡ remarks_of (attributes_of root.now)) }
         ensures apart { IfOk result (λ s. IsApartBody (schema_view s)) }
         ensures derivable { IfOk result
-            (λ _. underivable_with (attributes_of root.now) (body_view body.now) ≡ None) }
+            (λ _. first_other (attributes_with (attributes_of root.now) (body_view body.now)) ≡ None) }
         ensures faultless { IfOk result
             (λ _. RefusesNone
             (IsFaultyBody (known root.now.container.now) (items_of root.now) root.now.ident.now
@@ -84,7 +83,7 @@ impl SchemaVariant {
     {
         match self {
             SchemaVariant::Struct(form) => form.term(alloc),
-            SchemaVariant::Enum(plain) => plain.term(alloc),
+            SchemaVariant::Enum(variants) => variants.term(alloc),
         }
     }
 }

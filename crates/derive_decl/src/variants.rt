@@ -11,13 +11,13 @@ ghost use Rattle.scopes.specs.Names.{texts, IsGivenTwice};
 ghost use Rattle.shapes.specs.Declarations.{telling};
 ghost use Rattle.derive_decl.specs.Variants.{tagging_of, value_of_variant, kept_variants, variant_ident};
 ghost use Rattle.derive_decl.specs.Resolved.{all_of};
-ghost use Rattle.derive_decl.specs.Faults.{IsFaultyVariant, AreFaultyVariants, tagless_message};
+ghost use Rattle.derive_decl.specs.Faults.{IsUnnamed, AreUnnamed, tagless_message};
 
 use crate::names::written_ident;
 use crate::push_some::push_some;
 use configuration::Config;
 use diag::{DeriveError, Kind, RenameRule};
-use scopes::places_of;
+use scopes::{Named, places_of};
 use serde_rules::{SerdeEnumRepr, SerdeValue, VariantRename, parse_value};
 use shapes::Tagging;
 use std::alloc::Global;
@@ -48,7 +48,7 @@ pub(crate) fn tagging_of(
 }
 
 /// The name of a variant that is kept, where its identifier stands; before it serde says `value`.
-fn kept_name(
+pub(crate) fn kept_name(
     alloc: Global,
     config: &Config,
     rule: Option<RenameRule>,
@@ -61,9 +61,9 @@ fn kept_name(
         (λ x. variant_ident config.now.renames rule tagging.now (variant_view variant.now)
         ≡ Some x) }
     ensures faultless { IfOk result (λ _. RefusesNone
-        (IsFaultyVariant config.now.renames rule tagging.now (variant_view variant.now))) }
+        (IsUnnamed config.now.renames rule tagging.now (variant_view variant.now))) }
     ensures refused { Refuses result
-        (IsFaultyVariant config.now.renames rule tagging.now (variant_view variant.now)) }
+        (IsUnnamed config.now.renames rule tagging.now (variant_view variant.now)) }
 {
     match tagging {
         Tagging::Untagged => Ok(variant.ident.copy(alloc)?),
@@ -85,10 +85,10 @@ fn resolve_name(
         (λ x. all_of (variant_ident config.now.renames rule tagging.now)
         (kept_variants (variant_view variant.now ∷ [])) ≡ Some (cons_option x [])) }
     ensures faultless { IfOk result (λ _. AllByRecursion
-        (λ v. RefusesNone (IsFaultyVariant config.now.renames rule tagging.now v))
+        (λ v. RefusesNone (IsUnnamed config.now.renames rule tagging.now v))
         (kept_variants (variant_view variant.now ∷ []))) }
     ensures refused { Refuses result
-        (λ e. Somewhere (λ v. IsFaultyVariant config.now.renames rule tagging.now v e)
+        (λ e. Somewhere (λ v. IsUnnamed config.now.renames rule tagging.now v e)
         (kept_variants (variant_view variant.now ∷ []))) }
 {
     let value = parse_value(alloc, variant.attrs.as_slice())?;
@@ -110,10 +110,10 @@ fn resolve_names(
         (λ xs. all_of (variant_ident config.now.renames rule tagging.now)
         (kept_variants (map variant_view variants.now)) ≡ Some xs) }
     ensures faultless { IfOk result (λ _. AllByRecursion
-        (λ v. RefusesNone (IsFaultyVariant config.now.renames rule tagging.now v))
+        (λ v. RefusesNone (IsUnnamed config.now.renames rule tagging.now v))
         (kept_variants (map variant_view variants.now))) }
     ensures refused { Refuses result
-        (λ e. Somewhere (λ v. IsFaultyVariant config.now.renames rule tagging.now v e)
+        (λ e. Somewhere (λ v. IsUnnamed config.now.renames rule tagging.now v e)
         (kept_variants (map variant_view variants.now))) }
 {
     let mut names = List::new(alloc);
@@ -125,15 +125,22 @@ fn resolve_names(
 }
 
 /// Refuses a name given twice, where names tell variants apart.
-fn told_apart(alloc: Global, tagging: &Tagging, names: &[Ident]) -> Result<(), DeriveError>
-    ensures distinct { IfOk result (λ _. IsDistinct (telling tagging.now (texts names.now))) }
-    ensures once { IfOk result (λ _. RefusesNone (IsGivenTwice (telling tagging.now names.now))) }
-    ensures refused { Refuses result (IsGivenTwice (telling tagging.now names.now)) }
+pub(crate) fn told_apart<T: Named>(
+    alloc: Global,
+    tagging: &Tagging,
+    items: &[T],
+) -> Result<(), DeriveError>
+    ensures distinct { IfOk result
+        (λ _. IsDistinct (telling tagging.now (texts (map T.ident_of items.now)))) }
+    ensures once { IfOk result
+        (λ _. RefusesNone (IsGivenTwice (telling tagging.now (map T.ident_of items.now)))) }
+    ensures refused { Refuses result
+        (IsGivenTwice (telling tagging.now (map T.ident_of items.now))) }
 {
     match tagging {
         Tagging::Untagged => Ok(()),
         Tagging::External | Tagging::Internal { .. } | Tagging::Adjacent { .. } => {
-            let _ = places_of(alloc, names)?;
+            let _ = places_of(alloc, items)?;
             Ok(())
         }
     }
@@ -152,9 +159,9 @@ pub(crate) fn distinct_names(
         (kept_variants (map variant_view variants.now)) ≡ Some xs) }
     ensures distinct { IfOk result (λ xs. IsDistinct (telling tagging.now (texts xs))) }
     ensures faultless { IfOk result (λ _. RefusesNone
-        (AreFaultyVariants config.now.renames rule tagging.now (map variant_view variants.now))) }
+        (AreUnnamed config.now.renames rule tagging.now (map variant_view variants.now))) }
     ensures refused { Refuses result
-        (AreFaultyVariants config.now.renames rule tagging.now (map variant_view variants.now)) }
+        (AreUnnamed config.now.renames rule tagging.now (map variant_view variants.now)) }
 {
     let names = resolve_names(alloc, config, rule, tagging, variants)?;
     told_apart(alloc, tagging, names.as_slice())?;

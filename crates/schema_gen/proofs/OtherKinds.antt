@@ -21,7 +21,7 @@ use Rattle.serde_rules.specs.declared.value.SerdeValue.{SerdeValue}
 use Rattle.serde_rules.specs.Items.{literal_for}
 use Rattle.serde_rules.specs.Container.{TagFault, with_item, rename_rule, rule_named, unknown_rule, IsTagRefusal, IsContainerRefusal}
 use Rattle.written_types.specs.declared.written.Ident.{Ident}
-use Rattle.syntax.specs.Items.{FieldItem, named, unnamed, unit, VariantItem, BodyItem, struct_body, enum_body, DeclaredItem}
+use Rattle.syntax.specs.Items.{FieldItem, FieldItems, named, unnamed, unit, VariantItem, BodyItem, struct_body, enum_body, DeclaredItem}
 use Rattle.scopes.specs.Names.{IsGivenTwice}
 use Rattle.resolving.specs.Resolved.{Fault, unknown_type, wrong_arity, too_large, IsRefusedFor}
 use Rattle.texts.specs.Lists.{Somewhere}
@@ -33,7 +33,7 @@ use Rattle.shapes.specs.declared.tagging.Tagging.TheVariants.{External, Internal
 use Rattle.derive_decl.specs.Fields.{FieldRules, field_rules, value_of, kept}
 use Rattle.derive_decl.specs.Variants.{value_of_variant, kept_variants}
 use Rattle.derive_decl.specs.Resolved.{Around, around_of}
-use Rattle.derive_decl.specs.Faults.{IsUnwritten, IsFaultyType, IsFaultyMember, IsFaultyVariant, IsFaultyBody, IsFaultyItem}
+use Rattle.derive_decl.specs.Faults.{AreFaulty as AreFaultyFields, IsUnwritten, IsFaultyType, IsFaultyMember, IsUnnamed, IsFaultyVariant, IsFaultyBody, IsFaultyItem}
 use Rattle.compose.specs.Bounds.{IsRefusalOf, IsUnbounded}
 use Rattle.compose.specs.Faults.{AreFaulty, AreAtFault, IsBeyond, IsRefused}
 use Rattle.schema_gen.specs.Refusals.{IsRefusedSource}
@@ -96,26 +96,34 @@ module _ (ds : List DiangosticsInner) (first : HasFirst ds (λ d. d.kind ≡ Bad
   member around rules f (inl fault) = typed around f fault
   member around rules f (inr (x, ident, unwritten)) = rowless Field around.rows rules.rule (value_of f) x unwritten
 
-  variant : (rows : List RenameRow) (rule : Option RenameRule) (tagging : Tagging) (v : VariantItem) → IsFaultyVariant rows rule tagging v (Refused ds) → ⊥
-  variant rows rule Untagged v h = h
-  variant rows rule External v h = rowless Variant rows rule (value_of_variant v) v.ident h
-  variant rows rule (Internal tag) v h = rowless Variant rows rule (value_of_variant v) v.ident h
-  variant rows rule (Adjacent tag content) v h = rowless Variant rows rule (value_of_variant v) v.ident h
+  unnamed_variant : (rows : List RenameRow) (rule : Option RenameRule) (tagging : Tagging) (v : VariantItem) → IsUnnamed rows rule tagging v (Refused ds) → ⊥
+  unnamed_variant rows rule Untagged v h = h
+  unnamed_variant rows rule External v h = rowless Variant rows rule (value_of_variant v) v.ident h
+  unnamed_variant rows rule (Internal tag) v h = rowless Variant rows rule (value_of_variant v) v.ident h
+  unnamed_variant rows rule (Adjacent tag content) v h = rowless Variant rows rule (value_of_variant v) v.ident h
 
   twice : (xs : List Ident) → IsGivenTwice xs (Refused ds) → ⊥
   twice xs (x, repeats, is) = other DuplicateName _ _ (λ e. cc) is
 
+  form : (around : Around) (items : List SerdeItem) (x : Ident) (fs : FieldItems) → AreFaultyFields around items x fs (Refused ds) → ⊥
+  form around items x (named fs) (inl h) = disallowed items h
+  form around items x (named fs) (inr (inl h)) = nowhere _ (kept fs) (member around (field_rules items)) h
+  form around items x (named fs) (inr (inr h)) = twice _ h
+  form around items x (unnamed fs) (inl h) = nowhere _ fs (typed around) h
+  form around items x (unnamed fs) (inr (none, is)) = other Arity _ _ (λ e. cc) is
+  form around items x unit h = h
+
+  variant : (around : Around) (rule : Option RenameRule) (tagging : Tagging) (v : VariantItem) → IsFaultyVariant around rule tagging v (Refused ds) → ⊥
+  variant around rule tagging v (inl h) = unnamed_variant around.rows rule tagging v h
+  variant around rule tagging v (inr h) = form around (serde_items v.attrs) v.ident v.fields h
+
   body : (around : Around) (items : List SerdeItem) (x : Ident) (b : BodyItem) → IsFaultyBody around items x b (Refused ds) → ⊥
-  body around items x (struct_body (named fs)) (inl h) = disallowed items h
-  body around items x (struct_body (named fs)) (inr (inl h)) = nowhere _ (kept fs) (member around (field_rules items)) h
-  body around items x (struct_body (named fs)) (inr (inr h)) = twice _ h
-  body around items x (struct_body (unnamed fs)) (inl h) = nowhere _ fs (typed around) h
-  body around items x (struct_body (unnamed fs)) (inr (none, is)) = other Arity _ _ (λ e. cc) is
-  body around items x (struct_body unit) h = h
+  body around items x (struct_body fs) h = form around items x fs h
   body around items x (enum_body vs) (inl (inl h)) = disallowed items h
   body around items x (enum_body vs) (inl (inr (content, is, none, refused))) = other SerdeTag _ _ (λ e. cc) refused
-  body around items x (enum_body vs) (inr (tagging, told, inl h)) = nowhere _ (kept_variants vs) (variant around.rows (rename_rule items) tagging) h
-  body around items x (enum_body vs) (inr (tagging, told, inr h)) = twice _ h
+  body around items x (enum_body vs) (inr (tagging, told, inl (mixed, tagged, refused))) = other Syntax _ _ (λ e. cc) refused
+  body around items x (enum_body vs) (inr (tagging, told, inr (inl h))) = nowhere _ (kept_variants vs) (variant around (rename_rule items) tagging) h
+  body around items x (enum_body vs) (inr (tagging, told, inr (inr h))) = twice _ h
 
   item : (around : Around) (d : DeclaredItem) → IsFaultyItem around d (Refused ds) → ⊥
   item around d (inl (span, first, is)) = other Syntax _ _ (λ e. cc) is

@@ -1,18 +1,18 @@
--- What the schemas of declarations accept: a place accepts what has the shape of its type, a term what has the shape of its declaration.
-use Rattle.std.proofs.Common.{ℕ, suc, drop, length, None, Option, pos, int_le, List, [], ◌∷◌, Bool, true, false, not, ◌&&◌, ◌||◌, cond, Some, IsTrue, bytes_eq, map as map_over, ◌≡◌, ◌≢◌, refl, ap, sym, ◌∙◌}
-use Rattle.std.specs.List.{list_all, list_any}
+-- What the schemas of places and of fields accept: a place what has the shape of its type, fields what has the shape of their form.
+use Rattle.std.proofs.Common.{ℕ, suc, drop, length, None, Option, pos, int_le, List, [], ◌∷◌, Bool, true, false, not, ◌&&◌, ◌||◌, cond, Some, IsTrue, ◌≡◌, ◌≢◌, refl, ap, sym, ◌∙◌}
+use Rattle.std.specs.List.{list_all}
 use Rattle.std.proofs.Math.Dec.{leb-zero, leb-suc-zero, leb-suc-suc}
 use Rattle.acceptance.specs.Acceptance.{others_pass, names_pass}
-use Rattle.acceptance.specs.Json.{Json, Members, null, boolean, number, text, list, map, entries, names, look, same, distinct, on_map, on_list, there, if_there}
+use Rattle.acceptance.specs.Json.{Json, Members, null, boolean, number, text, list, map, entries, names, look, distinct, on_map, on_list, if_there}
 use Rattle.texts.specs.Names.{is_in}
 use Rattle.schema_core.specs.declared.tree.SchemaTypeInner.TheVariants as word
 use Rattle.schema_core.specs.declared.tree.TypeWord.TheVariants.{Any, One}
 use Rattle.schema_core.specs.declared.notes.Notes.{Notes}
-use Rattle.schema_core.specs.Notes.{notes_of, no_notes, where_true, noted, described}
-use Rattle.schema_core.specs.Schema.{SchemaOf, schemas_of, schema_count, property_names}
+use Rattle.schema_core.specs.Notes.{no_notes, noted, described}
+use Rattle.schema_core.specs.Schema.{SchemaOf, schema_count, property_names}
 use Rattle.schema_core.specs.Schema as tree
 use Rattle.schema_core.specs.Form.{array_word}
-use Rattle.schema_core.specs.Meaning.{each_in_order, word_accepts, minimum_accepts, required_accepts, tree_accepts, some_accepts, properties_accept}
+use Rattle.schema_core.specs.Meaning.{each_in_order, word_accepts, minimum_accepts, required_accepts, tree_accepts, properties_accept}
 use Rattle.leaves.specs.declared.leaf.LeafKind.{LeafKind}
 use Rattle.leaves.specs.declared.leaf.LeafKind.TheVariants as kinds
 use Rattle.leaves.specs.Leaves.{kind_of}
@@ -23,17 +23,15 @@ use Rattle.component.specs.Leaves as named_leaf
 use Rattle.schema_core.specs.Objects.{only_word}
 use Rattle.component.specs.Places.{word_of, minimum_of, type_word, one_of_null, or_null, beside, in_place, declared, place, inline_places}
 use Rattle.shapes.specs.declared.remarks.Remarks.{Remarks}
-use Rattle.shapes.specs.Declarations.{MemberOf, FormOf, named_fields, unnamed_fields, no_fields, BodyOf, fields, units, DeclarationOf, member_types, member_names}
-use Rattle.shapes.specs.declared.tagging.Tagging.{Tagging}
-use Rattle.shapes.specs.declared.tagging.Tagging.TheVariants.{External, Internal, Adjacent, Untagged}
-use Rattle.shapes.specs.Shape.{is_null, is_text, is_boolean, is_number, is_list, is_map, reads, type_shape, items_fit, member_fits, no_others, elements_fit, unnamed_shape, form_shape, is_the, has_member, unit_shape, body_shape}
-use Rattle.shapes.specs.Plain.{IsPlainType, ArePlainTypes, AreAllPlain, IsPlainForm, HasOne, IsPlainBody}
-use Rattle.shapes.specs.Terms.{properties_of, required_names, object_of, are_all, alike_term, field_terms, mixed_term, unnamed_term, form_term, texts_schema, tag_alone, units_term, body_term}
-use Rattle.shapes.specs.Meaning.{leaf_shape, TermsAccept}
+use Rattle.shapes.specs.Declarations.{MemberOf, FormOf, named_fields, unnamed_fields, no_fields, DeclarationOf, member_types, member_names}
+use Rattle.shapes.specs.Shape.{is_null, is_text, is_boolean, is_number, is_list, is_map, reads, type_shape, items_fit, member_fits, no_others, elements_fit, unnamed_shape, form_shape}
+use Rattle.shapes.specs.Plain.{IsPlainType, ArePlainTypes, AreAllPlain, IsPlainForm}
+use Rattle.shapes.specs.Terms.{properties_of, required_names, object_of, are_all, alike_term, field_terms, mixed_term, unnamed_term, form_term, remarked}
+use Rattle.shapes.specs.Meaning.{leaf_shape}
 
 -- ---- conditions
 
-and-true : (a : Bool) → (a && true) ≡ a
+pub and-true : (a : Bool) → (a && true) ≡ a
 and-true true = refl
 and-true false = refl
 
@@ -43,7 +41,7 @@ and-swap true false = refl
 and-swap false true = refl
 and-swap false false = refl
 
-and-assoc : (a b c : Bool) → ((a && b) && c) ≡ (a && (b && c))
+pub and-assoc : (a b c : Bool) → ((a && b) && c) ≡ (a && (b && c))
 and-assoc true b c = refl
 and-assoc false b c = refl
 
@@ -76,11 +74,11 @@ and-third false b true d = refl
 and-third false b false d = refl
 
 -- a condition in the middle, taken to the end
-and-last : (a b c : Bool) → (a && (b && c)) ≡ ((a && c) && b)
+pub and-last : (a b c : Bool) → (a && (b && c)) ≡ ((a && c) && b)
 and-last true b c = and-swap b c
 and-last false b c = refl
 
-or-false : (a : Bool) → (a || false) ≡ a
+pub or-false : (a : Bool) → (a || false) ≡ a
 or-false true = refl
 or-false false = refl
 
@@ -143,7 +141,7 @@ module _ {X : Type 0} (says : X → Json → Bool) where
   any-accepts notes null = refl
   any-accepts notes _ = refl
 
-  null-accepts : (notes : Notes) (v : Json) → tree_accepts says (only_word (One word.Null) notes) v ≡ is_null v
+  pub null-accepts : (notes : Notes) (v : Json) → tree_accepts says (only_word (One word.Null) notes) v ≡ is_null v
   null-accepts notes null = refl
   null-accepts notes _ = refl
 
@@ -213,11 +211,11 @@ entries-pass p q [] = refl
 entries-pass p q (e ∷ es) = and-cross (q e.1) (others_pass [] q es) (p (text e.0)) (names_pass p es) ∙ ap (λ b. (p (text e.0) && q e.1) && b) (entries-pass p q es)
 
 -- where other names are denied, each name is among these
-others-denied : (ks : List (List ℕ)) (es : List (List ℕ × Json)) → others_pass ks (λ w. false) es ≡ list_all (λ e. is_in e.0 ks) es
+pub others-denied : (ks : List (List ℕ)) (es : List (List ℕ × Json)) → others_pass ks (λ w. false) es ≡ list_all (λ e. is_in e.0 ks) es
 others-denied ks [] = refl
 others-denied ks (e ∷ es) = (λ i. or-false (is_in e.0 ks) i && others-denied ks es i)
 
-property_names-are : (ms : List MemberOf) → property_names (properties_of ms) ≡ member_names ms
+pub property_names-are : (ms : List MemberOf) → property_names (properties_of ms) ≡ member_names ms
 property_names-are [] = refl
 property_names-are (m ∷ ms) = ap (λ ns. m.name ∷ ns) (property_names-are ms)
 
@@ -239,58 +237,6 @@ member-accepts : (required a p : Bool) (is : List ℕ → Bool) (k : List ℕ) (
     ((a && p) && (list_all is (cond required (k ∷ ks) ks) && true)) ≡ ((not required || is k) && a) && (p && (list_all is ks && true))
 member-accepts true a p is k ks = needed a (is k) p (list_all is ks)
 member-accepts false a p is k ks = not_needed a p (list_all is ks)
-
--- ---- texts and tags
-
-no-one : {A : Type 0} (xs : List A) → list_any (λ x. false) xs ≡ false
-no-one [] = refl
-no-one (x ∷ xs) = no-one xs
-
-every-one : {A : Type 0} (b : Bool) (x : A) (xs : List A) → b ≡ list_any (λ y. b) (x ∷ xs)
-every-one true x xs = refl
-every-one false x xs = sym (no-one xs)
-
-same-texts : (s : List ℕ) (names : List (List ℕ)) → list_any (same (text s)) (map_over text names) ≡ list_any (λ name. is_the name (text s)) names
-same-texts s [] = refl
-same-texts s (name ∷ names) = ap (λ b. bytes_eq s name || b) (same-texts s names)
-
--- a member that passes where it is there, and that is there
-there-is : (k : List ℕ) (p : Json → Bool) (es : List (List ℕ × Json)) → (if_there (look k es) p && is_in k (names es)) ≡ there (look k es) p
-there-is k p [] = refl
-there-is k p (e ∷ es) = by (bytes_eq k e.0) (there-is k p es)
-  where
-    by : (b : Bool) → (if_there (look k es) p && is_in k (names es)) ≡ there (look k es) p → (if_there (cond b (Some e.1) (look k es)) p && (b || is_in k (names es))) ≡ there (cond b (Some e.1) (look k es)) p
-    by true h = and-true (p e.1)
-    by false h = h
-
-module _ {X : Type 0} (says : X → Json → Bool) where
-  texts-accept : (notes : Notes) (ns : List (List ℕ)) (v : Json) → tree_accepts says (texts_schema notes ns) v ≡ list_any (λ name. is_the name v) ns
-  texts-accept notes ns (text s) = and-true (list_any (same (text s)) (map_over text ns)) ∙ same-texts s ns
-  texts-accept notes ns null = sym (no-one ns)
-  texts-accept notes ns (boolean b) = sym (no-one ns)
-  texts-accept notes ns (number n) = sym (no-one ns)
-  texts-accept notes ns (list xs) = sym (no-one ns)
-  texts-accept notes ns (map ms) = sym (no-one ns)
-
-  name-accepts : (name : List ℕ) (v : Json) → tree_accepts says (texts_schema no_notes (name ∷ [])) v ≡ is_the name v
-  name-accepts name v = texts-accept no_notes (name ∷ []) v ∙ or-false (is_the name v)
-
-  tag-accepts : (tag name : List ℕ) (v : Json) → tree_accepts says (tag_alone tag name) v ≡ has_member tag (is_the name) v
-  tag-accepts tag name (map ms) =
-      let at : Bool = if_there (look tag (entries ms)) (tree_accepts says (texts_schema no_notes (name ∷ []))) in
-      let is : Bool = is_in tag (names (entries ms)) in
-      (λ i. and-true at i && (and-true (is && true) ∙ and-true is) i)
-      ∙ there-is tag (tree_accepts says (texts_schema no_notes (name ∷ []))) (entries ms)
-      ∙ (λ i. there (look tag (entries ms)) (λ w. name-accepts name w i))
-  tag-accepts tag name null = refl
-  tag-accepts tag name (boolean b) = refl
-  tag-accepts tag name (number n) = refl
-  tag-accepts tag name (text t) = refl
-  tag-accepts tag name (list xs) = refl
-
-  tags-accept : (tag : List ℕ) (ns : List (List ℕ)) (v : Json) → some_accepts says (schemas_of (map_over (tag_alone tag) ns)) v ≡ list_any (λ name. has_member tag (is_the name) v) ns
-  tags-accept tag [] v = refl
-  tags-accept tag (name ∷ ns) v = λ i. tag-accepts tag name v i || tags-accept tag ns v i
 
 -- ---- places
 
@@ -339,7 +285,7 @@ module _ (ss : List DeclarationOf) (instance : ℕ → Json → Bool) where
   -- ---- named fields
 
   -- the properties of members and the names that are required ask what the members do
-  members-accept : (ms : List MemberOf) → AreAllPlain ss (member_types ms) → (es : List (List ℕ × Json)) →
+  pub members-accept : (ms : List MemberOf) → AreAllPlain ss (member_types ms) → (es : List (List ℕ × Json)) →
       (properties_accept (leaf_shape instance) (properties_of ms) es && (list_all (λ k. is_in k (names es)) (required_names ms) && true)) ≡ list_all (member_fits instance es) ms
   members-accept [] h es = refl
   members-accept (m ∷ ms) h es =
@@ -403,7 +349,7 @@ module _ (ss : List DeclarationOf) (instance : ℕ → Json → Bool) where
       ∙ (λ i. is_list v (λ vs. in_order-accept ts h vs i))
 
   -- one place is the schema itself, several are a list
-  unnamed-accepts : SameIsEqual → (r : Remarks) (ts : List Open) → AreAllPlain ss ts → (v : Json) → tree_accepts (leaf_shape instance) (unnamed_term r ts) v ≡ unnamed_shape instance ts v
+  pub unnamed-accepts : SameIsEqual → (r : Remarks) (ts : List Open) → AreAllPlain ss ts → (v : Json) → tree_accepts (leaf_shape instance) (unnamed_term r ts) v ≡ unnamed_shape instance ts v
   unnamed-accepts same r [] h v = mixed-accepts r [] h v
   unnamed-accepts same r (t ∷ []) h v = place-accepts false false r.deprecated r.description t h.0 v
   unnamed-accepts same r (t ∷ u ∷ us) h v = by (are_all t (u ∷ us)) refl
@@ -415,9 +361,9 @@ module _ (ss : List DeclarationOf) (instance : ℕ → Json → Bool) where
 
   -- ---- declarations
 
-  form-accepts : SameIsEqual → (r : Remarks) (form : FormOf) → IsPlainForm ss form → (v : Json) →
+  pub form-accepts : SameIsEqual → (r : Remarks) (form : FormOf) → IsPlainForm ss form → (v : Json) →
       tree_accepts (leaf_shape instance) (form_term r form) v ≡ form_shape instance form v
-  form-accepts same r (named_fields denies ms) h (map es) = fields-accept denies (noted r.deprecated r.description) ms h es
+  form-accepts same r (named_fields denies ms) h (map es) = fields-accept denies (remarked r) ms h es
   form-accepts same r (named_fields denies ms) h null = refl
   form-accepts same r (named_fields denies ms) h (boolean b) = refl
   form-accepts same r (named_fields denies ms) h (number m) = refl
@@ -425,22 +371,3 @@ module _ (ss : List DeclarationOf) (instance : ℕ → Json → Bool) where
   form-accepts same r (named_fields denies ms) h (list xs) = refl
   form-accepts same r (unnamed_fields ts) h v = unnamed-accepts same r ts h v
   form-accepts same r no_fields h v = absurd h
-
-  -- ---- enums
-
-  units-accept : (r : Remarks) (tagging : Tagging) (names : List (List ℕ)) → HasOne tagging names → (v : Json) →
-      tree_accepts (leaf_shape instance) (units_term r tagging names) v ≡ list_any (λ name. unit_shape tagging name v) names
-  units-accept r External names h v = texts-accept (leaf_shape instance) (noted r.deprecated r.description) names v
-  units-accept r (Internal tag) names h v = tags-accept (leaf_shape instance) tag names v
-  units-accept r (Adjacent tag content) names h v = tags-accept (leaf_shape instance) tag names v
-  units-accept r Untagged [] h v = absurd h
-  units-accept r Untagged (name ∷ names) h v = null-accepts (leaf_shape instance) (notes_of r.description (Some null) (where_true r.deprecated)) v ∙ every-one (is_null v) name names
-
-  body-accepts : SameIsEqual → (r : Remarks) (body : BodyOf) → IsPlainBody ss body → (v : Json) →
-      tree_accepts (leaf_shape instance) (body_term r body) v ≡ body_shape instance body v
-  body-accepts same r (fields form) h v = form-accepts same r form h v
-  body-accepts same r (units tagging names) h v = units-accept r tagging names h v
-
--- The term of a plain declaration accepts what has its shape.
-pub terms-accept : SameIsEqual → TermsAccept
-terms-accept same ss instance s h v = body-accepts ss instance same s.remarks s.body h v

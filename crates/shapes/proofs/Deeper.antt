@@ -1,16 +1,24 @@
 -- What has a shape at a depth has it at each greater depth.
-use Rattle.std.proofs.Common.{ℕ, zero, suc, ◌+◌, ◌-◌, ◌≤◌, List, [], ◌∷◌, Bool, true, false, not, ◌&&◌, ◌||◌, Option, Some, None, IsTrue, ◌≡◌, refl, sym, subst, arith}
-use Rattle.std.specs.List.{list_all}
-use Rattle.acceptance.specs.Json.{Json, null, boolean, number, text, list, map, entries, elements, names, look, distinct, if_there}
+use Rattle.std.proofs.Common.{ℕ, zero, suc, ◌+◌, ◌-◌, ◌≤◌, List, [], ◌∷◌, ◌++◌, Bool, true, false, not, ◌&&◌, ◌||◌, Option, Some, None, IsTrue, ◌≡◌, refl, sym, subst, arith}
+use Rattle.std.specs.List.{list_all, list_any}
+use Rattle.acceptance.specs.Json.{Json, null, boolean, number, text, list, map, entries, elements, names, look, distinct, there, if_there}
 use Rattle.texts.specs.Names.{is_in}
 use Rattle.open_types.specs.Open.{Open, Opens, leaf, any_value, free_object, unit, tuple, items, set, map_of, option, through, param, named, no_types, more_types}
-use Rattle.shapes.specs.Declarations.{MemberOf, FormOf, named_fields, unnamed_fields, no_fields, BodyOf, fields, units, DeclarationOf, declaration_at}
-use Rattle.shapes.specs.Shape.{is_null, is_list, is_map, type_shape, items_fit, member_fits, no_others, elements_fit, unnamed_shape, form_shape, body_shape, shape}
+use Rattle.shapes.specs.Declarations.{MemberOf, FormOf, named_fields, unnamed_fields, no_fields, VariantOf, BodyOf, fields, units, variants, DeclarationOf, member_names, declaration_at}
+use Rattle.shapes.specs.declared.tagging.Tagging.{Tagging}
+use Rattle.shapes.specs.declared.tagging.Tagging.TheVariants.{External, Internal, Adjacent, Untagged}
+use Rattle.shapes.specs.Shape.{is_null, is_list, is_map, type_shape, items_fit, member_fits, only_named, no_others, elements_fit, unnamed_shape, form_shape, is_the, has_member, internal_shape, told_shape, fields_shape, variant_shape, body_shape, shape}
 
 both-more : (a b c d : Bool) → (IsTrue a → IsTrue c) → (IsTrue b → IsTrue d) → IsTrue (a && b) → IsTrue (c && d)
 both-more true true c d f g h = subst (λ x. IsTrue (x && d)) (sym (f refl)) (g refl)
 both-more true false c d f g h = cc
 both-more false b c d f g h = cc
+
+either-more : (a b c d : Bool) → (IsTrue a → IsTrue c) → (IsTrue b → IsTrue d) → IsTrue (a || b) → IsTrue (c || d)
+either-more true b true d f g h = refl
+either-more true b false d f g h = let no : IsTrue false = f refl in cc
+either-more false b true d f g h = refl
+either-more false b false d f g h = g h
 
 one-more : (a b c : Bool) → (IsTrue b → IsTrue c) → IsTrue (a || b) → IsTrue (a || c)
 one-more true b c f h = refl
@@ -24,6 +32,10 @@ module _ {A : Type 0} (p q : A → Bool) (more : (x : A) → IsTrue (p x) → Is
 there-more : (p q : Json → Bool) → ((v : Json) → IsTrue (p v) → IsTrue (q v)) → (o : Option Json) → IsTrue (if_there o p) → IsTrue (if_there o q)
 there-more p q more None h = refl
 there-more p q more (Some x) h = more x h
+
+present-more : (p q : Json → Bool) → ((v : Json) → IsTrue (p v) → IsTrue (q v)) → (o : Option Json) → IsTrue (there o p) → IsTrue (there o q)
+present-more p q more None h = h
+present-more p q more (Some x) h = more x h
 
 list-more : (p q : List Json → Bool) → ((xs : List Json) → IsTrue (p xs) → IsTrue (q xs)) → (v : Json) → IsTrue (is_list v p) → IsTrue (is_list v q)
 list-more p q more (list xs) h = more (elements xs) h
@@ -92,9 +104,44 @@ module _ (a b : ℕ → Json → Bool) (more : (d : ℕ) (v : Json) → IsTrue (
   form-more (unnamed_fields ts) v h = unnamed-more ts v h
   form-more no_fields v h = h
 
+  -- ---- enums
+
+  internal-more : (tag name : List ℕ) (form : FormOf) (v : Json) → IsTrue (internal_shape a tag name form v) → IsTrue (internal_shape b tag name form v)
+  internal-more tag name (named_fields denies ms) v h =
+      map-more (λ es. (list_all (member_fits a es) ms && there (look tag es) (is_the name)) && (not denies || only_named (member_names ms ++ tag ∷ []) es))
+      (λ es. (list_all (member_fits b es) ms && there (look tag es) (is_the name)) && (not denies || only_named (member_names ms ++ tag ∷ []) es))
+      (λ es. both-more (list_all (member_fits a es) ms && there (look tag es) (is_the name)) (not denies || only_named (member_names ms ++ tag ∷ []) es)
+      (list_all (member_fits b es) ms && there (look tag es) (is_the name)) (not denies || only_named (member_names ms ++ tag ∷ []) es)
+      (both-more (list_all (member_fits a es) ms) (there (look tag es) (is_the name)) (list_all (member_fits b es) ms) (there (look tag es) (is_the name))
+      (all-more (member_fits a es) (member_fits b es) (member-more es) ms) (λ t. t)) (λ o. o)) v h
+  internal-more tag name (unnamed_fields ts) v h = both-more (unnamed_shape a ts v) (has_member tag (is_the name) v) (unnamed_shape b ts v) (has_member tag (is_the name) v) (unnamed-more ts v) (λ t. t) h
+  internal-more tag name no_fields v h = h
+
+  told-more : (tagging : Tagging) (name : List ℕ) (form : FormOf) (v : Json) → IsTrue (told_shape a tagging name form v) → IsTrue (told_shape b tagging name form v)
+  told-more External name form v h =
+      map-more (λ es. there (look name es) (form_shape a form)) (λ es. there (look name es) (form_shape b form)) (λ es. present-more (form_shape a form) (form_shape b form) (form-more form) (look name es)) v h
+  told-more (Internal tag) name form v h = internal-more tag name form v h
+  told-more (Adjacent tag content) name form v h =
+      map-more (λ es. there (look tag es) (is_the name) && there (look content es) (form_shape a form)) (λ es. there (look tag es) (is_the name) && there (look content es) (form_shape b form))
+      (λ es. both-more (there (look tag es) (is_the name)) (there (look content es) (form_shape a form)) (there (look tag es) (is_the name)) (there (look content es) (form_shape b form))
+      (λ t. t) (present-more (form_shape a form) (form_shape b form) (form-more form) (look content es))) v h
+  told-more Untagged name form v h = form-more form v h
+
+  fields-more : (tagging : Tagging) (name : List ℕ) (form : FormOf) (v : Json) → IsTrue (fields_shape a tagging name form v) → IsTrue (fields_shape b tagging name form v)
+  fields-more tagging name no_fields v h = h
+  fields-more tagging name (named_fields denies ms) v h = told-more tagging name (named_fields denies ms) v h
+  fields-more tagging name (unnamed_fields ts) v h = told-more tagging name (unnamed_fields ts) v h
+
+  variants-more : (tagging : Tagging) (xs : List VariantOf) (v : Json) → IsTrue (list_any (variant_shape a tagging v) xs) → IsTrue (list_any (variant_shape b tagging v) xs)
+  variants-more tagging [] v h = h
+  variants-more tagging (x ∷ xs) v h =
+      either-more (variant_shape a tagging v x) (list_any (variant_shape a tagging v) xs) (variant_shape b tagging v x) (list_any (variant_shape b tagging v) xs)
+      (fields-more tagging x.name x.form v) (variants-more tagging xs v) h
+
   body-more : (body : BodyOf) (v : Json) → IsTrue (body_shape a body v) → IsTrue (body_shape b body v)
   body-more (fields form) v h = form-more form v h
   body-more (units tagging names) v h = h
+  body-more (variants tagging xs) v h = variants-more tagging xs v h
 
 module _ (ss : List DeclarationOf) where
   next : (depth d : ℕ) (v : Json) → IsTrue (shape ss depth d v) → IsTrue (shape ss (suc depth) d v)

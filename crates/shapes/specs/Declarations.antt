@@ -1,5 +1,5 @@
 -- Declarations over resolved types (the serde data model): structs with named fields, with unnamed ones and without fields, and enums.
-use Rattle.std.specs.Prelude.{ℕ, zero, suc, List, [], ◌∷◌, Bool, false, None}
+use Rattle.std.specs.Prelude.{ℕ, zero, suc, List, [], ◌∷◌, ◌++◌, Bool, false, None}
 use Rattle.texts.specs.Names.{IsDistinct}
 use Rattle.open_types.specs.Open.{Open}
 use Rattle.open_types.specs.Within.{IsWithin}
@@ -20,10 +20,17 @@ pub data FormOf : Type 0 where
   unnamed_fields : List Open → FormOf
   no_fields : FormOf
 
--- the fields of a struct; or how the values of an enum tell their variant, and the names of the variants, of which none has fields
+-- a variant by its name in JSON, what is said of it and its fields
+pub record VariantOf : Type 0 where
+  pub name : List ℕ
+  pub remarks : Remarks
+  pub form : FormOf
+
+-- the fields of a struct; or how the values of an enum tell their variant, with the names of its variants where none has fields, and else with the variants
 pub data BodyOf : Type 0 where
   fields : FormOf → BodyOf
   units : Tagging → List (List ℕ) → BodyOf
+  variants : Tagging → List VariantOf → BodyOf
 
 pub record DeclarationOf : Type 0 where
   pub name : List ℕ
@@ -49,9 +56,18 @@ types_of (named_fields denies ms) = member_types ms
 types_of (unnamed_fields ts) = ts
 types_of no_fields = []
 
+abbrev pub variant_names : List VariantOf → List (List ℕ)
+variant_names [] = []
+variant_names (x ∷ xs) = x.name ∷ variant_names xs
+
+abbrev pub variant_types : List VariantOf → List Open
+variant_types [] = []
+variant_types (x ∷ xs) = types_of x.form ++ variant_types xs
+
 abbrev pub body_types : BodyOf → List Open
 body_types (fields form) = types_of form
 body_types (units tagging names) = []
+body_types (variants tagging xs) = variant_types xs
 
 -- what tells variants apart: of untagged ones nothing does
 abbrev pub telling : {A : Type 0} → Tagging → List A → List A
@@ -60,10 +76,26 @@ telling External names = names
 telling (Internal tag) names = names
 telling (Adjacent tag content) names = names
 
--- no two members have one name, and no two variants that are told by it
+-- the names of the object that the tag of a variant stands in, where it stands beside others
+abbrev pub tagged_names : Tagging → FormOf → List (List ℕ)
+tagged_names (Internal tag) (named_fields denies ms) = member_names ms ++ tag ∷ []
+tagged_names (Adjacent tag content) (named_fields denies ms) = content ∷ tag ∷ []
+tagged_names (Adjacent tag content) (unnamed_fields ts) = content ∷ tag ∷ []
+tagged_names _ _ = []
+
+-- no two members of a variant have one name, nor its tag and what stands beside it
+abbrev pub IsApartVariant : Tagging → VariantOf → Type 0
+IsApartVariant tagging x = IsDistinct (names_of x.form) × IsDistinct (tagged_names tagging x.form)
+
+abbrev pub AreApartVariants : Tagging → List VariantOf → Type 0
+AreApartVariants tagging [] = Unit {0}
+AreApartVariants tagging (x ∷ xs) = IsApartVariant tagging x × AreApartVariants tagging xs
+
+-- no two members have one name, nor two variants, where names tell them apart
 abbrev pub IsApartBody : BodyOf → Type 0
 IsApartBody (fields form) = IsDistinct (names_of form)
 IsApartBody (units tagging names) = IsDistinct (telling tagging names)
+IsApartBody (variants tagging xs) = IsDistinct (telling tagging (variant_names xs)) × AreApartVariants tagging xs
 
 abbrev pub no_remarks : Remarks
 no_remarks = record { deprecated = false; description = None }
@@ -78,7 +110,7 @@ abbrev pub declaration_names : List DeclarationOf → List (List ℕ)
 declaration_names [] = []
 declaration_names (s ∷ ss) = s.name ∷ declaration_names ss
 
--- no two members, and no two variants, of a declaration have one name
+-- each body is apart
 abbrev pub AreApartBodies : List DeclarationOf → Type 0
 AreApartBodies [] = Unit {0}
 AreApartBodies (s ∷ ss) = IsApartBody s.body × AreApartBodies ss

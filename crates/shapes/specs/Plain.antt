@@ -1,11 +1,11 @@
 -- Declarations whose schema can say their whole shape: what stands in the places that they reach.
-use Rattle.std.specs.Prelude.{◌≡◌, ◌≢◌, ◌⊎◌, ℕ, List, [], ◌∷◌}
+use Rattle.std.specs.Prelude.{◌≡◌, ◌≢◌, ◌⊎◌, ℕ, List, [], ◌∷◌, false}
 use Rattle.leaves.specs.Leaves.{kind_of}
 use Rattle.leaves.specs.declared.leaf.LeafKind.TheVariants as kinds
 use Rattle.open_types.specs.Open.{Open, Opens, leaf, any_value, free_object, unit, tuple, items, set, map_of, option, through, param, named, no_types, more_types}
-use Rattle.shapes.specs.Declarations.{FormOf, named_fields, unnamed_fields, no_fields, BodyOf, fields, units, DeclarationOf, declaration_at, types_of, body_types}
+use Rattle.shapes.specs.Declarations.{FormOf, named_fields, unnamed_fields, no_fields, VariantOf, BodyOf, fields, units, variants, DeclarationOf, declaration_at, types_of, body_types}
 use Rattle.shapes.specs.declared.tagging.Tagging.{Tagging}
-use Rattle.shapes.specs.declared.tagging.Tagging.TheVariants.{External, Untagged}
+use Rattle.shapes.specs.declared.tagging.Tagging.TheVariants.{External, Internal, Untagged}
 
 -- the declaration stands in the type
 abbrev mutual
@@ -73,15 +73,46 @@ IsPlainForm ss (named_fields denies ms) = AreAllPlain ss (types_of (named_fields
 IsPlainForm ss (unnamed_fields ts) = AreAllPlain ss ts
 IsPlainForm ss no_fields = ⊥
 
--- an untagged enum has a variant: the schema of one that has none accepts null, and no value is one
-abbrev pub HasOne : Tagging → List (List ℕ) → Type 0
-HasOne Untagged [] = ⊥
-HasOne _ _ = Unit {0}
+-- a struct with named fields that denies no others
+abbrev pub IsOpenStruct : BodyOf → Type 0
+IsOpenStruct (fields (named_fields false ms)) = Unit {0}
+IsOpenStruct _ = ⊥
+
+-- a map that lets a tag stand among its members: such a struct, passed through perhaps
+abbrev pub IsContent : List DeclarationOf → Open → Type 0
+IsContent ss (named d ts) = IsOpenStruct (declaration_at ss d).body
+IsContent ss (through h t) = IsContent ss t
+IsContent ss _ = ⊥
+
+abbrev pub AreContent : List DeclarationOf → List Open → Type 0
+AreContent ss (t ∷ []) = IsContent ss t
+AreContent ss _ = ⊥
+
+-- the tag can stand where the representation puts it
+abbrev pub IsTold : List DeclarationOf → Tagging → FormOf → Type 0
+IsTold ss (Internal tag) (unnamed_fields ts) = AreContent ss ts
+IsTold ss _ _ = Unit {0}
+
+-- as of a struct, but a variant may have no fields
+abbrev pub IsPlainVariant : List DeclarationOf → Tagging → FormOf → Type 0
+IsPlainVariant ss tagging no_fields = Unit {0}
+IsPlainVariant ss tagging (named_fields denies ms) = IsPlainForm ss (named_fields denies ms)
+IsPlainVariant ss tagging (unnamed_fields ts) = IsPlainForm ss (unnamed_fields ts) × IsTold ss tagging (unnamed_fields ts)
+
+abbrev pub ArePlainVariants : List DeclarationOf → Tagging → List VariantOf → Type 0
+ArePlainVariants ss tagging [] = Unit {0}
+ArePlainVariants ss tagging (x ∷ xs) = IsPlainVariant ss tagging x.form × ArePlainVariants ss tagging xs
+
+-- an untagged enum keeps a variant; the schema of one that keeps none accepts null, and no value has its shape
+abbrev pub KeepsVariant : {A : Type 0} → Tagging → List A → Type 0
+KeepsVariant Untagged [] = ⊥
+KeepsVariant _ _ = Unit {0}
 
 -- each value of the declaration is what its schema accepts, as far as its own places tell
 abbrev pub IsPlainBody : List DeclarationOf → BodyOf → Type 0
 IsPlainBody ss (fields form) = IsPlainForm ss form
-IsPlainBody ss (units tagging names) = HasOne tagging names
+IsPlainBody ss (units tagging names) = KeepsVariant tagging names
+IsPlainBody ss (variants tagging xs) = KeepsVariant tagging xs × ArePlainVariants ss tagging xs
 
 -- places lead from one declaration to another, or to itself
 pub data Reaches (ss : List DeclarationOf) : ℕ → ℕ → Type 0 where

@@ -1,5 +1,5 @@
 -- When a JSON value has the shape of a type or of a declaration (the serde data model, in JSON with whole numbers of any size; docs/SERDE.md says where this is wider or narrower than what serde reads). No schema is known here.
-use Rattle.std.specs.Prelude.{ℕ, zero, suc, ◌≤◌, ℤ, pos, List, [], ◌∷◌, Bool, true, false, not, ◌&&◌, ◌||◌, int_le, IsTrue, bytes_eq}
+use Rattle.std.specs.Prelude.{ℕ, zero, suc, ◌≤◌, ℤ, pos, List, [], ◌∷◌, ◌++◌, Bool, true, false, not, ◌&&◌, ◌||◌, int_le, IsTrue, bytes_eq}
 use Rattle.std.specs.List.{list_all, list_any}
 use Rattle.acceptance.specs.Json.{Json, null, boolean, number, text, list, map, elements, entries, names, look, distinct, there, if_there}
 use Rattle.texts.specs.Names.{is_in}
@@ -7,7 +7,7 @@ use Rattle.leaves.specs.Leaves.{kind_of}
 use Rattle.leaves.specs.declared.leaf.LeafKind.{LeafKind}
 use Rattle.leaves.specs.declared.leaf.LeafKind.TheVariants as kinds
 use Rattle.open_types.specs.Open.{Open, Opens, leaf, any_value, free_object, unit, tuple, items, set, map_of, option, through, param, named, no_types, more_types}
-use Rattle.shapes.specs.Declarations.{MemberOf, FormOf, named_fields, unnamed_fields, no_fields, BodyOf, fields, units, DeclarationOf, member_names, declaration_at}
+use Rattle.shapes.specs.Declarations.{MemberOf, FormOf, named_fields, unnamed_fields, no_fields, VariantOf, BodyOf, fields, units, variants, DeclarationOf, member_names, declaration_at}
 use Rattle.shapes.specs.declared.tagging.Tagging.{Tagging}
 use Rattle.shapes.specs.declared.tagging.Tagging.TheVariants.{External, Internal, Adjacent, Untagged}
 
@@ -83,9 +83,12 @@ abbrev pub unnamed_shape : (ℕ → Json → Bool) → List Open → Json → Bo
 unnamed_shape instance (t ∷ []) v = type_shape instance t v
 unnamed_shape instance ts v = is_list v (elements_fit instance ts)
 
--- no name stands there but those of the members
+-- no name stands there but these
+abbrev pub only_named : List (List ℕ) → List (List ℕ × Json) → Bool
+only_named ks es = list_all (λ e. is_in e.0 ks) es
+
 abbrev pub no_others : List MemberOf → List (List ℕ × Json) → Bool
-no_others ms es = list_all (λ e. is_in e.0 (member_names ms)) es
+no_others ms es = only_named (member_names ms) es
 
 -- a map whose members fit, beside which others may stand unless they are refused; unnamed fields; null
 abbrev pub form_shape : (ℕ → Json → Bool) → FormOf → Json → Bool
@@ -109,10 +112,33 @@ unit_shape (Internal tag) name v = has_member tag (is_the name) v
 unit_shape (Adjacent tag content) name v = has_member tag (is_the name) v
 unit_shape Untagged name v = is_null v
 
+-- the members of the variant and the tag among them; a content that has the tag beside what it is
+abbrev pub internal_shape : (ℕ → Json → Bool) → (tag name : List ℕ) → FormOf → Json → Bool
+internal_shape instance tag name (named_fields denies ms) v =
+    is_map v (λ es. (list_all (member_fits instance es) ms && there (look tag es) (is_the name)) && (not denies || only_named (member_names ms ++ tag ∷ []) es))
+internal_shape instance tag name (unnamed_fields ts) v = unnamed_shape instance ts v && has_member tag (is_the name) v
+internal_shape instance tag name no_fields v = has_member tag (is_the name) v
+
+-- The value tells the variant of the name, and has its fields.
+abbrev pub told_shape : (ℕ → Json → Bool) → Tagging → List ℕ → FormOf → Json → Bool
+told_shape instance External name form v = has_member name (form_shape instance form) v
+told_shape instance (Internal tag) name form v = internal_shape instance tag name form v
+told_shape instance (Adjacent tag content) name form v = is_map v (λ es. there (look tag es) (is_the name) && there (look content es) (form_shape instance form))
+told_shape instance Untagged name form v = form_shape instance form v
+
+abbrev pub fields_shape : (ℕ → Json → Bool) → Tagging → List ℕ → FormOf → Json → Bool
+fields_shape instance tagging name no_fields v = unit_shape tagging name v
+fields_shape instance tagging name (named_fields denies ms) v = told_shape instance tagging name (named_fields denies ms) v
+fields_shape instance tagging name (unnamed_fields ts) v = told_shape instance tagging name (unnamed_fields ts) v
+
+abbrev pub variant_shape : (ℕ → Json → Bool) → Tagging → Json → VariantOf → Bool
+variant_shape instance tagging v x = fields_shape instance tagging x.name x.form v
+
 -- the fields of a struct, or one of the variants
 abbrev pub body_shape : (ℕ → Json → Bool) → BodyOf → Json → Bool
 body_shape instance (fields form) v = form_shape instance form v
 body_shape instance (units tagging names) v = list_any (λ name. unit_shape tagging name v) names
+body_shape instance (variants tagging xs) v = list_any (variant_shape instance tagging v) xs
 
 -- The value has the shape of the declaration at the place, seen to a depth: at 0 nothing has.
 abbrev pub shape : List DeclarationOf → ℕ → ℕ → Json → Bool

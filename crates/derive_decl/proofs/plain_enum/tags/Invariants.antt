@@ -1,4 +1,5 @@
 use Rattle.std.proofs.Common.{◌≡◌, map, take}
+use Rattle.schema_core.specs.Notes.{no_notes}
 use Rattle.component.specs.Leaves.{term_view}
 use Rattle.written_types.specs.declared.written.Ident.{Ident}
 use Rattle.shapes.specs.Terms.{tag_alone}
@@ -6,4 +7,4 @@ use Rattle.derive_decl.proofs.plain_enum.tags.Given as goal
 
 -- the objects so far are those of the names so far
 abbrev pub invariant-loop-name : goal.invariant-loop-name
-invariant-loop-name l = map term_view l.items ≡ map (λ (x : Ident). tag_alone l.tag x.text) (take l.name-index l.names)
+invariant-loop-name l = map term_view l.items ≡ map (λ (x : Ident). tag_alone no_notes l.tag x.text) (take l.name-index l.names)

@@ -1,16 +1,16 @@
-use Rattle.std.proofs.Common.{◌∙◌, List, map, ap, sym, subst, inl, inr}
+use Rattle.std.proofs.Common.{List, map, sym, subst, inl, inr}
 use Rattle.std.proofs.lemmas.Result.{err_from_is_err_and}
+use Rattle.std.specs.List.{AllByRecursion}
 use Rattle.syntax.specs.declared.item.Variant.{Variant}
 use Rattle.syntax.specs.Items.{body_view, variant_view}
-use Rattle.derive_decl.specs.Faults.{first_mixed, variants_in, IsFaultyEnum, IsFaultyBody}
+use Rattle.syntax.specs.Named.{HaveNames, IsNamedBody}
+use Rattle.derive_decl.specs.Faults.{IsFaultyEnum, IsFaultyBody}
 use Rattle.derive_decl.specs.Views.{known, items_of}
-use Rattle.derive_decl.proofs.First.{units-alone}
 use Rattle.derive_decl.proofs.schema_variant.of_body.Goals as goal
 
 pub new-requires : goal.new-requires
 new-requires c =
-    units-alone (map variant_view c.as_slice-variants.result.now)
-    (ap (λ (vs : List Variant). first_mixed (map variant_view vs)) c.as_slice-variants.ensures ∙ sym (ap (λ b. first_mixed (variants_in (body_view b))) c.in-Enum.is) ∙ c.requires.units)
+    subst (λ (vs : List Variant). AllByRecursion (λ v. HaveNames v.fields) (map variant_view vs)) (sym c.as_slice-variants.ensures) (subst (λ b. IsNamedBody (body_view b)) c.in-Enum.is c.requires)
 
 pub returns-in_err-new-in-Enum-clause-refused : goal.returns-in_err-new-in-Enum-clause-refused
 returns-in_err-new-in-Enum-clause-refused c =
@@ -22,7 +22,7 @@ returns-in_err-new-in-Enum-clause-refused c =
     (elim c.in_err-new-in-Enum.ensures.refused [
       | inl memory ↦ inl memory
       | inr fault ↦ inr (subst (λ b. IsFaultyBody around (items_of root) root.ident.now (body_view b) e) (sym c.in-Enum.is)
-          (subst (λ (vs : List Variant). IsFaultyEnum around.rows (items_of root) root.ident.now (map variant_view vs) e) c.as_slice-variants.ensures fault))
+          (subst (λ (vs : List Variant). IsFaultyEnum around (items_of root) root.ident.now (map variant_view vs) e) c.as_slice-variants.ensures fault))
     ])
 
 pub returns-in_ok-new-in-Enum-clause-faultless : goal.returns-in_ok-new-in-Enum-clause-faultless
@@ -30,5 +30,5 @@ returns-in_ok-new-in-Enum-clause-faultless c e fault =
     let root = c.args.root.now in
     let around = known root.container.now in
     c.in_ok-new-in-Enum.ensures.faultless e
-    (subst (λ (vs : List Variant). IsFaultyEnum around.rows (items_of root) root.ident.now (map variant_view vs) e) (sym c.as_slice-variants.ensures)
+    (subst (λ (vs : List Variant). IsFaultyEnum around (items_of root) root.ident.now (map variant_view vs) e) (sym c.as_slice-variants.ensures)
     (subst (λ b. IsFaultyBody around (items_of root) root.ident.now (body_view b) e) c.in-Enum.is fault))

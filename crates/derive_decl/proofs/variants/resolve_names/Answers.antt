@@ -6,7 +6,7 @@ use Rattle.diag.specs.Refusal.{RefusesNone}
 use Rattle.syntax.specs.Items.{variant_view}
 use Rattle.derive_decl.specs.Variants.{is_kept_variant, kept_variants, variant_ident}
 use Rattle.derive_decl.specs.Resolved.{all_of}
-use Rattle.derive_decl.specs.Faults.{IsFaultyVariant}
+use Rattle.derive_decl.specs.Faults.{IsUnnamed}
 use Rattle.derive_decl.proofs.Growing.{all_kept_more, kept_facts_more, somewhere_kept}
 use Rattle.derive_decl.proofs.variants.resolve_names.Goals as goal
 
@@ -17,7 +17,7 @@ returns-in_err-name-clause-refused c =
     rw (p.1, p.2)
     (elim c.in_err-name.ensures.refused [
       | inl memory ↦ inl memory
-      | inr fault ↦ inr (somewhere_kept variant_view is_kept_variant (λ v. IsFaultyVariant c.args.config.now.renames c.args.rule c.args.tagging.now v c.in_err-name.field-0.0)
+      | inr fault ↦ inr (somewhere_kept variant_view is_kept_variant (λ v. IsUnnamed c.args.config.now.renames c.args.rule c.args.tagging.now v c.in_err-name.field-0.0)
           c.args.variants.now c.loop-variant.variant-index c.variant-item.result lt c.variant-item.is fault)
     ])
 
@@ -30,7 +30,7 @@ loop-variant-preserved c =
     let name = variant_ident c.args.config.now.renames c.args.rule c.args.tagging.now in
     rw c.in_ok-push_some.ensures (
       all_kept_more variant_view is_kept_variant name variants at variant c.loop-variant.names (cons_option c.in_ok-name.name []) lt c.variant-item.is c.loop-variant.invariant.0 c.in_ok-name.ensures.name,
-      kept_facts_more variant_view is_kept_variant (λ v. RefusesNone (IsFaultyVariant c.args.config.now.renames c.args.rule c.args.tagging.now v)) variants at variant lt c.variant-item.is c.loop-variant.invariant.1
+      kept_facts_more variant_view is_kept_variant (λ v. RefusesNone (IsUnnamed c.args.config.now.renames c.args.rule c.args.tagging.now v)) variants at variant lt c.variant-item.is c.loop-variant.invariant.1
           c.in_ok-name.ensures.faultless,
     )
 
@@ -42,4 +42,4 @@ returns-clause-names c =
 pub returns-clause-faultless : goal.returns-clause-faultless
 returns-clause-faultless c =
     let whole : take c.loop-variant.variant-index c.args.variants.now ≡ c.args.variants.now = grind (arith, common_steps) in
-    subst (λ vs. AllByRecursion (λ v. RefusesNone (IsFaultyVariant c.args.config.now.renames c.args.rule c.args.tagging.now v)) (kept_variants (map variant_view vs))) whole c.loop-variant.invariant.1
+    subst (λ vs. AllByRecursion (λ v. RefusesNone (IsUnnamed c.args.config.now.renames c.args.rule c.args.tagging.now v)) (kept_variants (map variant_view vs))) whole c.loop-variant.invariant.1

@@ -1,4 +1,4 @@
-use Rattle.shapes.proofs.Accepted.{terms-accept}
+use Rattle.shapes.proofs.EnumsAccepted.{terms-accept}
 use Rattle.shapes.proofs.law.terms_accept.Goals as goal
 
 pub returns : goal.returns

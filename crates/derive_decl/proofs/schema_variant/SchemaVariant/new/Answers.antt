@@ -1,10 +1,6 @@
 use Rattle.std.proofs.Common.{inl, inr}
 use Rattle.std.proofs.lemmas.Result.{IfErr-weaker, err_from_is_err_and}
-use Rattle.derive_decl.proofs.First.{none-second}
 use Rattle.derive_decl.proofs.schema_variant.SchemaVariant.new.Goals as goal
-
-pub of_body-requires-clause-units : goal.of_body-requires-clause-units
-of_body-requires-clause-units c = none-second _ _ c.in_ok-derivable.ensures.derivable
 
 pub returns-in_err-derivable-clause-refused : goal.returns-in_err-derivable-clause-refused
 returns-in_err-derivable-clause-refused c =

@@ -3,7 +3,7 @@ use Rattle.std.proofs.lemmas.Grind.{common_steps}
 use Rattle.acceptance.specs.Json.{text}
 use Rattle.written_types.specs.declared.written.Ident.{Ident}
 use Rattle.derive_decl.proofs.Texts.{map-texts}
-use Rattle.derive_decl.proofs.plain_enum.text_values.Goals as goal
+use Rattle.derive_decl.proofs.tagged.text_values.Goals as goal
 
 pub returns : goal.returns
 returns c =

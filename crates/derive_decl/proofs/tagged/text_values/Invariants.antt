@@ -1,7 +1,7 @@
 use Rattle.std.proofs.Common.{◌≡◌, map, take}
 use Rattle.acceptance.specs.Json.{text}
 use Rattle.written_types.specs.declared.written.Ident.{Ident}
-use Rattle.derive_decl.proofs.plain_enum.text_values.Given as goal
+use Rattle.derive_decl.proofs.tagged.text_values.Given as goal
 
 -- the values so far are those of the names so far
 abbrev pub invariant-loop-name : goal.invariant-loop-name

@@ -1,0 +1,124 @@
+-- Variants of enums: their names, their types, and what is refused where none has fields.
+use Rattle.std.proofs.Common.{ℕ, ◌+◌, ◌<◌, List, [], ◌∷◌, ◌++◌, length, take, drop, get_or, map, Bool, true, false, ◌&&◌, cond, Option, Some, None, option_map, ◌≡◌, ◌∙◌, refl, ap, sym, subst, inl, inr, ◌⊎◌, add-one, drop-cons}
+use Rattle.std.specs.List.{AllByRecursion}
+use Rattle.std.proofs.lemmas.Bool.{false≢true}
+use Rattle.std.proofs.lemmas.List.{take_more, map_push, map-append, append-nil, append_assoc}
+use Rattle.std.proofs.lemmas.Option.{none-some, same_Some}
+use Rattle.diag.specs.Refusal.{RefusesNone}
+use Rattle.diag.specs.declared.error.DeriveError.{DeriveError}
+use Rattle.diag.specs.declared.rename_rule.RenameRule.{RenameRule}
+use Rattle.texts.specs.Lists.{Somewhere}
+use Rattle.texts.specs.Names.{IsDistinct}
+use Rattle.attributes.specs.Attributes.{serde_items}
+use Rattle.attributes.specs.declared.serde_item.SerdeItem.{SerdeItem}
+use Rattle.serde_rules.specs.Container.{rename_rule, IsContainerRefusal}
+use Rattle.written_types.specs.declared.written.Ident.{Ident}
+use Rattle.syntax.specs.declared.item.Variant.{Variant}
+use Rattle.syntax.specs.Items.{FieldItems, named, unnamed, unit, VariantItem, variant_view}
+use Rattle.open_types.specs.declared.open_type.OpenType.{OpenType}
+use Rattle.open_types.specs.Open.{open_view}
+use Rattle.scopes.specs.Names.{texts}
+use Rattle.shapes.specs.declared.tagging.Tagging.{Tagging}
+use Rattle.shapes.specs.Declarations.{FormOf, VariantOf, names_of, types_of, tagged_names, variant_names, variant_types, AreApartVariants}
+use Rattle.derive_decl.specs.declared.mixed_enum.MixedEnumVariant.{MixedEnumVariant}
+use Rattle.derive_decl.specs.Fields.{named_at}
+use Rattle.derive_decl.specs.Variants.{tagging_by, tagging_in, is_unit, are_units, is_tagged, is_kept_variant, kept_variants}
+use Rattle.derive_decl.specs.Resolved.{Around}
+use Rattle.derive_decl.specs.Faults.{AreFaulty, IsUnnamed, IsFaultyVariant, AreUnnamed, IsUnbuilt, AreFaultyVariants, IsFaultyEnum}
+use Rattle.derive_decl.specs.Views.{form_view, variant_schema_view, untold}
+
+-- the name of an identifier that stands for one
+pub name_of-ident : (x y : Ident) (o : Option (List ℕ)) → option_map (named_at x) o ≡ Some y → o ≡ Some y.text
+name_of-ident x y None e = absurd (none-some y e)
+name_of-ident x y (Some n) e = ap (λ (z : Ident). Some z.text) (same_Some (named_at x n) y e)
+
+pub variant_names-are : (xs : List MixedEnumVariant) → variant_names (map variant_schema_view xs) ≡ texts (map (λ (x : MixedEnumVariant). x.ident) xs)
+variant_names-are [] = refl
+variant_names-are (x ∷ xs) = ap (λ ns. x.ident.text ∷ ns) (variant_names-are xs)
+
+variant_types-push : (xs : List VariantOf) (x : VariantOf) → variant_types (xs ++ x ∷ []) ≡ variant_types xs ++ types_of x.form
+variant_types-push [] x = append-nil (types_of x.form)
+variant_types-push (y ∷ ys) x = ap (λ ts. types_of y.form ++ ts) (variant_types-push ys x) ∙ sym (append_assoc (types_of y.form) (variant_types ys) (types_of x.form))
+
+-- the types of the variants so far, and of one more
+pub types_more : (vs : List MixedEnumVariant) (i : ℕ) (v : MixedEnumVariant) (types more : List OpenType) → i < length vs → v ≡ get_or vs i v → map open_view types ≡ variant_types (map variant_schema_view (take i vs)) →
+    map open_view more ≡ types_of (form_view v.form) → map open_view (types ++ more) ≡ variant_types (map variant_schema_view (take (i + 1) vs))
+types_more vs i v types more l is e g =
+    map-append open_view types more
+    ∙ (λ j. e j ++ g j)
+    ∙ sym (variant_types-push (map variant_schema_view (take i vs)) (variant_schema_view v))
+    ∙ ap (λ (x : MixedEnumVariant). variant_types (map variant_schema_view (take i vs) ++ variant_schema_view x ∷ [])) is
+    ∙ sym (ap variant_types (map_push variant_schema_view (take i vs) (get_or vs i v)))
+    ∙ sym (ap (λ xs. variant_types (map variant_schema_view xs)) (take_more vs i v l))
+
+-- ---- no tag
+
+pub no_tag : (untagged : Bool) → is_tagged (untold untagged) ≡ false
+no_tag true = refl
+no_tag false = refl
+
+-- where no tag tells variants, nothing stands beside one
+none-beside : (untagged : Bool) (form : FormOf) → IsDistinct (tagged_names (untold untagged) form)
+none-beside true form = tt
+none-beside false form = tt
+
+pub apart : (untagged : Bool) (xs : List MixedEnumVariant) → AllByRecursion (λ (x : MixedEnumVariant). IsDistinct (names_of (form_view x.form))) xs → AreApartVariants (untold untagged) (map variant_schema_view xs)
+apart untagged [] h = tt
+apart untagged (x ∷ xs) h = ((h.0, none-beside untagged (form_view x.form)), apart untagged xs h.1)
+
+-- ---- variants without fields
+
+-- the first of the rest, and what follows it
+pub units_at : (vs : List Variant) (i : ℕ) (v : Variant) → i < length vs → v ≡ get_or vs i v →
+    are_units (map variant_view (drop i vs)) ≡ (is_unit (variant_view v).fields && are_units (map variant_view (drop (i + 1) vs)))
+units_at vs i v h e = rw (add-one, drop-cons vs i v, ← e)
+
+module _ (around : Around) (rule : Option RenameRule) (tagging : Tagging) (e : DeriveError) where
+  unit-named : (v : VariantItem) (fs : FieldItems) → is_unit fs ≡ true → IsUnnamed around.rows rule tagging v e ⊎ AreFaulty around (serde_items v.attrs) v.ident fs e → IsUnnamed around.rows rule tagging v e
+  unit-named v fs u (inl h) = h
+  unit-named v (named fs) u (inr h) = absurd (false≢true u)
+  unit-named v (unnamed fs) u (inr h) = absurd (false≢true u)
+  unit-named v unit u (inr h) = absurd h
+
+  -- without fields a variant is at fault for its name alone
+  units-named : (vs : List VariantItem) → are_units vs ≡ true → Somewhere (λ v. IsFaultyVariant around rule tagging v e) (kept_variants vs) → Somewhere (λ v. IsUnnamed around.rows rule tagging v e) (kept_variants vs)
+  units-named [] u h = h
+  units-named (v ∷ vs) u h = by (is_unit v.fields) refl (is_kept_variant v) u h (units-named vs)
+    where
+      by : (b : Bool) → is_unit v.fields ≡ b → (k : Bool) → (b && are_units vs) ≡ true → Somewhere (λ v. IsFaultyVariant around rule tagging v e) (cond k (v ∷ kept_variants vs) (kept_variants vs)) →
+          (are_units vs ≡ true → Somewhere (λ v. IsFaultyVariant around rule tagging v e) (kept_variants vs) → Somewhere (λ v. IsUnnamed around.rows rule tagging v e) (kept_variants vs)) →
+          Somewhere (λ v. IsUnnamed around.rows rule tagging v e) (cond k (v ∷ kept_variants vs) (kept_variants vs))
+      by false is k u h later = absurd (false≢true u)
+      by true is true u (inl f) later = inl (unit-named v v.fields is f)
+      by true is true u (inr f) later = inr (later u f)
+      by true is false u f later = later u f
+
+  pub units-unnamed : (vs : List VariantItem) → are_units vs ≡ true → AreFaultyVariants around rule tagging vs e → AreUnnamed around.rows rule tagging vs e
+  units-unnamed vs u (inl h) = inl (units-named vs u h)
+  units-unnamed vs u (inr h) = inr h
+
+  somewhere-named : (vs : List VariantItem) → Somewhere (λ v. IsUnnamed around.rows rule tagging v e) vs → Somewhere (λ v. IsFaultyVariant around rule tagging v e) vs
+  somewhere-named [] h = h
+  somewhere-named (v ∷ vs) (inl h) = inl (inl h)
+  somewhere-named (v ∷ vs) (inr h) = inr (somewhere-named vs h)
+
+  -- a name at fault is a variant at fault
+  pub unnamed-faulty : (vs : List VariantItem) → AreUnnamed around.rows rule tagging vs e → AreFaultyVariants around rule tagging vs e
+  unnamed-faulty vs (inl h) = inl (somewhere-named (kept_variants vs) h)
+  unnamed-faulty vs (inr h) = inr h
+
+-- ---- the whole enum
+
+module _ (around : Around) (items : List SerdeItem) (x : Ident) (vs : List VariantItem) (rule : Option RenameRule) (tagging : Tagging) (told : tagging_in items ≡ Some tagging) (rules : rule ≡ rename_rule items) where
+  abbrev pub IsAtFault : DeriveError → Type 0
+  IsAtFault e = IsUnbuilt x tagging vs e ⊎ AreFaultyVariants around rule tagging vs e
+
+  pub enum_refused : (e : DeriveError) → IsAtFault e → IsFaultyEnum around items x vs e
+  enum_refused e fault = inr (tagging, told, subst (λ r. IsUnbuilt x tagging vs e ⊎ AreFaultyVariants around r tagging vs e) rules fault)
+
+  pub enum_faultless : RefusesNone (IsContainerRefusal items) → RefusesNone IsAtFault → RefusesNone (IsFaultyEnum around items x vs)
+  enum_faultless allowed none e (inl (inl refused)) = allowed e refused
+  enum_faultless allowed none e (inl (inr (content, unfinished, first, refused))) = none-some tagging (sym (ap tagging_by unfinished) ∙ told)
+  enum_faultless allowed none e (inr (other, is, fault)) =
+      none e (subst (λ r. IsUnbuilt x tagging vs e ⊎ AreFaultyVariants around r tagging vs e) (sym rules)
+      (subst (λ t. IsUnbuilt x t vs e ⊎ AreFaultyVariants around (rename_rule items) t vs e) (same_Some other tagging (sym is ∙ told)) fault))

@@ -1,7 +1,0 @@
-use Rattle.std.proofs.Common.{◌≡◌, drop, map}
-use Rattle.syntax.specs.Items.{declaration_view}
-use Rattle.derive_decl.specs.Faults.{variants_among, first_mixed}
-use Rattle.derive_decl.proofs.attributed.first_mixed_among.Given as goal
-
-abbrev pub invariant-loop-declaration : goal.invariant-loop-declaration
-invariant-loop-declaration l = first_mixed (variants_among (map declaration_view (drop l.declaration-index l.declarations))) ≡ first_mixed (variants_among (map declaration_view l.declarations))

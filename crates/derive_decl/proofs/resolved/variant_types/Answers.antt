@@ -1,0 +1,10 @@
+use Rattle.std.proofs.Common.{◌<◌, length, arith}
+use Rattle.derive_decl.proofs.EnumLaws.{types_more}
+use Rattle.derive_decl.proofs.resolved.variant_types.Goals as goal
+
+pub loop-variant-preserved : goal.loop-variant-preserved
+loop-variant-preserved c =
+    let variants = c.args.variants.now in
+    let at = c.loop-variant.variant-index in
+    let lt : at < length variants = omega arith in
+    rw c.in_ok-append.ensures.ok (types_more variants at c.variant-item.result c.loop-variant.types _ lt c.variant-item.is c.loop-variant.invariant c.in_ok-types_of.ensures)
