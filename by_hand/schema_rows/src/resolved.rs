@@ -1,6 +1,8 @@
 //! What declarations are resolved to.
 
-use derive_decl::{FormSchema, Member, PlainEnum, Resolved, SchemaVariant};
+use derive_decl::{
+    EnumSchema, FormSchema, Member, MixedEnum, MixedEnumVariant, PlainEnum, Resolved, SchemaVariant,
+};
 use shapes::{Remarks, Tagging};
 use std::alloc::{AllocError, Global};
 use syntax::Ident;
@@ -73,21 +75,61 @@ fn push_tagging(text: &mut String, tagging: &Tagging) -> Result<(), AllocError> 
     }
 }
 
+/// Adds the name, with where it stands.
+fn push_name(alloc: Global, text: &mut String, name: &Ident) -> Result<(), AllocError> {
+    let (name, span) = (name.text.as_str(), name.span);
+    text.push_str(format!(in alloc; "{name} {}..{}", span.start, span.end)?.as_str())
+}
+
 /// Adds the names of the variants, with where each stands.
 fn push_names(alloc: Global, text: &mut String, names: &[Ident]) -> Result<(), AllocError> {
     for name in names {
-        let (name, span) = (name.text.as_str(), name.span);
-        text.push_str(format!(in alloc; " {name} {}..{}", span.start, span.end)?.as_str())?;
+        text.push(' ')?;
+        push_name(alloc, text, name)?;
+    }
+    Ok(())
+}
+
+/// Adds the variants, each in brackets: its name, with where it stands, and its form with what is said of it.
+fn push_variants(
+    alloc: Global,
+    text: &mut String,
+    variants: &[MixedEnumVariant],
+) -> Result<(), AllocError> {
+    for variant in variants {
+        text.push_str(" (")?;
+        push_name(alloc, text, &variant.ident)?;
+        push_form(text, &variant.form)?;
+        text.push(')')?;
     }
     Ok(())
 }
 
 /// Adds how the enum tells its variants, their names, and what is said of it.
-fn push_enum(alloc: Global, text: &mut String, of: &PlainEnum) -> Result<(), AllocError> {
+fn push_plain(alloc: Global, text: &mut String, of: &PlainEnum) -> Result<(), AllocError> {
     push_tagging(text, &of.tagging)?;
     text.push(':')?;
     push_names(alloc, text, of.names.as_slice())?;
     push_remarks(text, &of.remarks)
+}
+
+/// Adds how the enum tells its variants, the variants, and what is said of it.
+fn push_mixed(alloc: Global, text: &mut String, of: &MixedEnum) -> Result<(), AllocError> {
+    text.push_str(if of.untagged {
+        " mixed untagged:"
+    } else {
+        " mixed:"
+    })?;
+    push_variants(alloc, text, of.variants.as_slice())?;
+    push_remarks(text, &of.remarks)
+}
+
+/// Adds what the enum is.
+fn push_enum(alloc: Global, text: &mut String, of: &EnumSchema) -> Result<(), AllocError> {
+    match of {
+        EnumSchema::Plain(plain) => push_plain(alloc, text, plain),
+        EnumSchema::Mixed(mixed) => push_mixed(alloc, text, mixed),
+    }
 }
 
 /// Adds the name, and the form of the struct or the variants of the enum.
@@ -95,7 +137,7 @@ fn push_declaration(alloc: Global, text: &mut String, of: &Resolved) -> Result<(
     text.push_str(of.name.as_str())?;
     match &of.body {
         SchemaVariant::Struct(form) => push_form(text, form),
-        SchemaVariant::Enum(plain) => push_enum(alloc, text, plain),
+        SchemaVariant::Enum(of) => push_enum(alloc, text, of),
     }
 }
 
