@@ -1,8 +1,8 @@
 #!/usr/bin/env bash
-# Sources of at most 1,000 structs from 64 KiB to 1 MiB, each twice the one before: the time that the program takes for each,
+# Sources of at most 1,000 structs or enums from 64 KiB to 1 MiB, each twice the one before: the time that the program takes for each,
 # its peak memory, the ratio of the time to that of the one before, and declarations per second. By hand; no test rests on it.
 #
-#     bench/derive.sh [ascending|descending|references|wide|documented|containers|inlined|attributed]
+#     bench/derive.sh [ascending|descending|references|wide|documented|containers|inlined|attributed|enums]
 set -eu
 here=$(cd "$(dirname "$0")/.." && pwd)
 program=${PROGRAM:-$here/crates/schema_gen_cli/out/schema_gen_cli}
@@ -22,6 +22,14 @@ def struct(name, fields):
         lines = "".join("    %s\n    pub %s: %s,\n" % ((attributes[at % len(attributes)],) + f) for at, f in enumerate(fields))
         return "#[derive(Debug, Deserialize, Serialize)]\n#[serde(rename_all = \"camelCase\", deny_unknown_fields)]\npub struct %s {\n%s}\n\n" % (name, lines)
     return "pub struct %s {\n%s}\n\n" % (name, "".join("    pub %s: %s,\n" % f for f in fields))
+
+def enum(name, i):
+    lines = "".join(
+        "    /// What became of it.\n    None%d,\n    One%d(Box<Item%04d>),\n    Two%d(u64, Vec<String>),\n"
+        "    Named%d { id: u64, name: Option<String>, tags: Vec<Vec<String>>, size: i32 },\n" % (k, k, i // 2, k, k)
+        for k in range(6)
+    )
+    return "pub enum %s {\n%s}\n\n" % (name, lines)
 
 attributes = [
     "#[serde(default, skip_serializing_if = \"Option::is_none\")]",
@@ -55,7 +63,8 @@ def source(size):
                 fields += [("pair_%d" % k, "(i32, (String, Option<bool>))"), ("set_%d" % k, "BTreeSet<String>"), ("map_%d" % k, "HashMap<String, Vec<Item%04d>>" % (i // 2))]
             if form == "inlined" and i % 4:
                 fields += [("pair_%d" % k, "(u8, Item%04d)" % (i - i % 4))]
-        part = struct("Item%04d" % number, fields)
+        name = "Item%04d" % number
+        part = enum(name, i) if form == "enums" else struct(name, fields)
         if length + len(part) > size:
             return "".join(parts)
         parts.append(part)
@@ -90,7 +99,7 @@ for size in (65536 << n for n in range(5)):
     with open(path, "w") as file:
         file.write(text)
     took, peak = run(path)
-    many = text.count("pub struct ")
+    many = text.count("pub struct ") + text.count("pub enum ")
     ratio = "" if before is None else "%.2f" % (took / before)
     print("%10d %12d %10.3f %12.1f %8s %16.0f" % (len(text), many, took, peak, ratio, many / took))
     before = took
