@@ -118,6 +118,42 @@ pub enum Carrier {
     Unknown,
 }
 
+/// How an order is paid.
+#[derive(Clone, Debug, Deserialize, Serialize)]
+pub enum Payment {
+    #[serde(rename = "invoice")]
+    Invoice,
+    /// A voucher, by its code.
+    #[serde(rename = "voucher")]
+    Voucher(String),
+    /// What a bank has sent.
+    #[serde(rename = "transfer")]
+    Transfer {
+        iban: String,
+        amounts: Vec<Money>,
+        #[serde(skip)]
+        trace: Option<u64>,
+    },
+    /// A deposit: the number of its account, and what is left there.
+    #[serde(rename = "deposit")]
+    Deposit(u64, Money),
+}
+
+/// The number of an order, or how its customer calls it.
+#[derive(Clone, Debug, Deserialize, Serialize)]
+#[serde(untagged)]
+pub enum OrderKey {
+    Number(u64),
+    Name(String),
+}
+
+/// What is told of a payment when it comes.
+#[derive(Clone, Debug, Deserialize, Serialize)]
+pub struct PaymentNotice {
+    pub order: OrderKey,
+    pub payment: Payment,
+}
+
 /// Some pieces of one article.
 #[derive(Clone, Debug, Deserialize, Serialize)]
 #[serde(deny_unknown_fields)]
