@@ -1,4 +1,4 @@
--- Why a declaration has no schema: an attribute that nothing is derived from, serde's items that contradict each other or name a rename rule that there is not, a name that has no row or that two fields or variants have, a type that stands for nothing or is too large, a form of unnamed fields without a field.
+-- Why a declaration has no schema: an attribute that nothing is derived from, serde's items that contradict each other, name a content and no tag, or name a rename rule that there is not, a tag that tells variants with fields, a name that has no row or that two fields or variants have, a type that stands for nothing or is too large, a form of unnamed fields without a field.
 use Rattle.std.specs.Prelude.{◌≡◌, ◌⊎◌, ◌||◌, ℕ, List, [], ◌∷◌, ◌++◌, Bool, true, false, cond, Option, Some, None, Ok, codes}
 use Rattle.std.specs.List.{flat_map}
 use Rattle.diag.specs.Refusal.{IsRefusal, IsSyntaxRefusal, RefusesNone}
@@ -94,7 +94,7 @@ AreFaultyMembers around rules fs e =
     Somewhere (λ f. IsFaultyMember around rules f e) (kept fs)
     ⊎ IsGivenTwice (written_idents around.rows rules.rule (kept fs)) e
 
--- the error refuses the named fields of a struct, or serde's items before it
+-- the error refuses named fields, or serde's items before the struct or the variant that has them
 abbrev pub AreFaultyNamed : Around → List SerdeItem → List FieldItem → DeriveError → Type 0
 AreFaultyNamed around items fs e = IsContainerRefusal items e ⊎ AreFaultyMembers around (field_rules items) fs e
 

@@ -1,4 +1,4 @@
--- What serde's and Rust's attributes say of the fields of a struct (serde.rs, "Field attributes", "Container attributes").
+-- What serde's and Rust's attributes say of the fields of a struct or a variant (serde.rs, "Field attributes", "Container attributes").
 use Rattle.std.specs.Prelude.{ℕ, List, Bool, not, Option, Some, None, option_map, option_and_then, Result, Ok, Err, filter, filter_map, codes}
 use Rattle.std.specs.List.{list_any}
 use Rattle.diag.specs.declared.rename_rule.RenameRule.{RenameRule}
@@ -21,7 +21,7 @@ use Rattle.syntax.specs.Items.{FieldItem}
 abbrev pub is_deprecated : List AttributeItem → Bool
 is_deprecated attributes = list_any (λ a. is_word (codes "deprecated") a.path) attributes
 
--- what serde's items before a struct say of its fields: the rule of their names, whether each may be absent, and whether members that no field has are refused
+-- what serde's items before a struct or a variant say of its fields: the rule of their names, whether each may be absent, and whether members that no field has are refused
 pub record FieldRules : Type 0 where
   pub rule : Option RenameRule
   pub default : Bool
@@ -30,7 +30,7 @@ pub record FieldRules : Type 0 where
 abbrev pub field_rules : List SerdeItem → FieldRules
 field_rules items = record { rule = rename_rule items; default = has_item (codes "default") items; denies = has_item (codes "deny_unknown_fields") items }
 
--- what the program's rules of a struct say of its fields
+-- what the program's rules of a struct or a variant say of its fields
 abbrev pub rules_view : SerdeContainer → FieldRules
 rules_view rules = record { rule = rules.rename_all; default = rules.default; denies = rules.deny_unknown_fields }
 

@@ -94,7 +94,7 @@ variant_of around rule tagging v =
 abbrev pub units_of : Around → Option RenameRule → List VariantItem → Tagging → Option BodyOf
 units_of around rule vs tagging = option_map (units tagging) (all_of (variant_name around.rows rule tagging) (kept_variants vs))
 
--- an enum of which a variant has fields, where no tag tells them
+-- an enum of which a variant has fields, unless a tag tells its variants
 abbrev pub mixed_of : Around → Option RenameRule → List VariantItem → Tagging → Option BodyOf
 mixed_of around rule vs tagging = cond (is_tagged tagging) None (option_map (variants tagging) (all_of (variant_of around rule tagging) (kept_variants vs)))
 

@@ -26,7 +26,7 @@ pub record VariantOf : Type 0 where
   pub remarks : Remarks
   pub form : FormOf
 
--- the fields of a struct; or how the values of an enum tell their variant, with the names of its variants where none has fields, and else with the variants
+-- a struct by its fields; an enum by how its values tell their variant, and by the names of its variants where none has fields, or else by its variants
 pub data BodyOf : Type 0 where
   fields : FormOf → BodyOf
   units : Tagging → List (List ℕ) → BodyOf
@@ -76,14 +76,14 @@ telling External names = names
 telling (Internal tag) names = names
 telling (Adjacent tag content) names = names
 
--- the names of the object that the tag of a variant stands in, where it stands beside others
+-- the names of the object in which the tag of a variant stands beside other members
 abbrev pub tagged_names : Tagging → FormOf → List (List ℕ)
 tagged_names (Internal tag) (named_fields denies ms) = member_names ms ++ tag ∷ []
 tagged_names (Adjacent tag content) (named_fields denies ms) = content ∷ tag ∷ []
 tagged_names (Adjacent tag content) (unnamed_fields ts) = content ∷ tag ∷ []
 tagged_names _ _ = []
 
--- no two members of a variant have one name, nor its tag and what stands beside it
+-- no two members of a variant have one name, and its tag has none of those beside it
 abbrev pub IsApartVariant : Tagging → VariantOf → Type 0
 IsApartVariant tagging x = IsDistinct (names_of x.form) × IsDistinct (tagged_names tagging x.form)
 

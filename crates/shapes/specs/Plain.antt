@@ -1,4 +1,4 @@
--- Declarations whose schema can say their whole shape: what stands in the places that they reach.
+-- Declarations whose schema can say their whole shape: what stands in the places that they reach, and which variants their enums have.
 use Rattle.std.specs.Prelude.{◌≡◌, ◌≢◌, ◌⊎◌, ℕ, List, [], ◌∷◌, false}
 use Rattle.leaves.specs.Leaves.{kind_of}
 use Rattle.leaves.specs.declared.leaf.LeafKind.TheVariants as kinds

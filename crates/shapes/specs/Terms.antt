@@ -110,10 +110,11 @@ tag_alone notes tag name = requiring notes tag (tag_schema name)
 abbrev pub null_term : Remarks → SchemaOf LeafOf
 null_term remarks = only_word (One word.Null) (notes_of remarks.description (Some null) (where_true remarks.deprecated))
 
--- variants without fields: one of their names, an object with a tag for each, or null
+-- an object with a tag for each of the names
 abbrev pub tags_term : Remarks → (tag : List ℕ) → List (List ℕ) → SchemaOf LeafOf
 tags_term remarks tag names = one_of (remarked remarks) (schemas_of (map (tag_alone no_notes tag) names))
 
+-- variants without fields: one of their names, an object with a tag for each, or null
 abbrev pub units_term : Remarks → Tagging → List (List ℕ) → SchemaOf LeafOf
 units_term remarks External names = texts_schema (remarked remarks) names
 units_term remarks (Internal tag) names = tags_term remarks tag names
@@ -138,7 +139,7 @@ with_property (property j t ps) k s = property j t (with_property ps k s)
 abbrev pub beside_tag : {X : Type 0} → Notes → (tag name : List ℕ) → SchemaOf X → SchemaOf X
 beside_tag notes tag name s = all_of notes (schema s (schema (tag_alone no_notes tag name) no_schemas))
 
--- the facts of a built-in name, of an object that has a tag
+-- the facts of an object that has a tag, with the format and the bounds of a built-in name
 abbrev pub tagged_leaf : Notes → (tag : List ℕ) → Leaf → Facts
 tagged_leaf notes tag x =
     with_required (tag ∷ []) (with_bounds (bounds_of (kind_of x)) (with_format (format_of x) (word_facts (One word.Object) notes)))
@@ -161,7 +162,7 @@ internal_term remarks tag name no_fields = tag_alone (remarked remarks) tag name
 abbrev pub adjacent_term : {X : Type 0} → Notes → (tag content name : List ℕ) → SchemaOf X → SchemaOf X
 adjacent_term notes tag content name s = object_of notes false (content ∷ tag ∷ []) (property content s (property tag (tag_schema name) no_properties))
 
--- a variant with fields; what is said of it stands outside and inside
+-- a variant with fields: under its name, with a tag, or as it is. What is said of it stands on the whole, and where the fields stand in it on these too.
 abbrev pub told_term : Remarks → Tagging → (name : List ℕ) → FormOf → SchemaOf LeafOf
 told_term remarks External name form = requiring (remarked remarks) name (form_term remarks form)
 told_term remarks (Internal tag) name form = internal_term remarks tag name form

@@ -30,7 +30,7 @@ pub data OpensFields : List Word → Span → Type 0 where
   in_named_fields : {inside : Trees} {s at : Span} {rest : List Word} → OpensList IsNamedField OpensNamed (words_of inside) at → OpensFields (group Curly inside s ∷ rest) at
   in_unnamed_fields : {inside : Trees} {s at : Span} {rest : List Word} → OpensList IsUnnamedField OpensUnnamed (words_of inside) at → OpensFields (group Round inside s ∷ rest) at
 
--- in a variant, behind whose fields no types stand
+-- in a variant; no types are read in its discriminant
 pub data OpensVariant : List Word → Span → Type 0 where
   in_variant_fields : {x : Ident} {at : Span} {attrs : List AttributeItem} {ws vs : List Word} → IsAttributes ws attrs (name x ∷ vs) → OpensFields vs at → OpensVariant ws at
 

@@ -3,8 +3,8 @@ use texts::{List, Span};
 use tokens::TokenTree;
 use written_types::{Ident, WrittenType};
 
-/// A field of a struct or of a variant, without a name where its form has none. The span goes from the visibility, or else from the
-/// name or the type, to the end of the type.
+/// A field of a struct or of a variant, without a name where its form has none. The span goes from the visibility, or
+/// else from the name or the type, to the end of the type.
 #[derive(Debug, Drop)]
 #[derive_where(PartialEq, Eq)]
 pub struct Field {
