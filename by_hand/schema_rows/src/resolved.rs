@@ -115,11 +115,11 @@ fn push_plain(alloc: Global, text: &mut String, of: &PlainEnum) -> Result<(), Al
 
 /// Adds how the enum tells its variants, the variants, and what is said of it.
 fn push_mixed(alloc: Global, text: &mut String, of: &MixedEnum) -> Result<(), AllocError> {
-    text.push_str(if of.untagged {
-        " mixed untagged:"
-    } else {
-        " mixed:"
-    })?;
+    text.push_str(" mixed")?;
+    if !matches!(of.tagging, Tagging::External) {
+        push_tagging(text, &of.tagging)?;
+    }
+    text.push(':')?;
     push_variants(alloc, text, of.variants.as_slice())?;
     push_remarks(text, &of.remarks)
 }

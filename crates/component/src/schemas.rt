@@ -48,7 +48,8 @@ fn minimum_of(kind: LeafKind) -> Option<Bound>
     }
 }
 
-fn bounds_of(kind: LeafKind) -> Bounds
+/// The bounds of a number of this kind: an unsigned one is not below 0.
+pub fn bounds_of(kind: LeafKind) -> Bounds
     ensures { result ≡ bounds_of kind }
 {
     Bounds {

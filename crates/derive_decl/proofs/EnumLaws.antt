@@ -1,6 +1,5 @@
 -- Variants of enums: their names, their types, and what is refused where none has fields.
-use Rattle.std.proofs.Common.{ℕ, ◌+◌, ◌<◌, List, [], ◌∷◌, ◌++◌, length, take, drop, get_or, map, Bool, true, false, ◌&&◌, cond, Option, Some, None, option_map, ◌≡◌, ◌∙◌, refl, ap, sym, subst, inl, inr, ◌⊎◌, add-one, drop-cons}
-use Rattle.std.specs.List.{AllByRecursion}
+use Rattle.std.proofs.Common.{ℕ, ◌+◌, ◌<◌, List, [], ◌∷◌, ◌++◌, length, take, drop, get_or, map, Bool, true, false, ◌&&◌, cond, Option, Some, None, option_map, ◌≡◌, ◌∙◌, refl, ap, sym, subst, inl, inr, add-one, drop-cons}
 use Rattle.std.proofs.lemmas.Bool.{false≢true}
 use Rattle.std.proofs.lemmas.List.{take_more, map_push, map-append, append-nil, append_assoc}
 use Rattle.std.proofs.lemmas.Option.{none-some, same_Some}
@@ -8,7 +7,6 @@ use Rattle.diag.specs.Refusal.{RefusesNone}
 use Rattle.diag.specs.declared.error.DeriveError.{DeriveError}
 use Rattle.diag.specs.declared.rename_rule.RenameRule.{RenameRule}
 use Rattle.texts.specs.Lists.{Somewhere}
-use Rattle.texts.specs.Names.{IsDistinct}
 use Rattle.attributes.specs.Attributes.{serde_items}
 use Rattle.attributes.specs.declared.serde_item.SerdeItem.{SerdeItem}
 use Rattle.serde_rules.specs.Container.{rename_rule, IsContainerRefusal}
@@ -19,13 +17,15 @@ use Rattle.open_types.specs.declared.open_type.OpenType.{OpenType}
 use Rattle.open_types.specs.Open.{open_view}
 use Rattle.scopes.specs.Names.{texts}
 use Rattle.shapes.specs.declared.tagging.Tagging.{Tagging}
-use Rattle.shapes.specs.Declarations.{FormOf, VariantOf, names_of, types_of, tagged_names, variant_names, variant_types, AreApartVariants}
+use Rattle.shapes.specs.Declarations.{no_fields, VariantOf, types_of, variant_names, variant_types, AreApartVariants}
 use Rattle.derive_decl.specs.declared.mixed_enum.MixedEnumVariant.{MixedEnumVariant}
-use Rattle.derive_decl.specs.Fields.{named_at}
-use Rattle.derive_decl.specs.Variants.{tagging_by, tagging_in, is_unit, are_units, is_tagged, is_kept_variant, kept_variants}
-use Rattle.derive_decl.specs.Resolved.{Around}
-use Rattle.derive_decl.specs.Faults.{AreFaulty, IsUnnamed, IsFaultyVariant, AreUnnamed, IsUnbuilt, AreFaultyVariants, IsFaultyEnum}
-use Rattle.derive_decl.specs.Views.{form_view, variant_schema_view, untold}
+use Rattle.derive_decl.specs.Fields.{named_at, field_rules}
+use Rattle.derive_decl.specs.Variants.{tagging_by, tagging_in, is_unit, are_units, is_kept_variant, kept_variants}
+use Rattle.derive_decl.specs.Resolved.{Around, form_of}
+use Rattle.derive_decl.specs.Faults.{AreFaulty, IsUnnamed, IsFaultyVariant, AreUnnamed, AreFaultyVariants, IsFaultyEnum}
+use Rattle.derive_decl.specs.Tags.{IsMisplacedTag}
+use Rattle.derive_decl.specs.Views.{form_view, variant_schema_view}
+use Rattle.derive_decl.proofs.TagLaws.{alone-tag}
 
 -- the name of an identifier that stands for one
 pub name_of-ident : (x y : Ident) (o : Option (List ℕ)) → option_map (named_at x) o ≡ Some y → o ≡ Some y.text
@@ -51,20 +51,11 @@ types_more vs i v types more l is e g =
     ∙ sym (ap variant_types (map_push variant_schema_view (take i vs) (get_or vs i v)))
     ∙ sym (ap (λ xs. variant_types (map variant_schema_view xs)) (take_more vs i v l))
 
--- ---- no tag
+-- ---- names that are apart
 
-pub no_tag : (untagged : Bool) → is_tagged (untold untagged) ≡ false
-no_tag true = refl
-no_tag false = refl
-
--- where no tag tells variants, nothing stands beside one
-none-beside : (untagged : Bool) (form : FormOf) → IsDistinct (tagged_names (untold untagged) form)
-none-beside true form = tt
-none-beside false form = tt
-
-pub apart : (untagged : Bool) (xs : List MixedEnumVariant) → AllByRecursion (λ (x : MixedEnumVariant). IsDistinct (names_of (form_view x.form))) xs → AreApartVariants (untold untagged) (map variant_schema_view xs)
-apart untagged [] h = tt
-apart untagged (x ∷ xs) h = ((h.0, none-beside untagged (form_view x.form)), apart untagged xs h.1)
+pub apart-append : (tagging : Tagging) (xs ys : List VariantOf) → AreApartVariants tagging xs → AreApartVariants tagging ys → AreApartVariants tagging (xs ++ ys)
+apart-append tagging [] ys h g = g
+apart-append tagging (x ∷ xs) ys h g = (h.0, apart-append tagging xs ys h.1 g)
 
 -- ---- variants without fields
 
@@ -74,11 +65,14 @@ pub units_at : (vs : List Variant) (i : ℕ) (v : Variant) → i < length vs →
 units_at vs i v h e = rw (add-one, drop-cons vs i v, ← e)
 
 module _ (around : Around) (rule : Option RenameRule) (tagging : Tagging) (e : DeriveError) where
-  unit-named : (v : VariantItem) (fs : FieldItems) → is_unit fs ≡ true → IsUnnamed around.rows rule tagging v e ⊎ AreFaulty around (serde_items v.attrs) v.ident fs e → IsUnnamed around.rows rule tagging v e
-  unit-named v fs u (inl h) = h
-  unit-named v (named fs) u (inr h) = absurd (false≢true u)
-  unit-named v (unnamed fs) u (inr h) = absurd (false≢true u)
-  unit-named v unit u (inr h) = absurd h
+  unit-named : (v : VariantItem) (fs : FieldItems) → v.fields ≡ fs → is_unit fs ≡ true → IsFaultyVariant around rule tagging v e → IsUnnamed around.rows rule tagging v e
+  unit-named v fs is u (inl h) = h
+  unit-named v (named fs) is u (inr h) = absurd (false≢true u)
+  unit-named v (unnamed fs) is u (inr h) = absurd (false≢true u)
+  unit-named v unit is u (inr (inl h)) = absurd (subst (λ fs. AreFaulty around (serde_items v.attrs) v.ident fs e) is h)
+  unit-named v unit is u (inr (inr (form, of, refused))) =
+      let same : no_fields ≡ form = same_Some no_fields form (sym (ap (form_of around (field_rules (serde_items v.attrs))) is) ∙ of) in
+      absurd (alone-tag tagging v e (subst (λ f. IsMisplacedTag tagging v f e) (sym same) refused))
 
   -- without fields a variant is at fault for its name alone
   units-named : (vs : List VariantItem) → are_units vs ≡ true → Somewhere (λ v. IsFaultyVariant around rule tagging v e) (kept_variants vs) → Somewhere (λ v. IsUnnamed around.rows rule tagging v e) (kept_variants vs)
@@ -89,7 +83,7 @@ module _ (around : Around) (rule : Option RenameRule) (tagging : Tagging) (e : D
           (are_units vs ≡ true → Somewhere (λ v. IsFaultyVariant around rule tagging v e) (kept_variants vs) → Somewhere (λ v. IsUnnamed around.rows rule tagging v e) (kept_variants vs)) →
           Somewhere (λ v. IsUnnamed around.rows rule tagging v e) (cond k (v ∷ kept_variants vs) (kept_variants vs))
       by false is k u h later = absurd (false≢true u)
-      by true is true u (inl f) later = inl (unit-named v v.fields is f)
+      by true is true u (inl f) later = inl (unit-named v v.fields refl is f)
       by true is true u (inr f) later = inr (later u f)
       by true is false u f later = later u f
 
@@ -110,15 +104,12 @@ module _ (around : Around) (rule : Option RenameRule) (tagging : Tagging) (e : D
 -- ---- the whole enum
 
 module _ (around : Around) (items : List SerdeItem) (x : Ident) (vs : List VariantItem) (rule : Option RenameRule) (tagging : Tagging) (told : tagging_in items ≡ Some tagging) (rules : rule ≡ rename_rule items) where
-  abbrev pub IsAtFault : DeriveError → Type 0
-  IsAtFault e = IsUnbuilt x tagging vs e ⊎ AreFaultyVariants around rule tagging vs e
+  pub enum_refused : (e : DeriveError) → AreFaultyVariants around rule tagging vs e → IsFaultyEnum around items x vs e
+  enum_refused e fault = inr (tagging, told, subst (λ r. AreFaultyVariants around r tagging vs e) rules fault)
 
-  pub enum_refused : (e : DeriveError) → IsAtFault e → IsFaultyEnum around items x vs e
-  enum_refused e fault = inr (tagging, told, subst (λ r. IsUnbuilt x tagging vs e ⊎ AreFaultyVariants around r tagging vs e) rules fault)
-
-  pub enum_faultless : RefusesNone (IsContainerRefusal items) → RefusesNone IsAtFault → RefusesNone (IsFaultyEnum around items x vs)
+  pub enum_faultless : RefusesNone (IsContainerRefusal items) → RefusesNone (AreFaultyVariants around rule tagging vs) → RefusesNone (IsFaultyEnum around items x vs)
   enum_faultless allowed none e (inl (inl refused)) = allowed e refused
   enum_faultless allowed none e (inl (inr (content, unfinished, first, refused))) = none-some tagging (sym (ap tagging_by unfinished) ∙ told)
   enum_faultless allowed none e (inr (other, is, fault)) =
-      none e (subst (λ r. IsUnbuilt x tagging vs e ⊎ AreFaultyVariants around r tagging vs e) (sym rules)
-      (subst (λ t. IsUnbuilt x t vs e ⊎ AreFaultyVariants around (rename_rule items) t vs e) (same_Some other tagging (sym is ∙ told)) fault))
+      none e (subst (λ r. AreFaultyVariants around r tagging vs e) (sym rules)
+      (subst (λ t. AreFaultyVariants around (rename_rule items) t vs e) (same_Some other tagging (sym is ∙ told)) fault))

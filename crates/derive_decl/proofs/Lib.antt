@@ -3,6 +3,7 @@ pub mod First
 pub mod Growing
 pub mod Members
 pub mod Rules
+pub mod TagLaws
 pub mod Texts
 pub mod EnumLaws
 pub mod Within

@@ -14,7 +14,7 @@ use Rattle.resolving.specs.Resolved.{type_of, ResolvedAreWithin}
 use Rattle.scopes.specs.Names.{declared_names}
 use Rattle.shapes.specs.Declarations.{MemberOf, FormOf, named_fields, unnamed_fields, no_fields, VariantOf, BodyOf, fields, units, variants, DeclarationOf, member_types, types_of, variant_types, body_types, declaration_names, TypesWithin, AreWithin}
 use Rattle.shapes.specs.declared.tagging.Tagging.{Tagging}
-use Rattle.derive_decl.specs.Variants.{tagging_in, are_units, is_tagged, kept_variants, variant_name}
+use Rattle.derive_decl.specs.Variants.{tagging_in, are_units, kept_variants, variant_name}
 use Rattle.derive_decl.specs.Fields.{FieldRules, field_rules, kept, written_name}
 use Rattle.derive_decl.specs.Resolved.{Around, around_of, all_of, member_from, member_as, member_of, form_of, variant_from, variant_of, units_of, mixed_of, enum_of, body_of, declaration_from, resolved_of}
 use Rattle.derive_decl.specs.Whole.{resolved_declarations}
@@ -132,13 +132,9 @@ module _ (around : Around) where
         subst (λ ys. TypesWithin n (variant_types ys)) j.4 (both_within (types_of j.0.form) (variant_types j.1) (variant_within rule tagging v j.0 j.2) (variants_within rule tagging vs j.1 j.3))
 
     mixed_within : (rule : Option RenameRule) (vs : List VariantItem) (tagging : Tagging) (body : BodyOf) → mixed_of around rule vs tagging ≡ Some body → TypesWithin n (body_types body)
-    mixed_within rule vs tagging body e = by (is_tagged tagging) e
-      where
-        by : (b : Bool) → cond b None (option_map (variants tagging) (all_of (variant_of around rule tagging) (kept_variants vs))) ≡ Some body → TypesWithin n (body_types body)
-        by true h = absurd (none-some body h)
-        by false h =
-            let m = mapped (variants tagging) (all_of (variant_of around rule tagging) (kept_variants vs)) body h in
-            subst (λ x. TypesWithin n (body_types x)) m.2 (variants_within rule tagging (kept_variants vs) m.0 m.1)
+    mixed_within rule vs tagging body e =
+        let m = mapped (variants tagging) (all_of (variant_of around rule tagging) (kept_variants vs)) body e in
+        subst (λ x. TypesWithin n (body_types x)) m.2 (variants_within rule tagging (kept_variants vs) m.0 m.1)
 
     enum_within : (rule : Option RenameRule) (vs : List VariantItem) (tagging : Option Tagging) (body : BodyOf) → option_and_then (enum_of around rule vs) tagging ≡ Some body → TypesWithin n (body_types body)
     enum_within rule vs None body e = absurd (none-some body e)

@@ -1,5 +1,5 @@
--- Why a declaration has no schema: an attribute that nothing is derived from, serde's items that contradict each other, name a content and no tag, or name a rename rule that there is not, a tag that tells variants with fields, a name that has no row or that two fields or variants have, a type that stands for nothing or is too large, a form of unnamed fields without a field.
-use Rattle.std.specs.Prelude.{◌≡◌, ◌⊎◌, ◌||◌, ℕ, List, [], ◌∷◌, ◌++◌, Bool, true, false, cond, Option, Some, None, Ok, codes}
+-- Why a declaration has no schema: an attribute that nothing is derived from, serde's items that contradict each other, name a content and no tag, or name a rename rule that there is not, a tag that cannot stand where it should, a name that has no row or that two fields or variants have, a type that stands for nothing or is too large, a form of unnamed fields without a field.
+use Rattle.std.specs.Prelude.{◌≡◌, ◌⊎◌, ◌||◌, ℕ, List, [], ◌∷◌, ◌++◌, Bool, cond, Option, Some, None, Ok, codes}
 use Rattle.std.specs.List.{flat_map}
 use Rattle.diag.specs.Refusal.{IsRefusal, IsSyntaxRefusal, RefusesNone}
 use Rattle.diag.specs.declared.error.DeriveError.{DeriveError}
@@ -21,11 +21,13 @@ use Rattle.serde_rules.specs.Items.{has_item}
 use Rattle.syntax.specs.Items.{FieldItem, FieldItems, named, unnamed, unit, VariantItem, BodyItem, struct_body, enum_body, DeclaredItem}
 use Rattle.resolving.specs.Resolved.{Fault, IsFault, IsRefusedFor}
 use Rattle.scopes.specs.Names.{IsGivenTwice}
+use Rattle.shapes.specs.Declarations.{FormOf}
 use Rattle.shapes.specs.declared.tagging.Tagging.{Tagging}
 use Rattle.shapes.specs.declared.tagging.Tagging.TheVariants.{External, Internal, Adjacent, Untagged}
-use Rattle.derive_decl.specs.Variants.{tagging_in, are_units, is_tagged, value_of_variant, kept_variants, telling_idents}
+use Rattle.derive_decl.specs.Variants.{tagging_in, value_of_variant, kept_variants, telling_idents}
 use Rattle.derive_decl.specs.Fields.{FieldRules, field_rules, value_of, kept, name_by, written_idents}
-use Rattle.derive_decl.specs.Resolved.{Around, around_of}
+use Rattle.derive_decl.specs.Resolved.{Around, around_of, form_of}
+use Rattle.derive_decl.specs.Tags.{IsMisplacedTag}
 
 abbrev pub fields_in : FieldItems → List FieldItem
 fields_in (named fs) = fs
@@ -130,13 +132,17 @@ IsUnnamed rows rule (Adjacent tag content) v e = IsUnwritten Variant rows rule (
 abbrev pub AreUnnamed : List RenameRow → Option RenameRule → Tagging → List VariantItem → DeriveError → Type 0
 AreUnnamed rows rule tagging vs e = Somewhere (λ v. IsUnnamed rows rule tagging v e) (kept_variants vs) ⊎ IsGivenTwice (telling_idents rows rule tagging (kept_variants vs)) e
 
--- the error refuses the variant: its name, or its fields
-abbrev pub IsFaultyVariant : Around → Option RenameRule → Tagging → VariantItem → DeriveError → Type 0
-IsFaultyVariant around rule tagging v e = IsUnnamed around.rows rule tagging v e ⊎ AreFaulty around (serde_items v.attrs) v.ident v.fields e
+-- the error refuses the variant, whose fields have a form, since the enum's tag cannot stand there
+abbrev pub IsFaultyTag : Around → Tagging → VariantItem → DeriveError → Type 0
+IsFaultyTag around tagging v e = (form : FormOf) × (form_of around (field_rules (serde_items v.attrs)) v.fields ≡ Some form) × IsMisplacedTag tagging v form e
 
--- the error refuses the enum of the name, of which a variant has fields, since a tag tells them
-abbrev pub IsUnbuilt : Ident → Tagging → List VariantItem → DeriveError → Type 0
-IsUnbuilt x tagging vs e = (are_units vs ≡ false) × (is_tagged tagging ≡ true) × IsSyntaxRefusal x.span e
+-- the error refuses the variant's fields, or the enum's tag beside them
+abbrev pub IsFaultyContent : Around → Tagging → VariantItem → DeriveError → Type 0
+IsFaultyContent around tagging v e = AreFaulty around (serde_items v.attrs) v.ident v.fields e ⊎ IsFaultyTag around tagging v e
+
+-- the error refuses the variant: its name, its fields, or the tag beside them
+abbrev pub IsFaultyVariant : Around → Option RenameRule → Tagging → VariantItem → DeriveError → Type 0
+IsFaultyVariant around rule tagging v e = IsUnnamed around.rows rule tagging v e ⊎ IsFaultyContent around tagging v e
 
 -- the error refuses the variants that are kept: one of them, or a name that two are told by
 abbrev pub AreFaultyVariants : Around → Option RenameRule → Tagging → List VariantItem → DeriveError → Type 0
@@ -147,7 +153,7 @@ AreFaultyVariants around rule tagging vs e =
 abbrev pub IsFaultyEnum : Around → List SerdeItem → Ident → List VariantItem → DeriveError → Type 0
 IsFaultyEnum around items x vs e =
     IsFaultyTagging items x e
-    ⊎ ((tagging : Tagging) × (tagging_in items ≡ Some tagging) × (IsUnbuilt x tagging vs e ⊎ AreFaultyVariants around (rename_rule items) tagging vs e))
+    ⊎ ((tagging : Tagging) × (tagging_in items ≡ Some tagging) × AreFaultyVariants around (rename_rule items) tagging vs e)
 
 -- ---- declarations
 

@@ -2,6 +2,7 @@ pub mod Fields
 pub mod Faults
 pub mod Resolved
 pub mod Schemas
+pub mod Tags
 pub mod Variants
 pub mod Views
 pub mod Whole

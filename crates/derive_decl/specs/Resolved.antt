@@ -18,22 +18,12 @@ use Rattle.resolving.specs.Resolved.{type_of}
 use Rattle.scopes.specs.Names.{place_among}
 use Rattle.scopes.specs.Descriptions.{said}
 use Rattle.derive_decl.specs.Fields.{is_deprecated, FieldRules, field_rules, value_of, kept, written_name}
-use Rattle.derive_decl.specs.Variants.{tagging_in, are_units, is_tagged, kept_variants, variant_name}
+use Rattle.derive_decl.specs.Variants.{tagging_in, are_units, kept_variants, variant_name}
 
 -- null stands for the type
 abbrev pub is_option : Open → Bool
-is_option (types.leaf x) = false
-is_option types.any_value = false
-is_option types.free_object = false
-is_option types.unit = false
-is_option (types.tuple ts) = false
-is_option (types.items h t) = false
-is_option (types.set h t) = false
-is_option (types.map_of h k t) = false
 is_option (types.option t) = true
-is_option (types.through h t) = false
-is_option (types.param i) = false
-is_option (types.named d ts) = false
+is_option _ = false
 
 -- each item's result, where all have one
 abbrev pub all_of : {A B : Type 0} → (A → Option B) → List A → Option (List B)
@@ -94,9 +84,9 @@ variant_of around rule tagging v =
 abbrev pub units_of : Around → Option RenameRule → List VariantItem → Tagging → Option BodyOf
 units_of around rule vs tagging = option_map (units tagging) (all_of (variant_name around.rows rule tagging) (kept_variants vs))
 
--- an enum of which a variant has fields, unless a tag tells its variants
+-- an enum of which a variant has fields
 abbrev pub mixed_of : Around → Option RenameRule → List VariantItem → Tagging → Option BodyOf
-mixed_of around rule vs tagging = cond (is_tagged tagging) None (option_map (variants tagging) (all_of (variant_of around rule tagging) (kept_variants vs)))
+mixed_of around rule vs tagging = option_map (variants tagging) (all_of (variant_of around rule tagging) (kept_variants vs))
 
 abbrev pub enum_of : Around → Option RenameRule → List VariantItem → Tagging → Option BodyOf
 enum_of around rule vs tagging = cond (are_units vs) (units_of around rule vs tagging) (mixed_of around rule vs tagging)

@@ -43,13 +43,6 @@ is_unit unit = true
 abbrev pub are_units : List VariantItem → Bool
 are_units vs = list_all (λ v. is_unit v.fields) vs
 
--- a tag tells the variant
-abbrev pub is_tagged : Tagging → Bool
-is_tagged External = false
-is_tagged (Internal tag) = true
-is_tagged (Adjacent tag content) = true
-is_tagged Untagged = false
-
 -- what serde's items before a variant say of it
 abbrev pub value_of_variant : VariantItem → SerdeValue
 value_of_variant v = value_rules (serde_items v.attrs)

@@ -1,5 +1,5 @@
 -- What the program's resolved declarations are, and where their names are known.
-use Rattle.std.specs.Prelude.{List, Bool, true, false, map}
+use Rattle.std.specs.Prelude.{List, map}
 use Rattle.attributes.specs.Attributes.{AttributeItem, attribute_view, serde_items}
 use Rattle.attributes.specs.declared.serde_item.SerdeItem.{SerdeItem}
 use Rattle.open_types.specs.Open.{open_view}
@@ -7,8 +7,6 @@ use Rattle.scopes.specs.Scopes.{declared_in}
 use Rattle.scopes.specs.declared.container.Container.{Container}
 use Rattle.scopes.specs.Names.{texts}
 use Rattle.shapes.specs.declared.remarks.Remarks.{Remarks}
-use Rattle.shapes.specs.declared.tagging.Tagging.{Tagging}
-use Rattle.shapes.specs.declared.tagging.Tagging.TheVariants.{External, Untagged}
 use Rattle.shapes.specs.Declarations.{MemberOf, FormOf, named_fields, unnamed_fields, no_fields, VariantOf, BodyOf, fields, units, variants, DeclarationOf}
 use Rattle.derive_decl.specs.Resolved.{Around, around_of}
 use Rattle.derive_decl.specs.declared.member.Member.{Member}
@@ -62,13 +60,8 @@ form_remarks (forms.Unit s) = s.remarks
 abbrev pub variant_schema_view : MixedEnumVariant → VariantOf
 variant_schema_view x = record { name = x.ident.text; remarks = form_remarks x.form; form = form_view x.form }
 
--- how variants that no tag tells are told
-abbrev pub untold : Bool → Tagging
-untold true = Untagged
-untold false = External
-
 abbrev pub mixed_view : MixedEnum → BodyOf
-mixed_view e = variants (untold e.untagged) (map variant_schema_view e.variants)
+mixed_view e = variants e.tagging (map variant_schema_view e.variants)
 
 abbrev pub enum_view : EnumSchema → BodyOf
 enum_view (enums.Plain e) = plain_view e

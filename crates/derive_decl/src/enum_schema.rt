@@ -1,19 +1,19 @@
 //! Enums.
 
-ghost use Rattle.std.specs.Prelude.{◌≡◌, ◌⊎◌, map, true, IfOk, Some};
+ghost use Rattle.std.specs.Prelude.{◌≡◌, map, IfOk, Some};
 ghost use Rattle.std.specs.List.{AllByRecursion};
 ghost use Rattle.std.specs.Option.{option_and_then};
-ghost use Rattle.diag.specs.Refusal.{IsSyntaxRefusal, Refuses, RefusesNone};
+ghost use Rattle.diag.specs.Refusal.{Refuses, RefusesNone};
 ghost use Rattle.serde_rules.specs.Container.{rename_rule};
 ghost use Rattle.syntax.specs.Items.{fields_view, variant_view};
 ghost use Rattle.syntax.specs.Named.{HaveNames};
 ghost use Rattle.component.specs.Leaves.{term_view};
 ghost use Rattle.shapes.specs.Declarations.{IsApartBody};
 ghost use Rattle.shapes.specs.Terms.{body_term};
-ghost use Rattle.derive_decl.specs.Variants.{is_unit, are_units, is_tagged, tagging_in};
+ghost use Rattle.derive_decl.specs.Variants.{is_unit, are_units, tagging_in};
 ghost use Rattle.derive_decl.specs.Resolved.{remarks_of, enum_of};
-ghost use Rattle.derive_decl.specs.Faults.{IsFaultyEnum, IsUnbuilt, AreFaultyVariants};
-ghost use Rattle.derive_decl.specs.Views.{attributes_of, items_of, known, untold, enum_view, enum_remarks};
+ghost use Rattle.derive_decl.specs.Faults.{IsFaultyEnum, AreFaultyVariants};
+ghost use Rattle.derive_decl.specs.Views.{attributes_of, items_of, known, enum_view, enum_remarks};
 
 use crate::mixed_enum::MixedEnum;
 use crate::plain_enum::PlainEnum;
@@ -24,7 +24,7 @@ use diag::{DeriveError, RenameRule};
 use serde_rules::parse_container;
 use shapes::Tagging;
 use std::alloc::{AllocError, Global};
-use syntax::{Fields, Ident, Variant};
+use syntax::{Fields, Variant};
 
 /// An enum: of variants that all have no fields, or of which one has some.
 #[derive(Debug, Drop)]
@@ -54,21 +54,6 @@ fn are_units(variants: &[Variant]) -> bool
     true
 }
 
-/// Whether nothing tells a variant, where no tag does. The enum of the name is refused where one does.
-fn is_untagged(alloc: Global, ident: &Ident, tagging: &Tagging) -> Result<bool, DeriveError>
-    ensures untagged { IfOk result (λ untagged. tagging.now ≡ untold untagged) }
-    ensures refused { Refuses result
-        (λ e. (is_tagged tagging.now ≡ true) × IsSyntaxRefusal ident.now.span e) }
-{
-    match tagging {
-        Tagging::External => Ok(false),
-        Tagging::Untagged => Ok(true),
-        Tagging::Internal { .. } | Tagging::Adjacent { .. } => {
-            Err(DeriveError::syntax(alloc, ident.span))
-        }
-    }
-}
-
 /// The enum with these variants, whose values tell so which of them they are.
 fn told_by(
     alloc: Global,
@@ -85,29 +70,27 @@ fn told_by(
     ensures apart { IfOk result (λ e. IsApartBody (enum_view e)) }
     ensures faultless { IfOk result
         (λ _. RefusesNone
-        (λ e. IsUnbuilt root.now.ident.now tagging (map variant_view variants.now) e
-        ⊎ AreFaultyVariants (known root.now.container.now) rule tagging
-        (map variant_view variants.now) e)) }
+        (AreFaultyVariants (known root.now.container.now) rule tagging
+        (map variant_view variants.now))) }
     ensures refused { Refuses result
-        (λ e. IsUnbuilt root.now.ident.now tagging (map variant_view variants.now) e
-        ⊎ AreFaultyVariants (known root.now.container.now) rule tagging
-        (map variant_view variants.now) e) }
+        (AreFaultyVariants (known root.now.container.now) rule tagging
+        (map variant_view variants.now)) }
 {
     if are_units(variants) {
         return Ok(EnumSchema::Plain(PlainEnum::new(alloc, root, rule, tagging, variants)?));
     }
-    let untagged = is_untagged(alloc, root.ident, &tagging)?;
-    Ok(EnumSchema::Mixed(MixedEnum::new(alloc, root, rule, untagged, variants)?))
+    Ok(EnumSchema::Mixed(MixedEnum::new(alloc, root, rule, tagging, variants)?))
 }
 
 impl EnumSchema {
     /// The enum with these variants.
     ///
     /// A refusal is of kind `SerdeTag` or `BadValue`, for serde's attributes of the enum, or `SerdeTag` at its name where
-    /// they name a content and no tag; `Syntax`, at its name, where a variant has fields and a tag tells them. Of the
-    /// variants that are kept it is `MissingRow`, at an identifier whose name is that of a row that there is not;
-    /// `DuplicateName`, at the first identifier whose name stands before it; or what a struct of these fields is refused
-    /// for. The names of untagged variants need no row, and may be equal.
+    /// they name a content and no tag. Of the variants that are kept it is `MissingRow`, at an identifier whose name is
+    /// that of a row that there is not; `DuplicateName`, at the first identifier whose name stands before it; what a struct
+    /// of these fields is refused for; `TaggedTuple`, at the variant, where its tag should stand among the elements of a
+    /// list; or `DuplicateName`, at the variant's identifier, where its tag has the name of what stands beside it. The
+    /// names of untagged variants need no row, and may be equal.
     pub(crate) fn new(
         alloc: Global,
         root: &Root<'_>,

@@ -19,6 +19,7 @@ use crate::unit_struct::UnitStructVariant;
 use crate::unnamed_struct::UnnamedStructSchema;
 use component::{Term, ToTerm};
 use diag::DeriveError;
+use shapes::Remarks;
 use std::alloc::{AllocError, Global};
 use syntax::Fields;
 
@@ -66,6 +67,17 @@ pub(crate) fn of_fields(
 }
 
 impl FormSchema {
+    /// What is said of the declaration or the variant.
+    pub(crate) fn remarks(&self) -> &Remarks
+        ensures { result.now ≡ form_remarks self.now }
+    {
+        match self {
+            FormSchema::Named(form) => &form.remarks,
+            FormSchema::Unnamed(form) => &form.remarks,
+            FormSchema::Unit(form) => &form.remarks,
+        }
+    }
+
     /// The schema of the fields.
     pub(crate) fn term(&self, alloc: Global) -> Result<Term, AllocError>
         ensures { IfOk result

@@ -17,8 +17,10 @@ mod root;
 mod schema;
 mod schema_variant;
 mod tagged;
+mod tags;
 mod unit_struct;
 mod unnamed_struct;
+mod variant_term;
 mod variants;
 mod whole;
 

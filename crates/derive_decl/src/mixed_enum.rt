@@ -5,22 +5,23 @@ ghost use Rattle.std.specs.List.{AllByRecursion, cons_option, filter_map};
 ghost use Rattle.diag.specs.Refusal.{Refuses, RefusesNone};
 ghost use Rattle.texts.specs.Lists.{Somewhere};
 ghost use Rattle.texts.specs.Names.{IsDistinct};
-ghost use Rattle.schema_core.specs.Schema.{tree_views, schemas_of};
 ghost use Rattle.syntax.specs.Items.{variant_view};
 ghost use Rattle.syntax.specs.Named.{HaveNames};
-ghost use Rattle.component.specs.Leaves.{leaf_view, term_view};
-ghost use Rattle.shapes.specs.Declarations.{names_of, IsApartBody};
-ghost use Rattle.shapes.specs.Terms.{variant_term, body_term};
+ghost use Rattle.component.specs.Leaves.{term_view};
+ghost use Rattle.shapes.specs.Declarations.{names_of, tagged_names, IsApartVariant, AreApartVariants, IsApartBody};
+ghost use Rattle.shapes.specs.Terms.{body_term};
 ghost use Rattle.derive_decl.specs.Variants.{value_of_variant, kept_variants, variant_ident};
-ghost use Rattle.derive_decl.specs.Resolved.{all_of, remarks_of, variant_of, mixed_of};
-ghost use Rattle.derive_decl.specs.Faults.{IsFaultyVariant, AreFaultyVariants};
-ghost use Rattle.derive_decl.specs.Views.{attributes_of, known, form_view, variant_schema_view, untold, mixed_view};
+ghost use Rattle.derive_decl.specs.Fields.{field_rules};
+ghost use Rattle.derive_decl.specs.Resolved.{all_of, form_of, remarks_of, variant_of, mixed_of};
+ghost use Rattle.derive_decl.specs.Faults.{IsFaultyContent, IsFaultyVariant, AreFaultyVariants};
+ghost use Rattle.derive_decl.specs.Views.{attributes_of, items_of, known, form_view, form_remarks, variant_schema_view, mixed_view};
 
 use crate::form_schema::{FormSchema, of_fields};
 use crate::push_some::push_some;
 use crate::remarks::remarks_of;
 use crate::root::Root;
-use crate::tagged::{name_schema, null_term, requiring};
+use crate::tags::tag_stands;
+use crate::variant_term::variant_terms;
 use crate::variants::{kept_name, told_apart};
 use component::{Term, ToTerm, noted};
 use diag::{DeriveError, RenameRule};
@@ -48,14 +49,42 @@ impl Named for MixedEnumVariant {
     }
 }
 
-/// An enum of which a variant has fields. No tag tells its variants.
+/// An enum of which a variant has fields.
 #[derive(Debug, Drop)]
 pub struct MixedEnum {
     pub remarks: Remarks,
-    /// Whether not even its name tells a variant.
-    pub untagged: bool,
+    pub tagging: Tagging,
     /// The variants that serde does not skip.
     pub variants: List<MixedEnumVariant>,
+}
+
+/// What the fields of the variant are resolved to, where the tag can stand.
+fn tagged_form(
+    alloc: Global,
+    root: &Root<'_>,
+    tagging: &Tagging,
+    variant: &Variant,
+) -> Result<FormSchema, DeriveError>
+    requires named { HaveNames (variant_view variant.now).fields }
+    requires items { attributes_of root.now ≡ (variant_view variant.now).attrs }
+    requires ident { root.now.ident.now ≡ (variant_view variant.now).ident }
+    ensures form { IfOk result
+        (λ form. form_of (known root.now.container.now) (field_rules (items_of root.now))
+        (variant_view variant.now).fields ≡ Some (form_view form)) }
+    ensures remarks { IfOk result
+        (λ form. form_remarks form ≡ remarks_of (attributes_of root.now)) }
+    ensures distinct { IfOk result (λ form. IsDistinct (names_of (form_view form))) }
+    ensures apart { IfOk result
+        (λ form. IsDistinct (tagged_names tagging.now (form_view form))) }
+    ensures faultless { IfOk result
+        (λ _. RefusesNone
+        (IsFaultyContent (known root.now.container.now) tagging.now (variant_view variant.now))) }
+    ensures refused { Refuses result
+        (IsFaultyContent (known root.now.container.now) tagging.now (variant_view variant.now)) }
+{
+    let form = of_fields(alloc, root, &variant.fields)?;
+    tag_stands(alloc, tagging, variant, &form)?;
+    Ok(form)
 }
 
 /// The variant, which is kept; before it serde says `value`. Its fields have the rules that serde's items before it say.
@@ -75,7 +104,7 @@ fn kept_variant(
     ensures ident { IfOk result
         (λ x. variant_ident root.now.container.now.config.now.renames rule tagging.now
         (variant_view variant.now) ≡ Some x.ident) }
-    ensures distinct { IfOk result (λ x. IsDistinct (names_of (form_view x.form))) }
+    ensures apart { IfOk result (λ x. IsApartVariant tagging.now (variant_schema_view x)) }
     ensures faultless { IfOk result
         (λ _. RefusesNone
         (IsFaultyVariant (known root.now.container.now) rule tagging.now
@@ -90,7 +119,7 @@ fn kept_variant(
         attributes: variant.attrs.as_slice(),
         container: root.container,
     };
-    let form = of_fields(alloc, &own, &variant.fields)?;
+    let form = tagged_form(alloc, &own, tagging, variant)?;
     Ok(MixedEnumVariant { ident, form })
 }
 
@@ -111,9 +140,8 @@ fn resolve_variant(
         (λ x. filter_map (variant_ident root.now.container.now.config.now.renames rule tagging.now)
         (kept_variants (variant_view variant.now ∷ []))
         ≡ map (λ v. v.ident) (cons_option x [])) }
-    ensures distinct { IfOk result
-        (λ x. AllByRecursion (λ v. IsDistinct (names_of (form_view v.form)))
-        (cons_option x [])) }
+    ensures apart { IfOk result
+        (λ x. AreApartVariants tagging.now (map variant_schema_view (cons_option x []))) }
     ensures faultless { IfOk result
         (λ _. AllByRecursion
         (λ v. RefusesNone (IsFaultyVariant (known root.now.container.now) rule tagging.now v))
@@ -146,8 +174,8 @@ fn resolve_variants(
         (λ xs. filter_map
         (variant_ident root.now.container.now.config.now.renames rule tagging.now)
         (kept_variants (map variant_view variants.now)) ≡ map (λ v. v.ident) xs) }
-    ensures distinct { IfOk result
-        (λ xs. AllByRecursion (λ v. IsDistinct (names_of (form_view v.form))) xs) }
+    ensures apart { IfOk result
+        (λ xs. AreApartVariants tagging.now (map variant_schema_view xs)) }
     ensures faultless { IfOk result
         (λ _. AllByRecursion
         (λ v. RefusesNone (IsFaultyVariant (known root.now.container.now) rule tagging.now v))
@@ -165,112 +193,37 @@ fn resolve_variants(
     Ok(resolved)
 }
 
-/// How variants that no tag tells are told.
-fn untold(untagged: bool) -> Tagging
-    ensures { result ≡ untold untagged }
-{
-    if untagged {
-        Tagging::Untagged
-    } else {
-        Tagging::External
-    }
-}
-
 impl MixedEnum {
-    /// The enum with these variants, which a tag does not tell. It is refused as `EnumSchema::new` says.
+    /// The enum with these variants. It is refused as `EnumSchema::new` says.
     pub(crate) fn new(
         alloc: Global,
         root: &Root<'_>,
         rule: Option<RenameRule>,
-        untagged: bool,
+        tagging: Tagging,
         variants: &[Variant],
     ) -> Result<MixedEnum, DeriveError>
         requires { AllByRecursion (λ v. HaveNames v.fields) (map variant_view variants.now) }
         ensures variants { IfOk result
             (λ e. mixed_of (known root.now.container.now) rule (map variant_view variants.now)
-            (untold untagged) ≡ Some (mixed_view e)) }
+            tagging ≡ Some (mixed_view e)) }
         ensures remarks { IfOk result (λ e. e.remarks ≡ remarks_of (attributes_of root.now)) }
         ensures apart { IfOk result (λ e. IsApartBody (mixed_view e)) }
         ensures faultless { IfOk result
             (λ _. RefusesNone
-            (AreFaultyVariants (known root.now.container.now) rule (untold untagged)
+            (AreFaultyVariants (known root.now.container.now) rule tagging
             (map variant_view variants.now))) }
         ensures refused { Refuses result
-            (AreFaultyVariants (known root.now.container.now) rule (untold untagged)
+            (AreFaultyVariants (known root.now.container.now) rule tagging
             (map variant_view variants.now)) }
     {
-        let tagging = untold(untagged);
         let variants = resolve_variants(alloc, root, rule, &tagging, variants)?;
         told_apart(alloc, &tagging, variants.as_slice())?;
         Ok(MixedEnum {
             remarks: remarks_of(alloc, root.attributes)?,
-            untagged,
+            tagging,
             variants,
         })
     }
-}
-
-/// The schema of a variant that nothing tells.
-fn untagged_term(alloc: Global, variant: &MixedEnumVariant) -> Result<Term, AllocError>
-    ensures { IfOk result (λ t. term_view t
-        ≡ variant_term Tagging.Untagged (variant_schema_view variant.now)) }
-{
-    match &variant.form {
-        FormSchema::Unit(form) => null_term(alloc, &form.remarks),
-        FormSchema::Named(form) => form.term(alloc),
-        FormSchema::Unnamed(form) => form.term(alloc),
-    }
-}
-
-/// The schema of a variant that its name tells: the name alone, or an object that has a member of the name.
-fn external_term(alloc: Global, variant: &MixedEnumVariant) -> Result<Term, AllocError>
-    ensures { IfOk result (λ t. term_view t
-        ≡ variant_term Tagging.External (variant_schema_view variant.now)) }
-{
-    let name = &variant.ident.text;
-    let (remarks, content) = match &variant.form {
-        FormSchema::Unit(form) => {
-            let notes = noted(alloc, form.remarks.deprecated, &form.remarks.description)?;
-            return name_schema(alloc, notes, name);
-        }
-        FormSchema::Named(form) => (&form.remarks, form.term(alloc)?),
-        FormSchema::Unnamed(form) => (&form.remarks, form.term(alloc)?),
-    };
-    let notes = noted(alloc, remarks.deprecated, &remarks.description)?;
-    requiring(alloc, notes, name, content)
-}
-
-/// The schema of a variant.
-fn variant_term(
-    alloc: Global,
-    untagged: bool,
-    variant: &MixedEnumVariant,
-) -> Result<Term, AllocError>
-    ensures { IfOk result (λ t. term_view t
-        ≡ variant_term (untold untagged) (variant_schema_view variant.now)) }
-{
-    if untagged {
-        untagged_term(alloc, variant)
-    } else {
-        external_term(alloc, variant)
-    }
-}
-
-/// The schemas of the variants.
-fn variant_terms(
-    alloc: Global,
-    untagged: bool,
-    variants: &[MixedEnumVariant],
-) -> Result<List<Term>, AllocError>
-    ensures { IfOk result (λ items. tree_views leaf_view items
-        ≡ schemas_of (map (variant_term (untold untagged))
-        (map variant_schema_view variants.now))) }
-{
-    let mut items = List::new(alloc);
-    for variant in variants {
-        items.push(variant_term(alloc, untagged, variant)?)?;
-    }
-    Ok(items)
 }
 
 impl MixedEnum {
@@ -280,7 +233,7 @@ impl MixedEnum {
             (λ t. term_view t ≡ body_term self.now.remarks (mixed_view self.now)) }
     {
         let notes = noted(alloc, self.remarks.deprecated, &self.remarks.description)?;
-        let items = variant_terms(alloc, self.untagged, self.variants.as_slice())?;
+        let items = variant_terms(alloc, &self.tagging, self.variants.as_slice())?;
         Ok(Tree::OneOf(Box::new(alloc, OneOfSchema { items, notes })?))
     }
 }

@@ -10,7 +10,7 @@ ghost use Rattle.syntax.specs.Items.{field_view, named};
 ghost use Rattle.syntax.specs.Named.{HasName};
 ghost use Rattle.component.specs.Leaves.{leaf_view, term_view};
 ghost use Rattle.shapes.specs.Declarations.{member_names};
-ghost use Rattle.shapes.specs.Terms.{properties_of, required_names, others_of, object_of, form_term};
+ghost use Rattle.shapes.specs.Terms.{properties_of, required_names, others_of, object_of, form_term, internal_term};
 ghost use Rattle.derive_decl.specs.Fields.{field_rules, kept, rules_view, written_idents};
 ghost use Rattle.derive_decl.specs.Resolved.{all_of, form_of, member_of, remarks_of};
 ghost use Rattle.derive_decl.specs.Faults.{IsFaultyMember, AreFaultyMembers, AreFaultyNamed};
@@ -21,6 +21,7 @@ use crate::member::{Member, resolve_member};
 use crate::push_some::push_some;
 use crate::remarks::remarks_of;
 use crate::root::Root;
+use crate::tagged::push_tag;
 use component::{Term, TermLeaf, ToTerm, noted};
 use diag::DeriveError;
 use schema_core::{Additional, Notes, Object, SchemaTypeInner, Tree, TypeWord};
@@ -211,6 +212,25 @@ impl NamedStructSchema {
         let properties = properties_of(alloc, members)?;
         let object = object_of(alloc, properties, self.denies_others, required, notes);
         Ok(Tree::Object(Box::new(alloc, object)?))
+    }
+
+    /// The schema of the struct with a tag behind its members, whose text is the name.
+    pub(crate) fn tagged_term(
+        &self,
+        alloc: Global,
+        tag: &Text,
+        name: &Text,
+    ) -> Result<Term, AllocError>
+        ensures { IfOk result (λ t. term_view t
+            ≡ internal_term self.now.remarks tag.now name.now (named_view self.now)) }
+    {
+        let members = self.members.as_slice();
+        let notes = noted(alloc, self.remarks.deprecated, &self.remarks.description)?;
+        let mut required = required_of(alloc, members)?;
+        let mut properties = properties_of(alloc, members)?;
+        push_tag(alloc, &mut properties, &mut required, tag, name)?;
+        let told = object_of(alloc, properties, self.denies_others, required, notes);
+        Ok(Tree::Object(Box::new(alloc, told)?))
     }
 }
 

@@ -1,15 +1,16 @@
 //! Schemas that tell a variant: by its name, by a tag, by null.
 
-ghost use Rattle.std.specs.Prelude.{◌≡◌, ◌∷◌, [], map, IfOk};
+ghost use Rattle.std.specs.Prelude.{◌≡◌, ◌∷◌, ◌++◌, [], map, IfOk, OnOk};
 ghost use Rattle.acceptance.specs.Json.{text as json_text};
-ghost use Rattle.schema_core.specs.Schema.{object, object_view, no_part, no_properties};
+ghost use Rattle.schema_core.specs.Schema.{object, object_view, named_views, no_part, no_properties, property};
 ghost use Rattle.component.specs.Leaves.{leaf_view, term_view};
 ghost use Rattle.scopes.specs.Names.{texts};
-ghost use Rattle.shapes.specs.Terms.{texts_facts, texts_schema, requiring, tag_alone, null_term};
+ghost use Rattle.shapes.specs.Terms.{texts_facts, texts_schema, requiring, tag_schema, tag_alone, null_term, with_property, beside_tag, tagged_leaf, adjacent_term};
 
 use crate::named_struct::object_of;
-use component::{Term, TermLeaf, noted};
-use schema_core::{Json, Notes, Object, SchemaTypeInner, Tree, TypeWord};
+use component::{Term, TermLeaf, bounds_of, noted};
+use leaves::Leaf;
+use schema_core::{AllOfSchema, Json, Notes, Object, SchemaTypeInner, Tree, TypeWord};
 use serde_json::Value;
 use shapes::Remarks;
 use std::alloc::{AllocError, Global};
@@ -96,6 +97,90 @@ pub(crate) fn tag_alone(
 {
     let schema = name_schema(alloc, Notes::new(), name)?;
     requiring(alloc, notes, tag, schema)
+}
+
+/// Adds the tag as a property, whose text is the name, and as one that must be there.
+pub(crate) fn push_tag(
+    alloc: Global,
+    properties: &mut List<(Text, Term)>,
+    required: &mut List<Text>,
+    tag: &Text,
+    name: &Text,
+) -> Result<(), AllocError>
+    ensures properties { OnOk result (named_views leaf_view properties.new
+        ≡ with_property (named_views leaf_view properties.old) tag.now (tag_schema name.now)) }
+    ensures required { OnOk result (required.new ≡ required.old ++ tag.now ∷ []) }
+{
+    let schema = name_schema(alloc, Notes::new(), name)?;
+    properties.push((tag.copy(alloc)?, schema))?;
+    required.push(tag.copy(alloc)?)?;
+    Ok(())
+}
+
+/// An object that has a content, and a tag with the name as its text.
+pub(crate) fn adjacent_term(
+    alloc: Global,
+    notes: Notes,
+    tag: &Text,
+    content: &Text,
+    name: &Text,
+    schema: Term,
+) -> Result<Term, AllocError>
+    ensures { IfOk result (λ t. term_view t
+        ≡ adjacent_term notes tag.now content.now name.now (term_view schema)) }
+{
+    let mut properties = List::new(alloc);
+    properties.push((content.copy(alloc)?, schema))?;
+    let mut required = List::new(alloc);
+    required.push(content.copy(alloc)?)?;
+    push_tag(alloc, &mut properties, &mut required, tag, name)?;
+    let told = object_of(alloc, properties, false, required, notes);
+    Ok(Tree::Object(Box::new(alloc, told)?))
+}
+
+/// A schema beside an object that has the tag.
+pub(crate) fn beside_tag(
+    alloc: Global,
+    notes: Notes,
+    tag: &Text,
+    name: &Text,
+    schema: Term,
+) -> Result<Term, AllocError>
+    ensures { IfOk result
+        (λ t. term_view t ≡ beside_tag notes tag.now name.now (term_view schema)) }
+{
+    let mut items = List::new(alloc);
+    items.push(schema)?;
+    items.push(tag_alone(alloc, Notes::new(), tag, name)?)?;
+    Ok(Tree::AllOf(Box::new(alloc, AllOfSchema { items, notes })?))
+}
+
+/// An object that has the tag, with the format and the bounds of the built-in name.
+pub(crate) fn tagged_leaf(
+    alloc: Global,
+    notes: Notes,
+    tag: &Text,
+    name: &Text,
+    leaf: Leaf,
+) -> Result<Term, AllocError>
+    ensures { IfOk result (λ t. term_view t ≡ object (tagged_leaf notes tag.now leaf)
+        (property tag.now (tag_schema name.now) no_properties) no_part no_part) }
+{
+    let mut properties = List::new(alloc);
+    let mut required = List::new(alloc);
+    push_tag(alloc, &mut properties, &mut required, tag, name)?;
+    let format = match leaf.format() {
+        Some(format) => Some(Text::new(alloc, format)?),
+        None => None,
+    };
+    let object = Object {
+        properties,
+        required,
+        format,
+        bounds: bounds_of(leaf.kind()),
+        ..Object::new(alloc, TypeWord::One(SchemaTypeInner::Object), notes)
+    };
+    Ok(Tree::Object(Box::new(alloc, object)?))
 }
 
 /// Null, which is the default too.

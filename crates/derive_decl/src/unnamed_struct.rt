@@ -199,7 +199,11 @@ fn mixed_term(alloc: Global, remarks: &Remarks, types: &[OpenType]) -> Result<Te
 }
 
 /// The schema of unnamed fields of these types.
-fn unnamed_term(alloc: Global, remarks: &Remarks, types: &[OpenType]) -> Result<Term, AllocError>
+pub(crate) fn unnamed_term(
+    alloc: Global,
+    remarks: &Remarks,
+    types: &[OpenType],
+) -> Result<Term, AllocError>
     ensures { IfOk result (λ s. term_view s ≡ unnamed_term remarks.now (map open_view types.now)) }
 {
     match types {

@@ -5,12 +5,18 @@ use Rattle.diag.specs.declared.error.DeriveError.TheVariants.{Refused, Memory}
 use Rattle.diag.specs.declared.kind.Kind.{Kind}
 use Rattle.diag.specs.declared.kind.Kind.TheVariants.{Syntax, TooDeep}
 use Rattle.texts.specs.declared.span.Span.{Span}
-use Rattle.diag.specs.Diagnostics.{diagnostic}
+use Rattle.diag.specs.declared.suggestion.Suggestion.TheVariants.{Help}
+use Rattle.diag.specs.Diagnostics.{diagnostic, with_suggestion}
 
 -- the error is a refusal by one diagnostic, without suggestions and instances
 abbrev pub IsRefusal : Kind → Span → List ℕ → DeriveError → Type 0
 IsRefusal kind span message (Refused d) = d ≡ diagnostic kind span message ∷ []
 IsRefusal kind span message Memory = ⊥
+
+-- the error is a refusal by one diagnostic, which has one suggestion: a help
+abbrev pub IsHelpRefusal : Kind → Span → (message help : List ℕ) → DeriveError → Type 0
+IsHelpRefusal kind span message help (Refused d) = d ≡ with_suggestion (Help help) (diagnostic kind span message ∷ [])
+IsHelpRefusal kind span message help Memory = ⊥
 
 -- the error refuses, at the span, text that its grammar cannot go on with
 abbrev pub IsSyntaxRefusal : Span → DeriveError → Type 0

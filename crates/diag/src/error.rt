@@ -1,4 +1,4 @@
-ghost use Rattle.diag.specs.Refusal.{IsErrorFor, IsRefusal, IsSyntaxRefusal, IsDepthRefusal};
+ghost use Rattle.diag.specs.Refusal.{IsErrorFor, IsRefusal, IsHelpRefusal, IsSyntaxRefusal, IsDepthRefusal};
 
 use crate::diagnostics::Diagnostics;
 use crate::kind::Kind;
@@ -21,6 +21,23 @@ impl DeriveError {
         ensures { IsErrorFor (IsRefusal kind span message.now) result }
     {
         match Diagnostics::with_span(alloc, kind, span, message) {
+            Ok(diagnostics) => DeriveError::Refused(diagnostics),
+            Err(_) => DeriveError::Memory,
+        }
+    }
+
+    /// The refusal by one diagnostic with a help, which tells what the reader may do, or want of memory.
+    pub fn refusal_with_help(
+        alloc: Global,
+        kind: Kind,
+        span: Span,
+        message: &str,
+        help: &str,
+    ) -> DeriveError
+        ensures { IsErrorFor (IsHelpRefusal kind span message.now help.now) result }
+    {
+        let refused = Diagnostics::with_span(alloc, kind, span, message);
+        match refused.and_then(|diagnostics| diagnostics.help(help)) {
             Ok(diagnostics) => DeriveError::Refused(diagnostics),
             Err(_) => DeriveError::Memory,
         }

@@ -1,13 +1,13 @@
 -- Refusals of a source have another kind than those of a configuration.
 use Rattle.std.proofs.Common.{◌≡◌, ◌∙◌, ◌⊎◌, ℕ, List, [], ◌∷◌, inl, inr, sym, subst, codes, Option, Some, None, Result, Ok, Err, IsSomeAnd}
 use Rattle.diag.specs.Diagnostics.{HasFirst, diagnostic}
-use Rattle.diag.specs.Refusal.{IsRefusal}
+use Rattle.diag.specs.Refusal.{IsRefusal, IsHelpRefusal}
 use Rattle.texts.specs.Span.{no_span}
 use Rattle.diag.specs.declared.diagnostics.DiangosticsInner.{DiangosticsInner}
 use Rattle.diag.specs.declared.error.DeriveError.{DeriveError}
 use Rattle.diag.specs.declared.error.DeriveError.TheVariants.{Refused, Memory}
 use Rattle.diag.specs.declared.kind.Kind.{Kind}
-use Rattle.diag.specs.declared.kind.Kind.TheVariants.{BadConfig, TooLong, TooDeep, Syntax, DuplicateName, UnknownType, Arity, TypeSize, TooManyInstances, InlineDepth, TooManyCopies, MissingRow, SerdeTag, BadValue}
+use Rattle.diag.specs.declared.kind.Kind.TheVariants.{BadConfig, TooLong, TooDeep, Syntax, DuplicateName, UnknownType, Arity, TypeSize, TooManyInstances, InlineDepth, TooManyCopies, MissingRow, SerdeTag, TaggedTuple, BadValue}
 use Rattle.texts.specs.declared.span.Span.{Span}
 use Rattle.diag.specs.declared.rename_rule.RenameRule.{RenameRule}
 use Rattle.diag.specs.declared.rename_row.RenameRow.{RenameRow}
@@ -54,6 +54,9 @@ long_kind ds is first = let same : TooLong ≡ BadConfig = subst (λ es. HasFirs
 module _ (ds : List DiangosticsInner) (first : HasFirst ds (λ d. d.kind ≡ BadConfig)) where
   other : (kind : Kind) (span : Span) (message : List ℕ) → (kind ≡ BadConfig → ⊥) → IsRefusal kind span message (Refused ds) → ⊥
   other kind span message differs is = differs (subst (λ es. HasFirst es (λ d. d.kind ≡ BadConfig)) is first)
+
+  helped : (kind : Kind) (span : Span) (message help : List ℕ) → (kind ≡ BadConfig → ⊥) → IsHelpRefusal kind span message help (Refused ds) → ⊥
+  helped kind span message help differs is = differs (subst (λ es. HasFirst es (λ d. d.kind ≡ BadConfig)) is first)
 
   other_of : (kind : Kind) (span : Span) (message : List ℕ) (instances : List (List ℕ)) → (kind ≡ BadConfig → ⊥) → IsRefusalOf kind span message instances (Refused ds) → ⊥
   other_of kind span message instances differs is = differs (subst (λ es. HasFirst es (λ d. d.kind ≡ BadConfig)) is first)
@@ -115,15 +118,16 @@ module _ (ds : List DiangosticsInner) (first : HasFirst ds (λ d. d.kind ≡ Bad
 
   variant : (around : Around) (rule : Option RenameRule) (tagging : Tagging) (v : VariantItem) → IsFaultyVariant around rule tagging v (Refused ds) → ⊥
   variant around rule tagging v (inl h) = unnamed_variant around.rows rule tagging v h
-  variant around rule tagging v (inr h) = form around (serde_items v.attrs) v.ident v.fields h
+  variant around rule tagging v (inr (inl h)) = form around (serde_items v.attrs) v.ident v.fields h
+  variant around rule tagging v (inr (inr (of, is, inl (cannot, refused)))) = helped TaggedTuple _ _ _ (λ e. cc) refused
+  variant around rule tagging v (inr (inr (of, is, inr (tag, taken, refused)))) = other DuplicateName _ _ (λ e. cc) refused
 
   body : (around : Around) (items : List SerdeItem) (x : Ident) (b : BodyItem) → IsFaultyBody around items x b (Refused ds) → ⊥
   body around items x (struct_body fs) h = form around items x fs h
   body around items x (enum_body vs) (inl (inl h)) = disallowed items h
   body around items x (enum_body vs) (inl (inr (content, is, none, refused))) = other SerdeTag _ _ (λ e. cc) refused
-  body around items x (enum_body vs) (inr (tagging, told, inl (mixed, tagged, refused))) = other Syntax _ _ (λ e. cc) refused
-  body around items x (enum_body vs) (inr (tagging, told, inr (inl h))) = nowhere _ (kept_variants vs) (variant around (rename_rule items) tagging) h
-  body around items x (enum_body vs) (inr (tagging, told, inr (inr h))) = twice _ h
+  body around items x (enum_body vs) (inr (tagging, told, inl h)) = nowhere _ (kept_variants vs) (variant around (rename_rule items) tagging) h
+  body around items x (enum_body vs) (inr (tagging, told, inr h)) = twice _ h
 
   item : (around : Around) (d : DeclaredItem) → IsFaultyItem around d (Refused ds) → ⊥
   item around d (inl (span, first, is)) = other Syntax _ _ (λ e. cc) is

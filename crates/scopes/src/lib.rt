@@ -9,6 +9,8 @@ mod text;
 
 pub use container::{ComponentDescription, Container};
 pub use lookup::resolve;
-pub use names::{Named, declared_places, first_places, names_repeat_or_not, places_of};
+pub use names::{
+    Named, declared_places, duplicate_name, first_places, names_repeat_or_not, places_of,
+};
 pub use scope::{Places, Scope};
 pub use text::type_text;

@@ -12,6 +12,7 @@ use diag::{DeriveError, Kind};
 use std::alloc::{AllocError, Global};
 use std::collections::BTreeMap;
 use syntax::{Declaration, Declarations, Ident};
+use texts::{Span, Text};
 
 /// What is declared under an identifier.
 pub trait Named {
@@ -37,15 +38,14 @@ impl Named for Ident {
     }
 }
 
-/// The refusal of a name that was given before.
-fn duplicate_name(alloc: Global, ident: &Ident) -> Result<DeriveError, AllocError>
+/// The refusal of a name that was given before, at the span.
+pub fn duplicate_name(alloc: Global, name: &Text, span: Span) -> Result<DeriveError, AllocError>
     ensures { IfOk result
-        (IsErrorFor
-        (IsRefusal Kind.DuplicateName ident.now.span (duplicate_message ident.now.text))) }
+        (IsErrorFor (IsRefusal Kind.DuplicateName span (duplicate_message name.now))) }
 {
-    let message = format!(in alloc; "name {} is given twice", ident.text.as_str())?;
+    let message = format!(in alloc; "name {} is given twice", name.as_str())?;
     let kind = Kind::DuplicateName;
-    Ok(DeriveError::refusal(alloc, kind, ident.span, message.as_str()))
+    Ok(DeriveError::refusal(alloc, kind, span, message.as_str()))
 }
 
 /// The place of each name, where no two are equal. A name given twice is refused with the kind `DuplicateName`, at the
@@ -65,7 +65,7 @@ pub fn places_of<T: Named>(
         let ident = items[at].ident();
         let name = String::from_str(alloc, ident.text.as_str())?;
         if let Some(_) = places.insert(name, at).map_err(AllocError::from)? {
-            return Err(duplicate_name(alloc, ident)?);
+            return Err(duplicate_name(alloc, &ident.text, ident.span)?);
         }
     }
     Ok(places)

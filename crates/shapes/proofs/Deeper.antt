@@ -33,7 +33,7 @@ there-more : (p q : Json → Bool) → ((v : Json) → IsTrue (p v) → IsTrue (
 there-more p q more None h = refl
 there-more p q more (Some x) h = more x h
 
-present-more : (p q : Json → Bool) → ((v : Json) → IsTrue (p v) → IsTrue (q v)) → (o : Option Json) → IsTrue (there o p) → IsTrue (there o q)
+pub present-more : (p q : Json → Bool) → ((v : Json) → IsTrue (p v) → IsTrue (q v)) → (o : Option Json) → IsTrue (there o p) → IsTrue (there o q)
 present-more p q more None h = h
 present-more p q more (Some x) h = more x h
 
@@ -45,7 +45,7 @@ list-more p q more (number n) h = h
 list-more p q more (text s) h = h
 list-more p q more (map ms) h = h
 
-map-more : (p q : List (List ℕ × Json) → Bool) → ((es : List (List ℕ × Json)) → IsTrue (p es) → IsTrue (q es)) → (v : Json) → IsTrue (is_map v p) → IsTrue (is_map v q)
+pub map-more : (p q : List (List ℕ × Json) → Bool) → ((es : List (List ℕ × Json)) → IsTrue (p es) → IsTrue (q es)) → (v : Json) → IsTrue (is_map v p) → IsTrue (is_map v q)
 map-more p q more (map ms) h = more (entries ms) h
 map-more p q more null h = h
 map-more p q more (boolean b) h = h

@@ -1,3 +1,4 @@
 pub mod Accepted
 pub mod EnumsAccepted
 pub mod Deeper
+pub mod Told

@@ -76,14 +76,14 @@ telling External names = names
 telling (Internal tag) names = names
 telling (Adjacent tag content) names = names
 
--- the names of the object in which the tag of a variant stands beside other members
+-- the names of the members that are known beside an internal tag, or of the content beside an adjacent one, and behind them the tag's; none where nothing is known beside a tag
 abbrev pub tagged_names : Tagging → FormOf → List (List ℕ)
 tagged_names (Internal tag) (named_fields denies ms) = member_names ms ++ tag ∷ []
 tagged_names (Adjacent tag content) (named_fields denies ms) = content ∷ tag ∷ []
 tagged_names (Adjacent tag content) (unnamed_fields ts) = content ∷ tag ∷ []
 tagged_names _ _ = []
 
--- no two members of a variant have one name, and its tag has none of those beside it
+-- no two members of a variant have one name, nor has what is known beside its tag the tag's name
 abbrev pub IsApartVariant : Tagging → VariantOf → Type 0
 IsApartVariant tagging x = IsDistinct (names_of x.form) × IsDistinct (tagged_names tagging x.form)
 

@@ -3,3 +3,4 @@ pub mod Meaning
 pub mod Plain
 pub mod Shape
 pub mod Terms
+pub mod Told

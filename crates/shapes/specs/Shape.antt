@@ -105,21 +105,21 @@ is_the name _ = false
 abbrev pub has_member : List ℕ → (Json → Bool) → Json → Bool
 has_member k p v = is_map v (λ es. there (look k es) p)
 
--- The value tells the variant of the name, which has no fields.
+-- The value is of the variant of the name, which has no fields.
 abbrev pub unit_shape : Tagging → List ℕ → Json → Bool
 unit_shape External name v = is_the name v
 unit_shape (Internal tag) name v = has_member tag (is_the name) v
 unit_shape (Adjacent tag content) name v = has_member tag (is_the name) v
 unit_shape Untagged name v = is_null v
 
--- the members of the variant and the tag among them; a content that has the tag beside what it is
+-- a map of the variant's members and the tag; what has the shape of the one unnamed field, and the tag too
 abbrev pub internal_shape : (ℕ → Json → Bool) → (tag name : List ℕ) → FormOf → Json → Bool
 internal_shape instance tag name (named_fields denies ms) v =
     is_map v (λ es. (list_all (member_fits instance es) ms && there (look tag es) (is_the name)) && (not denies || only_named (member_names ms ++ tag ∷ []) es))
 internal_shape instance tag name (unnamed_fields ts) v = unnamed_shape instance ts v && has_member tag (is_the name) v
 internal_shape instance tag name no_fields v = has_member tag (is_the name) v
 
--- The value tells the variant of the name, and has its fields.
+-- The value is of the variant of the name, and has its fields.
 abbrev pub told_shape : (ℕ → Json → Bool) → Tagging → List ℕ → FormOf → Json → Bool
 told_shape instance External name form v = has_member name (form_shape instance form) v
 told_shape instance (Internal tag) name form v = internal_shape instance tag name form v

@@ -8,6 +8,6 @@ mod remarks;
 mod tagging;
 
 pub use declared::Declared;
-pub use law::{shapes_deepen, terms_accept};
+pub use law::{shapes_deepen, terms_accept, variants_are_told};
 pub use remarks::Remarks;
 pub use tagging::Tagging;

@@ -1,4 +1,4 @@
-use Rattle.std.proofs.Common.{◌≡◌, ◌∙◌, List, map, Some, option_map, option_and_then, ap, sym, subst, inl, inr}
+use Rattle.std.proofs.Common.{◌≡◌, ◌∙◌, List, map, Some, option_map, option_and_then, ap, sym, inl, inr}
 use Rattle.std.proofs.lemmas.Result.{err_from_is_err_and}
 use Rattle.attributes.specs.Attributes.{attribute_view, serde_items}
 use Rattle.attributes.specs.declared.attribute.Attribute.{Attribute}
@@ -6,7 +6,6 @@ use Rattle.syntax.specs.Items.{variant_view}
 use Rattle.derive_decl.specs.Fields.{field_rules}
 use Rattle.derive_decl.specs.Variants.{variant_name}
 use Rattle.derive_decl.specs.Resolved.{form_of, remarks_of, variant_from}
-use Rattle.derive_decl.specs.Faults.{AreFaulty}
 use Rattle.derive_decl.specs.Views.{known, form_view}
 use Rattle.derive_decl.proofs.EnumLaws.{name_of-ident}
 use Rattle.derive_decl.proofs.mixed_enum.kept_variant.Goals as goal
@@ -32,18 +31,12 @@ returns-in_err-ident-clause-refused c =
 pub returns-in_err-form-clause-refused : goal.returns-in_err-form-clause-refused
 returns-in_err-form-clause-refused c =
     let p = err_from_is_err_and c.from_residual-in_err-form.result c.from_residual-in_err-form.ensures.1 in
-    let around = known c.args.root.now.container.now in
-    let v = variant_view c.args.variant.now in
-    let e = c.in_err-form.field-0.0 in
     rw (p.1, p.2)
-    (elim c.in_err-form.ensures.refused [
-      | inl memory ↦ inl memory
-      | inr fault ↦ inr (inr (subst (λ (xs : List Attribute). AreFaulty around (serde_items (map attribute_view xs)) v.ident v.fields e) c.as_slice.ensures fault))
-    ])
+    (elim c.in_err-form.ensures.refused [ inl memory ↦ inl memory | inr fault ↦ inr (inr fault) ])
 
 pub returns-clause-faultless : goal.returns-clause-faultless
 returns-clause-faultless c e (inl unnamed) = c.in_ok-ident.ensures.faultless e unnamed
-returns-clause-faultless c e (inr fault) =
-    let around = known c.args.root.now.container.now in
-    let v = variant_view c.args.variant.now in
-    c.in_ok-form.ensures.faultless e (subst (λ (xs : List Attribute). AreFaulty around (serde_items (map attribute_view xs)) v.ident v.fields e) (sym c.as_slice.ensures) fault)
+returns-clause-faultless c e (inr fault) = c.in_ok-form.ensures.faultless e fault
+
+pub tagged_form-requires-clause-items : goal.tagged_form-requires-clause-items
+tagged_form-requires-clause-items c = ap (map attribute_view) c.as_slice.ensures

@@ -4,16 +4,16 @@ use Rattle.std.proofs.lemmas.List.{map-append}
 use Rattle.std.proofs.lemmas.Result.{err_from_is_err_and}
 use Rattle.std.specs.List.{AllByRecursion, cons_option}
 use Rattle.diag.specs.Refusal.{RefusesNone}
-use Rattle.texts.specs.Names.{IsDistinct}
 use Rattle.syntax.specs.Items.{variant_view}
 use Rattle.syntax.specs.Named.{HaveNames}
-use Rattle.shapes.specs.Declarations.{names_of}
+use Rattle.shapes.specs.Declarations.{AreApartVariants}
 use Rattle.derive_decl.specs.declared.mixed_enum.MixedEnumVariant.{MixedEnumVariant}
 use Rattle.derive_decl.specs.Variants.{is_kept_variant, kept_variants, variant_ident}
 use Rattle.derive_decl.specs.Resolved.{all_of, variant_of}
 use Rattle.derive_decl.specs.Faults.{IsFaultyVariant}
-use Rattle.derive_decl.specs.Views.{known, form_view, variant_schema_view}
-use Rattle.derive_decl.proofs.Growing.{fact_at, all-append, all_kept_more, some_kept_more, kept_facts_more, somewhere_kept}
+use Rattle.derive_decl.specs.Views.{known, variant_schema_view}
+use Rattle.derive_decl.proofs.Growing.{fact_at, all_kept_more, some_kept_more, kept_facts_more, somewhere_kept}
+use Rattle.derive_decl.proofs.EnumLaws.{apart-append}
 use Rattle.derive_decl.proofs.mixed_enum.resolve_variants.Goals as goal
 
 pub resolve_variant-requires : goal.resolve_variant-requires
@@ -47,7 +47,7 @@ loop-variant-preserved c =
           c.in_ok-kept.ensures.variant ∙ ap Some (sym (map-append variant_schema_view resolved more)),
       some_kept_more variant_view is_kept_variant (variant_ident around.rows c.args.rule tagging) variants at variant (map (λ x. x.ident) resolved) (map (λ x. x.ident) more) lt c.variant-item.is c.loop-variant.invariant.1
           c.in_ok-kept.ensures.ident ∙ sym (map-append (λ (x : MixedEnumVariant). x.ident) resolved more),
-      all-append (λ (x : MixedEnumVariant). IsDistinct (names_of (form_view x.form))) resolved more c.loop-variant.invariant.2 c.in_ok-kept.ensures.distinct,
+      subst (AreApartVariants tagging) (sym (map-append variant_schema_view resolved more)) (apart-append tagging (map variant_schema_view resolved) (map variant_schema_view more) c.loop-variant.invariant.2 c.in_ok-kept.ensures.apart),
       kept_facts_more variant_view is_kept_variant (λ v. RefusesNone (IsFaultyVariant around c.args.rule tagging v)) variants at variant lt c.variant-item.is c.loop-variant.invariant.3 c.in_ok-kept.ensures.faultless,
     )
 

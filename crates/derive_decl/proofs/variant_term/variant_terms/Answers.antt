@@ -3,11 +3,11 @@ use Rattle.std.proofs.lemmas.Grind.{common_steps}
 use Rattle.std.proofs.lemmas.Simd.{map-map}
 use Rattle.schema_core.specs.Schema.{schemas_of}
 use Rattle.shapes.specs.Terms.{variant_term}
-use Rattle.derive_decl.specs.Views.{untold, variant_schema_view}
-use Rattle.derive_decl.proofs.mixed_enum.variant_terms.Goals as goal
+use Rattle.derive_decl.specs.Views.{variant_schema_view}
+use Rattle.derive_decl.proofs.variant_term.variant_terms.Goals as goal
 
 pub returns : goal.returns
 returns c =
     let whole : take c.loop-variant.variant-index c.args.variants.now ≡ c.args.variants.now = grind (arith, common_steps) in
-    ap schemas_of (c.loop-variant.invariant ∙ ap (map (λ x. variant_term (untold c.args.untagged) (variant_schema_view x))) whole
-    ∙ sym (map-map (variant_term (untold c.args.untagged)) variant_schema_view c.args.variants.now))
+    ap schemas_of (c.loop-variant.invariant ∙ ap (map (λ x. variant_term c.args.tagging.now (variant_schema_view x))) whole
+    ∙ sym (map-map (variant_term c.args.tagging.now) variant_schema_view c.args.variants.now))
