@@ -23,13 +23,14 @@ def struct(name, fields):
         return "#[derive(Debug, Deserialize, Serialize)]\n#[serde(rename_all = \"camelCase\", deny_unknown_fields)]\npub struct %s {\n%s}\n\n" % (name, lines)
     return "pub struct %s {\n%s}\n\n" % (name, "".join("    pub %s: %s,\n" % f for f in fields))
 
-def enum(name, i):
-    lines = "".join(
-        "    /// What became of it.\n    None%d,\n    One%d(Box<Item%04d>),\n    Two%d(u64, Vec<String>),\n"
-        "    Named%d { id: u64, name: Option<String>, tags: Vec<Vec<String>>, size: i32 },\n" % (k, k, i // 2, k, k)
-        for k in range(6)
-    )
-    return "pub enum %s {\n%s}\n\n" % (name, lines)
+taggings = ["", "#[serde(tag = \"kind\")]\n", "#[serde(tag = \"kind\", content = \"value\")]\n", "#[serde(untagged)]\n"]
+
+# Four variants with the fields of a struct: one without fields, one with a content, and two with named fields. The four
+# representations take turns.
+def enum(name, i, fields):
+    named = lambda some: "{\n%s    }" % "".join("        %s: %s,\n" % f for f in some)
+    variants = ["Empty", "Content(Box<Item%04d>)" % (i // 2), "Small " + named(fields[:16]), "Large " + named(fields[16:])]
+    return "%spub enum %s {\n%s}\n\n" % (taggings[i % 4], name, "".join("    %s,\n" % v for v in variants))
 
 attributes = [
     "#[serde(default, skip_serializing_if = \"Option::is_none\")]",
@@ -64,7 +65,7 @@ def source(size):
             if form == "inlined" and i % 4:
                 fields += [("pair_%d" % k, "(u8, Item%04d)" % (i - i % 4))]
         name = "Item%04d" % number
-        part = enum(name, i) if form == "enums" else struct(name, fields)
+        part = enum(name, i, fields) if form == "enums" else struct(name, fields)
         if length + len(part) > size:
             return "".join(parts)
         parts.append(part)
