@@ -1,0 +1,94 @@
+-- The spans of what is chosen, one after another.
+use Rattle.std.proofs.Common.{◌≡◌, ◌∙◌, ◌≤◌, ◌<◌, ◌-◌, ℕ, length, get_or, take, drop, arith, ap₂, List, [], ◌∷◌, ◌++◌, refl, ap, sym, subst, append_assoc, ◌⊎◌, inl, inr, Bool, true, false, not, ◌||◌, Option, Some, None, is_some, is_none}
+use Rattle.std.proofs.lemmas.List.{append-nil}
+use Rattle.texts.specs.declared.span.Span.{Span}
+use Rattle.prepare.specs.declared.item.Declared.{Declared}
+use Rattle.prepare.specs.declared.item.Standing.{Standing}
+use Rattle.prepare.specs.Wanted.{IsDeclaredIn, NamesByName, AreUnwanted, is_chosen}
+use Rattle.prepare.specs.Choices.{IsChosenBySerde, AreSpansOf, no_spans, taken, left}
+use Rattle.prepare.proofs.Within.{or_either}
+
+-- the spans so far, and those of the rest, are those of all
+pub record SpansSoFar (Holds : Standing → Type 0) (all rest : List Standing) (spans : List Span) : Type 0 where
+  pub more : (others : List Span) → AreSpansOf Holds rest others → AreSpansOf Holds all (spans ++ others)
+
+module _ (Holds : Standing → Type 0) where
+  pub spans_start : (all : List Standing) → SpansSoFar Holds all all []
+  spans_start all = record { more = λ others h. h }
+
+  pub spans_end : (all : List Standing) (spans : List Span) → SpansSoFar Holds all [] spans → AreSpansOf Holds all spans
+  spans_end all spans h = subst (AreSpansOf Holds all) (append-nil spans) (h.more [] no_spans)
+
+  pub spans_taken : (all rest : List Standing) (s : Standing) (spans : List Span) → SpansSoFar Holds all (s ∷ rest) spans → Holds s → SpansSoFar Holds all rest (spans ++ s.span ∷ [])
+  spans_taken all rest s spans h holds = record { more = λ others m. subst (AreSpansOf Holds all) (sym (append_assoc spans (s.span ∷ []) others)) (h.more (s.span ∷ others) (taken holds m)) }
+
+  pub spans_left : (all rest : List Standing) (s : Standing) (spans : List Span) → SpansSoFar Holds all (s ∷ rest) spans → ¬ (Holds s) → SpansSoFar Holds all rest spans
+  spans_left all rest s spans h other = record { more = λ others m. h.more others (left other m) }
+
+-- what is left of all
+abbrev pub IsPart : List Standing → List Standing → Type 0
+IsPart rest all = (d : Declared) → IsDeclaredIn rest d → IsDeclaredIn all d
+
+-- ---- the test of the program
+
+none_is : {A : Type 0} (o : Option A) → is_none o ≡ true → o ≡ None
+none_is None e = refl
+none_is (Some x) e = cc
+
+is_no_one : {A : Type 0} (o : Option A) → o ≡ None → is_none o ≡ true
+is_no_one None e = refl
+is_no_one (Some x) e = cc
+
+pub not_some : {A : Type 0} (o : Option A) → not (is_some o) ≡ is_none o
+not_some None = refl
+not_some (Some x) = refl
+
+chosen_by : (all : List Standing) (by_name : NamesByName) (o : Option Declared) → AreUnwanted all by_name → ((d : Declared) → o ≡ Some d → IsDeclaredIn all d) → is_chosen by_name o ≡ true → IsChosenBySerde all o
+chosen_by all by_name None u in_it e = tt
+chosen_by all by_name (Some d) u in_it e = elim (or_either d.is_deriving (is_none (by_name d.name)) e) [
+  | inl h ↦ inl h
+  | inr h ↦ inr ((u d (in_it d refl)).0 (none_is (by_name d.name) h))
+]
+
+or_false : (a b : Bool) → (a || b) ≡ false → (a ≡ true) ⊎ (b ≡ true) → ⊥
+or_false true b e h = cc
+or_false false b e (inl h) = cc
+or_false false b e (inr h) = cc
+
+left_by : (all : List Standing) (by_name : NamesByName) (o : Option Declared) → AreUnwanted all by_name → ((d : Declared) → o ≡ Some d → IsDeclaredIn all d) → is_chosen by_name o ≡ false → IsChosenBySerde all o → ⊥
+left_by all by_name None u in_it e h = cc
+left_by all by_name (Some d) u in_it e (inl h) = or_false d.is_deriving (is_none (by_name d.name)) e (inl h)
+left_by all by_name (Some d) u in_it e (inr h) = or_false d.is_deriving (is_none (by_name d.name)) e (inr (is_no_one (by_name d.name) ((u d (in_it d refl)).1 h)))
+
+module _ (all rest : List Standing) (s : Standing) (by_name : NamesByName) (unwanted : AreUnwanted all by_name) (part : IsPart (s ∷ rest) all) where
+  pub is_chosen_one : is_chosen by_name s.declared ≡ true → IsChosenBySerde all s.declared
+  is_chosen_one e = chosen_by all by_name s.declared unwanted (λ d h. part d (inl h)) e
+
+  pub is_left_one : is_chosen by_name s.declared ≡ false → IsChosenBySerde all s.declared → ⊥
+  is_left_one e = left_by all by_name s.declared unwanted (λ d h. part d (inl h)) e
+
+  pub part_on : IsPart rest all
+  part_on d h = part d (inr h)
+
+-- whether a declaration is chosen that does not derive one of the traits
+pub chosen_else : (by_name : NamesByName) (o : Option Declared) (d : Declared) (name : List ℕ) (has : Bool) → o ≡ Some d → d.is_deriving ≡ false → name ≡ d.name → has ≡ is_some (by_name name) → not has ≡ is_chosen by_name o
+chosen_else by_name o d name has is other named e =
+    ap not e ∙ not_some (by_name name) ∙ ap (λ n. is_none (by_name n)) named ∙ sym (ap (λ b. b || is_none (by_name d.name)) other) ∙ sym (ap (is_chosen by_name) is)
+
+take_all : {A : Type 0} (xs : List A) → take (length xs) xs ≡ xs
+take_all [] = refl
+take_all (x ∷ xs) = ap (λ v. x ∷ v) (take_all xs)
+
+take_len : {A : Type 0} (n : ℕ) (xs : List A) → n ≡ length xs → take n xs ≡ xs
+take_len n xs e = ap (λ m. take m xs) e ∙ take_all xs
+
+-- the first of a list, and those behind it
+pub split_first : {A : Type 0} (xs : List A) (x : A) → 1 ≤ length xs → x ≡ get_or xs 0 x → xs ≡ x ∷ take (length xs - 1) (drop 1 xs)
+split_first [] x l e = absurd (omega arith)
+split_first (y ∷ ys) x l e =
+    let rest : take (length (y ∷ ys) - 1) ys ≡ ys = take_len (length (y ∷ ys) - 1) ys (omega arith) in
+    ap₂ (λ a b. a ∷ b) (sym e) (sym rest)
+
+pub nothing_left : {A : Type 0} (xs : List A) → length xs < 1 → xs ≡ []
+nothing_left [] l = refl
+nothing_left (x ∷ xs) l = absurd (omega arith)

@@ -1,0 +1,114 @@
+-- The names in declarations, by the names of these.
+use Rattle.std.proofs.Common.{◌≡◌, ◌∙◌, ℕ, List, [], ◌∷◌, ◌++◌, refl, ap, ap₂, sym, subst, ◌⊎◌, inl, inr, true, false, cond, bytes_eq, Option, Some, None, unwrap_or}
+use Rattle.texts.specs.Names.{is_in}
+use Rattle.prepare.specs.declared.item.Declared.{Declared}
+use Rattle.prepare.specs.declared.item.Standing.{Standing}
+use Rattle.prepare.specs.Wanted.{IsDeclaredIn, NamesByName, with_names, with_declared, entries_with, entry}
+use Rattle.prepare.proofs.Within.{bool_cases, bytes_same, bytes_itself, in_either, in_left, in_right}
+
+-- maps that have the same names
+abbrev pub AreSame : NamesByName → NamesByName → Type 0
+AreSame f g = (k : List ℕ) → f k ≡ g k
+
+same_with : (d : Declared) (f g : NamesByName) → AreSame f g → AreSame (with_names d f) (with_names d g)
+same_with d f g h k = ap₂ (λ x y. cond (bytes_eq d.name k) (Some (unwrap_or x [] ++ d.names)) y) (h d.name) (h k)
+
+same_declared : (o : Option Declared) (f g : NamesByName) → AreSame f g → AreSame (with_declared o f) (with_declared o g)
+same_declared None f g h = h
+same_declared (Some d) f g h = same_with d f g h
+
+pub same_entries : (ss : List Standing) (f g : NamesByName) → AreSame f g → AreSame (entries_with f ss) (entries_with g ss)
+same_entries [] f g h = h
+same_entries (s ∷ ss) f g h = same_entries ss (with_declared s.declared f) (with_declared s.declared g) (same_declared s.declared f g h)
+
+-- one more declaration, and what is none
+pub entries_step : (s : Standing) (ss : List Standing) (d : Declared) (f g : NamesByName) → s.declared ≡ Some d → AreSame g (with_names d f) → AreSame (entries_with g ss) (entries_with f (s ∷ ss))
+entries_step s ss d f g e h k = same_entries ss g (with_names d f) h k ∙ ap (λ o. entries_with (with_declared o f) ss k) (sym e)
+
+pub entries_stay : (s : Standing) (ss : List Standing) (f : NamesByName) → s.declared ≡ None → AreSame (entries_with f ss) (entries_with f (s ∷ ss))
+entries_stay s ss f e k = ap (λ o. entries_with (with_declared o f) ss k) (sym e)
+
+-- ---- what the entries have
+
+-- a name has these names, and perhaps more
+Has : NamesByName → List ℕ → List (List ℕ) → Type 0
+Has f k ms = (ns : List (List ℕ)) × (f k ≡ Some ns) × ((x : List ℕ) → is_in x ms ≡ true → is_in x ns ≡ true)
+
+with_same : (d : Declared) (f : NamesByName) (k : List ℕ) → bytes_eq d.name k ≡ true → with_names d f k ≡ Some (unwrap_or (f d.name) [] ++ d.names)
+with_same d f k e = ap (λ b. cond b (Some (unwrap_or (f d.name) [] ++ d.names)) (f k)) e
+
+with_other : (d : Declared) (f : NamesByName) (k : List ℕ) → bytes_eq d.name k ≡ false → with_names d f k ≡ f k
+with_other d f k e = ap (λ b. cond b (Some (unwrap_or (f d.name) [] ++ d.names)) (f k)) e
+
+kept_by : (d : Declared) (f : NamesByName) (k : List ℕ) (ms : List (List ℕ)) → f k ≡ Some ms → Has (with_names d f) k ms
+unfolding Has
+kept_by d f k ms e = elim (bool_cases (bytes_eq d.name k)) [
+  | inl h ↦
+      let old : f d.name ≡ Some ms = ap f (bytes_same d.name k h) ∙ e in
+      (ms ++ d.names, with_same d f k h ∙ ap (λ o. Some (unwrap_or o [] ++ d.names)) old, λ x i. in_left x ms d.names i)
+  | inr h ↦ (ms, with_other d f k h ∙ e, λ x i. i)
+]
+
+kept_with : (o : Option Declared) (f : NamesByName) (k : List ℕ) (ms : List (List ℕ)) → f k ≡ Some ms → Has (with_declared o f) k ms
+unfolding Has
+kept_with None f k ms e = (ms, e, λ x i. i)
+kept_with (Some d) f k ms e = kept_by d f k ms e
+
+kept : (ss : List Standing) (f : NamesByName) (k : List ℕ) (ms : List (List ℕ)) → f k ≡ Some ms → Has (entries_with f ss) k ms
+unfolding Has
+kept [] f k ms e = (ms, e, λ x i. i)
+kept (s ∷ ss) f k ms e =
+    let one = kept_with s.declared f k ms e in
+    let all = kept ss (with_declared s.declared f) k one.0 one.1 in
+    (all.0, all.1, λ x i. all.2 x (one.2 x i))
+
+declared_has : (ss : List Standing) (f : NamesByName) (d : Declared) → IsDeclaredIn ss d → Has (entries_with f ss) d.name d.names
+unfolding Has
+declared_has [] f d h = elim h [ ]
+declared_has (s ∷ ss) f d (inl e) =
+    let here : with_declared s.declared f d.name ≡ Some (unwrap_or (f d.name) [] ++ d.names) = ap (λ o. with_declared o f d.name) e ∙ with_same d f d.name (bytes_itself d.name) in
+    let all = kept ss (with_declared s.declared f) d.name (unwrap_or (f d.name) [] ++ d.names) here in
+    (all.0, all.1, λ x i. all.2 x (in_right x (unwrap_or (f d.name) []) d.names i))
+declared_has (s ∷ ss) f d (inr h) = declared_has ss (with_declared s.declared f) d h
+
+-- the names of a declaration are in the entry of its name
+pub has_entry : (ss : List Standing) (d : Declared) → IsDeclaredIn ss d → (ns : List (List ℕ)) × (entry ss d.name ≡ Some ns) × ((x : List ℕ) → is_in x d.names ≡ true → is_in x ns ≡ true)
+unfolding Has
+has_entry ss d h = declared_has ss (λ _. None) d h
+
+-- where a name comes from
+ComesFrom : List Standing → NamesByName → List ℕ → List ℕ → Type 0
+ComesFrom ss f k x = ((ms : List (List ℕ)) × (f k ≡ Some ms) × (is_in x ms ≡ true)) ⊎ ((d : Declared) × IsDeclaredIn ss d × (d.name ≡ k) × (is_in x d.names ≡ true))
+
+from_old : (o : Option (List (List ℕ))) (x : List ℕ) → is_in x (unwrap_or o []) ≡ true → (ms : List (List ℕ)) × (o ≡ Some ms) × (is_in x ms ≡ true)
+from_old None x i = cc
+from_old (Some ms) x i = (ms, refl, i)
+
+from_with : (o : Option Declared) (f : NamesByName) (k x : List ℕ) (ms : List (List ℕ)) → with_declared o f k ≡ Some ms → is_in x ms ≡ true
+    → ((old : List (List ℕ)) × (f k ≡ Some old) × (is_in x old ≡ true)) ⊎ ((d : Declared) × (o ≡ Some d) × (d.name ≡ k) × (is_in x d.names ≡ true))
+from_with None f k x ms e i = inl (ms, e, i)
+from_with (Some d) f k x ms e i = elim (bool_cases (bytes_eq d.name k)) [
+  | inl h ↦
+      let named = bytes_same d.name k h in
+      let is : unwrap_or (f d.name) [] ++ d.names ≡ ms = let both : Some (unwrap_or (f d.name) [] ++ d.names) ≡ Some ms = sym (with_same d f k h) ∙ e in cc in
+      elim (in_either x (unwrap_or (f d.name) []) d.names (subst (λ v. is_in x v ≡ true) (sym is) i)) [
+        | inl l ↦ let old = from_old (f d.name) x l in inl (old.0, ap f (sym named) ∙ old.1, old.2)
+        | inr r ↦ inr (d, refl, named, r)
+      ]
+  | inr h ↦ inl (ms, sym (with_other d f k h) ∙ e, i)
+]
+
+from_all : (ss : List Standing) (f : NamesByName) (k x : List ℕ) (ns : List (List ℕ)) → entries_with f ss k ≡ Some ns → is_in x ns ≡ true → ComesFrom ss f k x
+unfolding ComesFrom
+from_all [] f k x ns e i = inl (ns, e, i)
+from_all (s ∷ ss) f k x ns e i = elim (from_all ss (with_declared s.declared f) k x ns e i) [
+  | inr d ↦ inr (d.0, inr d.1, d.2, d.3)
+  | inl m ↦ elim (from_with s.declared f k x m.0 m.1 m.2) [
+    | inl old ↦ inl old
+    | inr d ↦ inr (d.0, inl d.1, d.2, d.3)
+  ]
+]
+
+pub from_entry : (ss : List Standing) (k x : List ℕ) (ns : List (List ℕ)) → entry ss k ≡ Some ns → is_in x ns ≡ true → (d : Declared) × IsDeclaredIn ss d × (d.name ≡ k) × (is_in x d.names ≡ true)
+unfolding ComesFrom
+from_entry ss k x ns e i = elim (from_all ss (λ _. None) k x ns e i) [ inl old ↦ let none = old.1 in cc | inr d ↦ d ]

@@ -1,0 +1,36 @@
+-- Groups of the program, and lists of trees.
+use Rattle.std.proofs.Common.{◌≡◌, ◌∙◌, ◌-◌, ◌<◌, List, [], ◌∷◌, ◌++◌, length, map, take, refl, ap, ap₂, sym, arith, rules}
+use Rattle.std.proofs.lemmas.List.{take-map, length-map}
+use Rattle.tokens.specs.declared.token.Group.{Group}
+use Rattle.tokens.specs.declared.token.TokenTree.{TokenTree, the_lemmas}
+use Rattle.tokens.specs.declared.token.TokenTree.TheVariants as tree
+use Rattle.tokens.specs.Trees.{Tree, group, trees_of, tree_view, trees_view, depth, depth_of}
+use Rattle.prepare.specs.Trees.{listed, inside, before}
+use Rattle.prepare.specs.Names.{names_in, names_of, all_names}
+
+pub view_group : (g : Group) → tree_view (tree.Group g) ≡ group g.bracket (trees_view g.trees) g.span
+view_group g = search (rules, the_lemmas)
+
+pub listed_same : (ts : List Tree) → listed (trees_of ts) ≡ ts
+listed_same [] = refl
+listed_same (t ∷ ts) = ap (λ v. t ∷ v) (listed_same ts)
+
+pub inside_group : (g : Group) → map tree_view g.trees ≡ inside (tree_view (tree.Group g))
+inside_group g = sym (ap inside (view_group g) ∙ listed_same (map tree_view g.trees))
+
+pub group_less : (g : Group) → depth (trees_view g.trees) < depth_of (tree_view (tree.Group g))
+group_less g = let whole = ap depth_of (view_group g) in omega (arith, whole)
+
+names_listed : (ts : List Tree) → names_of (trees_of ts) ≡ all_names ts
+names_listed [] = refl
+names_listed (t ∷ ts) = ap (λ v. names_in t ++ v) (names_listed ts)
+
+pub names_group : (g : Group) → all_names (map tree_view g.trees) ≡ names_in (tree_view (tree.Group g))
+names_group g = sym (ap names_in (view_group g) ∙ names_listed (map tree_view g.trees))
+
+pub names_view : (ts : List TokenTree) → all_names (map tree_view ts) ≡ names_of (trees_view ts)
+names_view ts = sym (names_listed (map tree_view ts))
+
+pub before_view : (ts rest : List TokenTree) → map tree_view (take (length ts - length rest) ts) ≡ before (map tree_view ts) (map tree_view rest)
+before_view ts rest =
+    sym (take-map tree_view (length ts - length rest) ts) ∙ ap₂ (λ n m. take (n - m) (map tree_view ts)) (sym (length-map ts tree_view)) (sym (length-map rest tree_view))

@@ -1,0 +1,13 @@
+mod Answered
+mod Behind
+mod Choosing
+mod Entries
+mod Groups
+mod Lines
+mod Masking
+mod One
+mod Passed
+mod Repeated
+mod Stands
+mod Wanting
+mod Within

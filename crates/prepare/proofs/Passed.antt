@@ -1,0 +1,200 @@
+-- What follows an item is past it, and a module holds less than it stands in.
+use Rattle.std.proofs.Common.{◌≡◌, ℕ, ◌<◌, List, [], ◌∷◌, refl, ap, subst, arith, inl, inr, Bool, true, false, cond, Option, None, Some, is_some}
+use Rattle.std.specs.Prelude.{codes}
+use Rattle.std.specs.Option.{option_map}
+use Rattle.tokens.specs.Trees.{Tree, token, group, Trees, end, ◌▸◌, trees_of, depth, depth_of}
+use Rattle.words.specs.Words.{word_of}
+use Rattle.words.specs.Reading.{as_name}
+use Rattle.written_types.specs.declared.written.Ident.{Ident}
+use Rattle.prepare.specs.declared.kind.Kind.{Kind}
+use Rattle.prepare.specs.declared.kind.Kind.TheVariants as kinds
+use Rattle.prepare.specs.Trees.{listed, word, is_word, is_sign, is_round, is_curly, is_group, is_path_part, inside, before}
+use Rattle.prepare.specs.Attributes.{after_scope, after_visibility, after_attributes, is_for_tests}
+use Rattle.prepare.specs.Ends.{after_semicolon, is_end, angles, after_block, after_path, after_name, semicolon_at, after_group, behind_path, after_call}
+use Rattle.prepare.specs.Forms.{Form, declares, uses, holds, passes, Found, ending, named_or_none, declared_at, declaration_at, held_at, module_at, form_of, kind_at, form_at}
+use Rattle.prepare.specs.Items.{Item, stands, passed, item_of, unless_for_tests, item_from, item_at}
+use Rattle.prepare.specs.Items as item
+use Rattle.prepare.proofs.Behind.{IsBehind, same, later, IsPast, past, weakly, then_behind, past_behind, depth_behind, GoesPast, some_same, either, not_none, first_past}
+use Rattle.prepare.proofs.Repeated.{attributes_behind}
+
+-- ---- ends
+semicolon_past : GoesPast after_semicolon
+semicolon_past [] rest e = not_none e
+semicolon_past (t ∷ ts) rest e = elim (either (is_sign (codes ";") t) e) [ inl h ↦ first_past h | inr h ↦ past (weakly (semicolon_past ts rest h)) ]
+
+block_past : (is_behind_minus : Bool) (open_ones : ℕ) → GoesPast (after_block is_behind_minus open_ones)
+unfolding after_block
+block_past d n [] rest e = not_none e
+block_past d n (t ∷ ts) rest e = elim (either (is_end n t) e) [
+  | inl h ↦ first_past h
+  | inr h ↦ past (weakly (block_past (is_sign (codes "-") t) (angles d n t) ts rest h))
+]
+
+behind_if : (b : Bool) {x y ts : List Tree} → IsBehind x ts → IsBehind y ts → IsBehind (cond b x y) ts
+behind_if true h g = h
+behind_if false h g = g
+
+path_behind : (ts : List Tree) → IsBehind (after_path ts) ts
+path_behind [] = same
+path_behind (t ∷ ts) = behind_if (is_path_part t) (later (path_behind ts)) same
+
+name_behind : (ts : List Tree) → IsBehind (after_name ts) ts
+name_behind [] = same
+name_behind (t ∷ ts) = behind_if (is_some (word t)) (later same) same
+
+one_past : GoesPast semicolon_at
+one_past [] rest e = not_none e
+one_past (t ∷ ts) rest e = elim (either (is_sign (codes ";") t) e) [ inl h ↦ first_past h | inr h ↦ not_none h ]
+
+group_past : GoesPast after_group
+group_past [] rest e = not_none e
+group_past (t ∷ ts) rest e = elim (either (is_curly t) e) [
+  | inl h ↦ first_past h
+  | inr h ↦ elim (either (is_group t) h) [ inl g ↦ past (weakly (one_past ts rest g)) | inr g ↦ not_none g ]
+]
+
+bang_past : GoesPast behind_path
+bang_past [] rest e = not_none e
+bang_past (t ∷ ts) rest e = elim (either (is_sign (codes "!") t) e) [
+  | inl h ↦ past (weakly (past_behind (group_past (after_name ts) rest h) (name_behind ts)))
+  | inr h ↦ not_none h
+]
+
+call_past : GoesPast after_call
+call_past [] rest e = not_none e
+call_past (t ∷ ts) rest e = elim (either (is_path_part t) e) [
+  | inl h ↦ past (weakly (past_behind (bang_past (after_path ts) rest h) (path_behind ts)))
+  | inr h ↦ not_none h
+]
+
+scope_behind : (ts : List Tree) → IsBehind (after_scope ts) ts
+scope_behind [] = same
+scope_behind (t ∷ ts) = behind_if (is_round t) (later same) same
+
+visibility_behind : (ts : List Tree) → IsBehind (after_visibility ts) ts
+visibility_behind [] = same
+visibility_behind (t ∷ ts) = behind_if (is_word (codes "pub") t) (later (scope_behind ts)) same
+
+-- ---- forms
+
+-- what holds of what was found: it is past a tree, and a module holds less
+record IsWithin (ts : List Tree) (found : Found) : Type 0 where
+  past : IsPast found.1 ts
+  less : (held : List Tree) → found.0 ≡ holds held → depth (trees_of held) < depth (trees_of ts)
+
+no_module : (form : Form) → Type 0
+no_module form = (held : List Tree) → form ≡ holds held → ⊥
+
+ending_within : (form : Form) (ts : List Tree) (r : Option (List Tree)) (found : Found) → no_module form → ((rest : List Tree) → r ≡ Some rest → IsPast rest ts) → ending form r ≡ Some found → IsWithin ts found
+unfolding no_module
+ending_within form ts None found other goes e = not_none e
+ending_within form ts (Some rest) found other goes e =
+    let is : (form, rest) ≡ found = some_same e in
+    subst (IsWithin ts) is (record { past = goes rest refl; less = λ held h. absurd (other held h) })
+
+passes_other : no_module passes
+unfolding no_module
+passes_other held e = cc
+
+uses_other : no_module uses
+unfolding no_module
+uses_other held e = cc
+
+declares_other : (name : Ident) (ts : List Tree) → no_module (declares name ts)
+unfolding no_module
+declares_other name ts held e = cc
+
+-- past one tree more
+one_more : {t : Tree} {ts : List Tree} {found : Found} → IsWithin ts found → IsWithin (t ∷ ts) found
+one_more {t = t} {ts = ts} h = record { past = past (weakly h.past); less = λ held e. omega (arith, h.less held e) }
+
+listed_trees : (ts : Trees) → trees_of (listed ts) ≡ ts
+listed_trees end = refl
+listed_trees (t ▸ ts) = ap (λ v. t ▸ v) (listed_trees ts)
+
+inside_less : (t : Tree) → is_curly t ≡ true → depth (trees_of (inside t)) < depth_of t
+inside_less (token t) e = cc
+inside_less (group b ts s) e = let h = ap depth (listed_trees ts) in omega arith
+
+named_within : (name : Option Ident) (ts : List Tree) (found : Found) → named_or_none name ts ≡ Some found → IsWithin ts found
+named_within None ts found e = not_none e
+named_within (Some name) ts found e = ending_within (declares name ts) ts (after_block false 0 ts) found (declares_other name ts) (block_past false 0 ts) e
+
+declared_within : (ts : List Tree) (found : Found) → declared_at ts ≡ Some found → IsWithin ts found
+declared_within [] found e = not_none e
+declared_within (t ∷ ts) found e = one_more (named_within (as_name (word_of t)) ts found e)
+
+declaration_within : (ts : List Tree) (found : Found) → declaration_at ts ≡ Some found → IsWithin ts found
+declaration_within [] found e = not_none e
+declaration_within (t ∷ ts) found e = one_more (declared_within ts found e)
+
+held_by : (t : Tree) (ts : List Tree) (found : Found) (b : Bool) → is_curly t ≡ b → cond b (Some (holds (inside t), ts)) (ending passes (semicolon_at (t ∷ ts))) ≡ Some found → IsWithin (t ∷ ts) found
+held_by t ts found true c h =
+    let is : (holds (inside t), ts) ≡ found = some_same h in
+    let small = inside_less t c in
+    subst (IsWithin (t ∷ ts)) is (record { past = past same; less = λ held g. let inner : inside t ≡ held = cc in subst (λ v. depth (trees_of v) < depth (trees_of (t ∷ ts))) inner (omega arith) })
+held_by t ts found false c h = ending_within passes (t ∷ ts) (semicolon_at (t ∷ ts)) found passes_other (one_past (t ∷ ts)) h
+
+held_within : (ts : List Tree) (found : Found) → held_at ts ≡ Some found → IsWithin ts found
+held_within [] found e = not_none e
+held_within (t ∷ ts) found e = held_by t ts found (is_curly t) refl e
+
+module_within : (ts : List Tree) (found : Found) → module_at ts ≡ Some found → IsWithin ts found
+module_within [] found e = not_none e
+module_within (t ∷ []) found e = not_none e
+module_within (t ∷ u ∷ ts) found e = elim (either (is_some (word u)) e) [ inl h ↦ one_more (one_more (held_within ts found h)) | inr h ↦ not_none h ]
+
+form_of_within : (k : Kind) (ts : List Tree) (found : Found) → form_of k ts ≡ Some found → IsWithin ts found
+form_of_within kinds.Declaration ts found e = declaration_within ts found e
+form_of_within kinds.Use ts found e = ending_within uses ts (after_semicolon ts) found uses_other (semicolon_past ts) e
+form_of_within kinds.Module ts found e = module_within ts found e
+form_of_within kinds.Line ts found e = ending_within passes ts (after_semicolon ts) found passes_other (semicolon_past ts) e
+form_of_within kinds.Block ts found e = ending_within passes ts (after_block false 0 ts) found passes_other (block_past false 0 ts) e
+form_of_within kinds.Call ts found e = ending_within passes ts (after_call ts) found passes_other (call_past ts) e
+
+form_within : (ts : List Tree) (found : Found) → form_at ts ≡ Some found → IsWithin ts found
+unfolding form_at
+form_within ts found e = form_of_within (kind_at ts) ts found e
+
+-- ---- items
+
+-- an item's form, from what was found with it
+mapped : {A B : Type 0} (f : A → B) (o : Option A) {y : B} → option_map f o ≡ Some y → (x : A) × (o ≡ Some x) × (f x ≡ y)
+mapped f None e = not_none e
+mapped f (Some x) e = (x, refl, some_same e)
+
+form_held : (ts start keyword : List Tree) (form : Form) (rest held : List Tree) → item_of ts start keyword form rest ≡ item.holds held → form ≡ holds held
+form_held ts start keyword (declares name behind) rest held e = cc
+form_held ts start keyword uses rest held e = cc
+form_held ts start keyword (holds inner) rest held e = cc
+form_held ts start keyword passes rest held e = cc
+
+item_held : (b : Bool) (i : Item) (held : List Tree) → cond b passed i ≡ item.holds held → i ≡ item.holds held
+item_held true i held e = cc
+item_held false i held e = e
+
+keyword_behind : (ts : List Tree) → IsBehind (after_visibility (after_attributes ts)) ts
+keyword_behind ts = then_behind (visibility_behind (after_attributes ts)) (attributes_behind ts)
+
+pub item_past : (ts : List Tree) (i : Item) (rest : List Tree) → item_at ts ≡ Some (i, rest) → IsPast rest ts
+unfolding item_at
+item_past ts i rest e =
+    let start = after_attributes ts in
+    let keyword = after_visibility start in
+    let m = mapped (item_from ts start keyword) (form_at keyword) e in
+    let h = form_within keyword m.0 m.1 in
+    let is : m.0.1 ≡ rest = ap (λ p. p.1) m.2 in
+    subst (λ v. IsPast v ts) is (past_behind h.past (keyword_behind ts))
+
+pub item_less : (ts held rest : List Tree) → item_at ts ≡ Some (item.holds held, rest) → depth (trees_of held) < depth (trees_of ts)
+unfolding item_at
+item_less ts held rest e =
+    let start = after_attributes ts in
+    let keyword = after_visibility start in
+    let m = mapped (item_from ts start keyword) (form_at keyword) e in
+    let h = form_within keyword m.0 m.1 in
+    let is : unless_for_tests (before ts start) (item_of ts start keyword m.0.0 m.0.1) ≡ item.holds held = ap (λ p. p.0) m.2 in
+    let f = form_held ts start keyword m.0.0 m.0.1 held (item_held (is_for_tests (before ts start)) (item_of ts start keyword m.0.0 m.0.1) held is) in
+    let less = h.less held f in
+    let more = depth_behind (keyword_behind ts) in
+    omega arith

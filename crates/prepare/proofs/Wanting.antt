@@ -1,0 +1,204 @@
+-- Names that are wanted are taken out one after another, until no more can be.
+use Rattle.std.proofs.Common.{◌≡◌, ◌∙◌, ◌<◌, ℕ, length, get_or, unwrap_or, List, [], ◌∷◌, ◌++◌, refl, ap, sym, subst, ◌⊎◌, inl, inr, true, false, cond, bytes_eq, Option, Some, None}
+use Rattle.std.specs.List.{remove}
+use Rattle.std.specs.Map.{update}
+use Rattle.texts.specs.Names.{is_in}
+use Rattle.prepare.specs.declared.item.Declared.{Declared}
+use Rattle.prepare.specs.declared.item.Standing.{Standing}
+use Rattle.prepare.specs.Wanted.{IsDeclaredIn, IsWanted, by_deriving, by_wanted, names_if_deriving, first_names, NamesByName, with_names, entry, TakesOne, AreUnwanted}
+use Rattle.prepare.proofs.Within.{bool_cases, bytes_same, bytes_itself, in_either, in_left, in_right, still_in, was_in, item_in}
+use Rattle.prepare.proofs.Entries.{AreSame, has_entry, from_entry}
+
+-- ---- the first names
+some_deriving : (o : Option Declared) (k : List ℕ) → is_in k (names_if_deriving o) ≡ true → (d : Declared) × (o ≡ Some d) × (d.is_deriving ≡ true) × (is_in k d.names ≡ true)
+some_deriving None k i = cc
+some_deriving (Some d) k i = elim (bool_cases d.is_deriving) [
+  | inl h ↦ (d, refl, h, subst (λ b. is_in k (cond b d.names []) ≡ true) h i)
+  | inr h ↦ let none : is_in k [] ≡ true = subst (λ b. is_in k (cond b d.names []) ≡ true) h i in cc
+]
+
+first_from : (ss : List Standing) (k : List ℕ) → is_in k (first_names ss) ≡ true → (d : Declared) × IsDeclaredIn ss d × (d.is_deriving ≡ true) × (is_in k d.names ≡ true)
+first_from [] k i = cc
+first_from (s ∷ ss) k i = elim (in_either k (names_if_deriving s.declared) (first_names ss) i) [
+  | inl h ↦ let d = some_deriving s.declared k h in (d.0, inl d.1, d.2, d.3)
+  | inr h ↦ let d = first_from ss k h in (d.0, inr d.1, d.2, d.3)
+]
+
+first_has : (ss : List Standing) (d : Declared) (k : List ℕ) → IsDeclaredIn ss d → d.is_deriving ≡ true → is_in k d.names ≡ true → is_in k (first_names ss) ≡ true
+first_has [] d k h e i = elim h [ ]
+first_has (s ∷ ss) d k (inl h) e i =
+    let all : names_if_deriving s.declared ≡ d.names = ap names_if_deriving h ∙ ap (λ b. cond b d.names []) e in
+    in_left k (names_if_deriving s.declared) (first_names ss) (subst (λ v. is_in k v ≡ true) (sym all) i)
+first_has (s ∷ ss) d k (inr h) e i = in_right k (names_if_deriving s.declared) (first_names ss) (first_has ss d k h e i)
+
+-- ---- what is left, while names are taken out
+
+-- the wanted names are wanted, a name that is gone is wanted too, and what stands in declarations that are chosen is among them
+pub record AreLeft (ss : List Standing) (wanted : List (List ℕ)) (left : NamesByName) : Type 0 where
+  pub sound : (k : List ℕ) → is_in k wanted ≡ true → IsWanted ss k
+  pub gone : (k : List ℕ) (ns : List (List ℕ)) → entry ss k ≡ Some ns → (left k ≡ Some ns) ⊎ ((left k ≡ None) × IsWanted ss k)
+  pub undeclared : (k : List ℕ) → entry ss k ≡ None → left k ≡ None
+  pub closed : (d : Declared) → IsDeclaredIn ss d → (d.is_deriving ≡ true) ⊎ (left d.name ≡ None) → (k : List ℕ) → is_in k d.names ≡ true → (is_in k wanted ≡ true) ⊎ (left k ≡ None)
+
+pub at_first : (ss : List Standing) (wanted : List (List ℕ)) (left : NamesByName) → wanted ≡ first_names ss → AreSame left (entry ss) → AreLeft ss wanted left
+at_first ss wanted left w same = record {
+  sound = λ k i. let d = first_from ss k (subst (λ v. is_in k v ≡ true) w i) in by_deriving d.0 d.1 d.2 d.3;
+  gone = λ k ns e. inl (same k ∙ e);
+  undeclared = λ k e. same k ∙ e;
+  closed = λ d h o k i. elim o [
+    | inl e ↦ inl (subst (λ v. is_in k v ≡ true) (sym w) (first_has ss d k h e i))
+    | inr e ↦ let has = has_entry ss d h in let both : Some has.0 ≡ None = sym has.1 ∙ sym (same d.name) ∙ e in cc
+  ];
+}
+
+some_none : {A B : Type 0} {x : A} {o : Option A} → o ≡ Some x → o ≡ None → B
+some_none e f = cc
+
+-- an entry is there, or is not
+entry_cases : {A : Type 0} (o : Option A) → ((x : A) × (o ≡ Some x)) ⊎ (o ≡ None)
+entry_cases None = inr refl
+entry_cases (Some x) = inl (x, refl)
+
+module _ (ss : List Standing) (wanted names rest : List (List ℕ)) (left after : NamesByName) (h : AreLeft ss wanted left) (t : TakesOne wanted left names rest after) where
+  taken_same : (k : List ℕ) → bytes_eq t.name k ≡ true → after k ≡ None
+  taken_same k e = t.taken k ∙ ap (λ b. cond b None (left k)) e
+
+  taken_other : (k : List ℕ) → bytes_eq t.name k ≡ false → after k ≡ left k
+  taken_other k e = t.taken k ∙ ap (λ b. cond b None (left k)) e
+
+  still_none : (k : List ℕ) → left k ≡ None → after k ≡ None
+  still_none k e = elim (bool_cases (bytes_eq t.name k)) [ inl b ↦ taken_same k b | inr b ↦ taken_other k b ∙ e ]
+
+  -- the names that were taken are those of the entry
+  names_are : (ns : List (List ℕ)) → entry ss t.name ≡ Some ns → ns ≡ names
+  names_are ns e = elim (h.gone t.name ns e) [
+    | inl is ↦ let both : Some ns ≡ Some names = sym is ∙ t.had in cc
+    | inr is ↦ some_none t.had is.0
+  ]
+
+  name_wanted : IsWanted ss t.name
+  name_wanted = h.sound t.name t.was_wanted
+
+  new_wanted : (k : List ℕ) → is_in k names ≡ true → IsWanted ss k
+  new_wanted k i = elim (entry_cases (entry ss t.name)) [
+    | inl e ↦
+        let same = names_are e.0 e.1 in
+        let d = from_entry ss t.name k e.0 e.1 (subst (λ v. is_in k v ≡ true) (sym same) i) in
+        by_wanted d.0 d.1 (subst (λ v. IsWanted ss v) (sym d.2) name_wanted) d.3
+    | inr e ↦ some_none t.had (h.undeclared t.name e)
+  ]
+
+  still_closed : (k : List ℕ) → (is_in k wanted ≡ true) ⊎ (left k ≡ None) → (is_in k (rest ++ names) ≡ true) ⊎ (after k ≡ None)
+  still_closed k (inr e) = inr (still_none k e)
+  still_closed k (inl i) = elim (t.enough k i) [ inl r ↦ inl (in_left k rest names r) | inr e ↦ inr e ]
+
+  closed_by : (d : Declared) → IsDeclaredIn ss d → (d.is_deriving ≡ true) ⊎ (after d.name ≡ None) → (k : List ℕ) → is_in k d.names ≡ true → (is_in k (rest ++ names) ≡ true) ⊎ (after k ≡ None)
+  closed_by d in_it (inl e) k i = still_closed k (h.closed d in_it (inl e) k i)
+  closed_by d in_it (inr e) k i = elim (bool_cases (bytes_eq t.name d.name)) [
+    | inl b ↦
+        let has = has_entry ss d in_it in
+        let same = names_are has.0 (ap (entry ss) (bytes_same t.name d.name b) ∙ has.1) in
+        inl (in_right k rest names (subst (λ v. is_in k v ≡ true) same (has.2 k i)))
+    | inr b ↦ still_closed k (h.closed d in_it (inr (sym (taken_other d.name b) ∙ e)) k i)
+  ]
+
+  gone_by : (k : List ℕ) (ns : List (List ℕ)) → entry ss k ≡ Some ns → (after k ≡ Some ns) ⊎ ((after k ≡ None) × IsWanted ss k)
+  gone_by k ns e = elim (bool_cases (bytes_eq t.name k)) [
+    | inl b ↦ inr (taken_same k b, subst (IsWanted ss) (bytes_same t.name k b) name_wanted)
+    | inr b ↦ elim (h.gone k ns e) [ inl is ↦ inl (taken_other k b ∙ is) | inr is ↦ inr (taken_other k b ∙ is.0, is.1) ]
+  ]
+
+  pub one_taken : AreLeft ss (rest ++ names) after
+  one_taken = record {
+    sound = λ k i. elim (in_either k rest names i) [ inl r ↦ h.sound k (t.fewer k r) | inr n ↦ new_wanted k n ];
+    gone = gone_by;
+    undeclared = λ k e. still_none k (h.undeclared k e);
+    closed = closed_by;
+  }
+
+-- ---- where no more can be taken out
+module _ (ss : List Standing) (wanted : List (List ℕ)) (left : NamesByName) (h : AreLeft ss wanted left) (none : (k : List ℕ) → is_in k wanted ≡ true → left k ≡ None) where
+  left_none : (k : List ℕ) → (is_in k wanted ≡ true) ⊎ (left k ≡ None) → left k ≡ None
+  left_none k (inl i) = none k i
+  left_none k (inr e) = e
+
+  wanted_gone : {k : List ℕ} → IsWanted ss k → left k ≡ None
+  wanted_gone {k = k} (by_deriving d in_it e i) = left_none k (h.closed d in_it (inl e) k i)
+  wanted_gone {k = k} (by_wanted d in_it w i) = left_none k (h.closed d in_it (inr (wanted_gone w)) k i)
+
+  gone_wanted : (d : Declared) → IsDeclaredIn ss d → left d.name ≡ None → IsWanted ss d.name
+  gone_wanted d in_it e =
+      let has = has_entry ss d in_it in
+      elim (h.gone d.name has.0 has.1) [ inl is ↦ some_none is e | inr is ↦ is.1 ]
+
+  pub all_taken : (after : NamesByName) → AreSame after left → AreUnwanted ss after
+  all_taken after same d in_it = (λ e. gone_wanted d in_it (sym (same d.name) ∙ e), λ w. same d.name ∙ wanted_gone w)
+
+-- ---- one name taken
+module _ (w rest : List (List ℕ)) (name : List ℕ) (i : ℕ) (by after : NamesByName) (within : i < length w) (is : name ≡ get_or w i name) (left : rest ≡ remove w i) (taken : (k : List ℕ) → after k ≡ update bytes_eq by name None k) where
+  taken_at : after name ≡ None
+  taken_at = taken name ∙ ap (λ b. cond b None (by name)) (bytes_itself name)
+
+  stays_none : (k : List ℕ) → by k ≡ None → after k ≡ None
+  stays_none k e = elim (bool_cases (bytes_eq name k)) [
+    | inl b ↦ taken k ∙ ap (λ v. cond v None (by k)) b
+    | inr b ↦ taken k ∙ ap (λ v. cond v None (by k)) b ∙ e
+  ]
+
+  name_in : is_in name w ≡ true
+  name_in = subst (λ v. is_in v w ≡ true) (sym is) (item_in w i name within)
+
+  rest_in : (k : List ℕ) → is_in k rest ≡ true → is_in k w ≡ true
+  rest_in k h = was_in k w i (subst (λ v. is_in k v ≡ true) left h)
+
+  in_rest : (k : List ℕ) → is_in k w ≡ true → (k ≡ name) ⊎ (is_in k rest ≡ true)
+  in_rest k h = elim (still_in k w i name within h) [ inl e ↦ inl (e ∙ sym is) | inr r ↦ inr (subst (λ v. is_in k v ≡ true) (sym left) r) ]
+
+  module _ (wanted : List (List ℕ)) (before : NamesByName) (same : AreSame by before) (fewer : (k : List ℕ) → is_in k w ≡ true → is_in k wanted ≡ true)
+      (enough : (k : List ℕ) → is_in k wanted ≡ true → (is_in k w ≡ true) ⊎ (before k ≡ None)) where
+    pub takes_one : (names : List (List ℕ)) → by name ≡ Some names → TakesOne wanted before names rest after
+    takes_one names had = record {
+      name = name;
+      was_wanted = fewer name name_in;
+      had = sym (same name) ∙ had;
+      taken = λ k. taken k ∙ ap (λ v. cond (bytes_eq name k) None v) (same k);
+      fewer = λ k h. fewer k (rest_in k h);
+      enough = λ k h. elim (enough k h) [
+        | inr e ↦ inr (stays_none k (same k ∙ e))
+        | inl h ↦ elim (in_rest k h) [ inl e ↦ inr (ap after e ∙ taken_at) | inr r ↦ inl r ]
+      ];
+    }
+
+    module _ (none : by name ≡ None) where
+      pub none_taken : AreSame after before
+      none_taken k = elim (bool_cases (bytes_eq name k)) [
+        | inl b ↦ taken k ∙ ap (λ v. cond v None (by k)) b ∙ sym (ap by (sym (bytes_same name k b)) ∙ none) ∙ same k
+        | inr b ↦ taken k ∙ ap (λ v. cond v None (by k)) b ∙ same k
+      ]
+
+      pub none_fewer : (k : List ℕ) → is_in k rest ≡ true → is_in k wanted ≡ true
+      none_fewer k h = fewer k (rest_in k h)
+
+      pub none_enough : (k : List ℕ) → is_in k wanted ≡ true → (is_in k rest ≡ true) ⊎ (before k ≡ None)
+      none_enough k h = elim (enough k h) [
+        | inr e ↦ inr e
+        | inl h ↦ elim (in_rest k h) [ inl e ↦ inr (sym (same k) ∙ ap by e ∙ none) | inr r ↦ inl r ]
+      ]
+
+-- ---- the names of one declaration more
+pub names_found : (o : Option (List (List ℕ))) (names : List (List ℕ)) → o ≡ Some names → names ≡ unwrap_or o []
+names_found None names e = cc
+names_found (Some ns) names e = cc
+
+pub names_new : (o : Option (List (List ℕ))) → o ≡ None → [] ≡ unwrap_or o []
+names_new None e = refl
+names_new (Some ns) e = cc
+
+pub names_added : (d : Declared) (old left new : NamesByName) (names value : List (List ℕ)) → names ≡ unwrap_or (old d.name) [] → value ≡ names ++ d.names
+    → ((k : List ℕ) → left k ≡ update bytes_eq old d.name None k) → ((k : List ℕ) → new k ≡ update bytes_eq left d.name (Some value) k) → (k : List ℕ) → new k ≡ with_names d old k
+names_added d old left new names value n v taken put k =
+    let is : value ≡ unwrap_or (old d.name) [] ++ d.names = v ∙ ap (λ ns. ns ++ d.names) n in
+    elim (bool_cases (bytes_eq d.name k)) [
+      | inl b ↦ put k ∙ ap (λ t. cond t (Some value) (left k)) b ∙ ap (λ ns. Some ns) is ∙ sym (ap (λ t. cond t (Some (unwrap_or (old d.name) [] ++ d.names)) (old k)) b)
+      | inr b ↦ put k ∙ ap (λ t. cond t (Some value) (left k)) b ∙ taken k ∙ ap (λ t. cond t None (old k)) b ∙ sym (ap (λ t. cond t (Some (unwrap_or (old d.name) [] ++ d.names)) (old k)) b)
+    ]

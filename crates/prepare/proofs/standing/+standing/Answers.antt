@@ -1,0 +1,82 @@
+use Rattle.std.proofs.Common.{◌≡◌, ◌∙◌, [], ◌∷◌, map, ap, sym, subst, arith, true, false}
+use Rattle.std.proofs.lemmas.List.{length-map}
+use Rattle.std.proofs.lemmas.Result.{err_from_is_err_and}
+use Rattle.tokens.specs.Trees.{tree_view, trees_view, trees_of, depth}
+use Rattle.prepare.specs.Trees.{before}
+use Rattle.prepare.specs.Attributes.{after_inner, is_for_tests}
+use Rattle.prepare.specs.Items.{item_view, read_view}
+use Rattle.prepare.specs.Standing.{AreItems, StandIn, itself, nothing, for_tests, Finds}
+use Rattle.prepare.proofs.Behind.{weakly, length_past, depth_behind}
+use Rattle.prepare.proofs.Passed.{item_past}
+use Rattle.prepare.proofs.Repeated.{inner_behind}
+use Rattle.prepare.proofs.Stands.{SoFar, at_end, goes_on, some_left, none_left, item_stops, standing_stops, held_finds, inside_finds, depth_less}
+use Rattle.prepare.proofs.standing.+standing.Goals as goal
+
+pub are_items-returns-in_err-item : goal.are_items-returns-in_err-item
+are_items-returns-in_err-item t c =
+    let p = err_from_is_err_and c.from_residual.result c.from_residual.ensures.1 in
+    let some = some_left c.items.rest.now (sym c.is_empty.ensures ∙ c.items-test.true) in
+    rw (p.1, p.2)
+    (item_stops read_view (map tree_view c.args.trees.now) (map tree_view c.items.rest.now) c.items.standing c.in_err-item.field-0.0 c.items.invariant.0 some c.in_err-item.ensures)
+
+pub are_items-stand_in-requires : goal.are_items-stand_in-requires
+are_items-stand_in-requires t c =
+    let less = depth_less (map tree_view c.items.rest.now) (item_view c.in_ok-item.item) (map tree_view c.in_ok-item.after.now) (depth (trees_view c.args.trees.now)) c.in_ok-item.ensures c.items.invariant.1 in
+    (omega (arith, less), tt)
+
+pub are_items-returns-in_err-stand_in : goal.are_items-returns-in_err-stand_in
+are_items-returns-in_err-stand_in t c =
+    let p = err_from_is_err_and c.from_residual-in_err-stand_in.result c.from_residual-in_err-stand_in.ensures.1 in
+    rw (p.1, p.2)
+    (standing_stops (map tree_view c.args.trees.now) (map tree_view c.items.rest.now) (map tree_view c.in_ok-item.after.now) (item_view c.in_ok-item.item) c.items.standing c.in_err-stand_in.field-0.0 c.items.invariant.0 c.in_ok-item.ensures c.in_err-stand_in.ensures)
+
+pub are_items-items-smaller : goal.are_items-items-smaller
+are_items-items-smaller t c =
+    let less = length_past (item_past (map tree_view c.items.rest.now) (item_view c.in_ok-item.item) (map tree_view c.in_ok-item.after.now) c.in_ok-item.ensures) in
+    omega (arith, less, length-map c.items.rest.now tree_view, length-map c.in_ok-item.after.now tree_view)
+
+pub are_items-items-preserved : goal.are_items-items-preserved
+are_items-items-preserved t c =
+    let all = map tree_view c.args.trees.now in
+    let rest = map tree_view c.items.rest.now in
+    let after = map tree_view c.in_ok-item.after.now in
+    let item = item_view c.in_ok-item.item in
+    let deep = depth_behind (weakly (item_past rest item after c.in_ok-item.ensures)) in (
+      rw c.in_ok-append.ensures.ok (goes_on all rest after item c.items.standing c.in_ok-stand_in.field-0 c.items.invariant.0 c.in_ok-item.ensures c.in_ok-stand_in.ensures),
+      omega (arith, deep, c.items.invariant.1),
+    )
+
+pub are_items-returns : goal.are_items-returns
+are_items-returns t c =
+    let all = map tree_view c.args.trees.now in
+    let none = none_left c.items.rest.now (sym c.is_empty.ensures ∙ c.items-test.false) in
+    at_end all c.items.standing (subst (λ v. SoFar all v c.items.standing) none c.items.invariant.0)
+
+pub stand_in-returns-in_ok-push-in-Stands : goal.stand_in-returns-in_ok-push-in-Stands
+stand_in-returns-in_ok-push-in-Stands t c =
+    let one : c.push.new.self ≡ c.in-Stands.standing ∷ [] = rw c.new-one.ensures at c.in_ok-push-in-Stands.ensures.ok in
+    rw one (subst (λ i. StandIn (item_view i) (c.in-Stands.standing ∷ [])) (sym c.in-Stands.is) itself)
+
+pub stand_in-returns-in-Holds : goal.stand_in-returns-in-Holds
+stand_in-returns-in-Holds t c = subst (λ i. Finds (StandIn (item_view i)) c.stand_inside.result) (sym c.in-Holds.is) (held_finds (map tree_view c.in-Holds.trees.now) c.stand_inside.result c.stand_inside.ensures)
+
+pub stand_in-returns-in-Passed : goal.stand_in-returns-in-Passed
+stand_in-returns-in-Passed t c = rw c.new.ensures (subst (λ i. StandIn (item_view i) []) (sym c.in-Passed.is) nothing)
+
+pub stand_inside-returns-then-is_for_tests : goal.stand_inside-returns-then-is_for_tests
+stand_inside-returns-then-is_for_tests t c =
+    let ts = map tree_view c.args.trees.now in
+    let tests : is_for_tests (before ts (after_inner ts)) ≡ true = ap is_for_tests (sym (c.before-2.ensures ∙ ap (before ts) c.after_inner-rest.ensures)) ∙ sym c.is_for_tests.ensures ∙ c.if-is_for_tests.true in
+    rw c.new.ensures (for_tests tests)
+
+pub stand_inside-are_items-requires : goal.stand_inside-are_items-requires
+stand_inside-are_items-requires t c =
+    let deep = depth_behind (inner_behind (map tree_view c.args.trees.now)) in
+    let same = ap (λ ts. depth (trees_of ts)) c.after_inner-rest.ensures in
+    (omega (arith, deep, same), tt)
+
+pub stand_inside-returns : goal.stand_inside-returns
+stand_inside-returns t c =
+    let ts = map tree_view c.args.trees.now in
+    let others : is_for_tests (before ts (after_inner ts)) ≡ false = ap is_for_tests (sym (c.before-2.ensures ∙ ap (before ts) c.after_inner-rest.ensures)) ∙ sym c.is_for_tests.ensures ∙ c.if-is_for_tests.false in
+    inside_finds ts c.are_items.result others (subst (λ v. Finds (AreItems v) c.are_items.result) c.after_inner-rest.ensures c.are_items.ensures)

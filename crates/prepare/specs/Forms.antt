@@ -1,0 +1,99 @@
+-- What items are, behind their attributes and visibilities, and what follows them (The Rust Reference, "Items", "Modules").
+use Rattle.std.specs.Prelude.{ℕ, List, [], ◌∷◌, map, false, cond, is_some, Option, Some, None}
+use Rattle.std.specs.Borrow.{Bor}
+use Rattle.tokens.specs.declared.token.TokenTree.{TokenTree}
+use Rattle.tokens.specs.Trees.{Tree, tree_view}
+use Rattle.written_types.specs.declared.written.Ident.{Ident}
+use Rattle.words.specs.Words.{ident_of, word_of}
+use Rattle.words.specs.Reading.{as_name}
+use Rattle.prepare.specs.declared.form.Form as program
+use Rattle.prepare.specs.declared.form.Form.TheVariants as forms
+use Rattle.prepare.specs.declared.kind.Kind.{Kind}
+use Rattle.prepare.specs.declared.kind.Kind.TheVariants as kinds
+use Rattle.prepare.specs.Trees.{word, is_curly, inside}
+use Rattle.prepare.specs.Kinds.{kind_of}
+use Rattle.prepare.specs.Ends.{after_semicolon, after_block, semicolon_at, after_call}
+
+-- a declaration, by its name and what follows that, a `use` line, a module, by what stands in its brackets, and any other item
+pub data Form : Type 0 where
+  declares : Ident → List Tree → Form
+  uses : Form
+  holds : List Tree → Form
+  passes : Form
+
+-- what is found and what follows it
+abbrev pub Found : Type 0
+Found = Form × List Tree
+
+-- what the program's values are
+abbrev pub form_view : program.Form → Form
+form_view (forms.Declares name ts) = declares (ident_of name.now) (map tree_view ts.now)
+form_view forms.Uses = uses
+form_view (forms.Holds ts) = holds (map tree_view ts.now)
+form_view forms.Passes = passes
+
+abbrev pub found_view : program.Form × Bor (List TokenTree) → Found
+found_view p = (form_view p.0, map tree_view p.1.now)
+
+-- ---- kinds
+
+abbrev pub first_word : List Tree → Option (List ℕ)
+first_word [] = None
+first_word (t ∷ ts) = word t
+
+abbrev pub kind_by : Option (List ℕ) → Option (List ℕ) → Kind
+kind_by None next = kinds.Call
+kind_by (Some first) next = kind_of first next
+
+abbrev pub kind_at : List Tree → Kind
+kind_at [] = kinds.Call
+kind_at (t ∷ ts) = kind_by (word t) (first_word ts)
+
+-- ---- forms
+
+abbrev pub ending : Form → Option (List Tree) → Option Found
+ending form None = None
+ending form (Some rest) = Some (form, rest)
+
+abbrev pub passing : Option (List Tree) → Option Found
+passing rest = ending passes rest
+
+-- keyword name to-block
+abbrev pub named_at : Ident → List Tree → Option Found
+named_at name ts = ending (declares name ts) (after_block false 0 ts)
+
+abbrev pub named_or_none : Option Ident → List Tree → Option Found
+named_or_none None ts = None
+named_or_none (Some name) ts = named_at name ts
+
+abbrev pub declared_at : List Tree → Option Found
+declared_at [] = None
+declared_at (t ∷ ts) = named_or_none (as_name (word_of t)) ts
+
+abbrev pub declaration_at : List Tree → Option Found
+declaration_at [] = None
+declaration_at (keyword ∷ ts) = declared_at ts
+
+-- keyword name (curly-group | ";")
+abbrev pub held_at : List Tree → Option Found
+held_at [] = None
+held_at (t ∷ ts) = cond (is_curly t) (Some (holds (inside t), ts)) (passing (semicolon_at (t ∷ ts)))
+
+abbrev pub module_at : List Tree → Option Found
+module_at [] = None
+module_at (keyword ∷ []) = None
+module_at (keyword ∷ name ∷ ts) = cond (is_some (word name)) (held_at ts) None
+
+abbrev pub use_at : List Tree → Option Found
+use_at ts = ending uses (after_semicolon ts)
+
+abbrev pub form_of : Kind → List Tree → Option Found
+form_of kinds.Declaration ts = declaration_at ts
+form_of kinds.Use ts = use_at ts
+form_of kinds.Module ts = module_at ts
+form_of kinds.Line ts = passing (after_semicolon ts)
+form_of kinds.Block ts = passing (after_block false 0 ts)
+form_of kinds.Call ts = passing (after_call ts)
+
+unfoldable pub form_at : List Tree → Option Found
+form_at ts = form_of (kind_at ts) ts

@@ -1,0 +1,69 @@
+-- Items with their attributes (The Rust Reference, "Items", "Conditional compilation").
+use Rattle.std.specs.Prelude.{◌≡◌, List, ◌++◌, map, cond, option_map, Option, Some, None, Result, Ok, Err}
+use Rattle.std.specs.Borrow.{Bor}
+use Rattle.tokens.specs.declared.token.TokenTree.{TokenTree}
+use Rattle.tokens.specs.Trees.{Tree, tree_view}
+use Rattle.written_types.specs.declared.written.Ident.{Ident}
+use Rattle.prepare.specs.declared.item.Declared.{Declared}
+use Rattle.prepare.specs.declared.item.Standing.{Standing}
+use Rattle.prepare.specs.declared.item.Stop.{Stop}
+use Rattle.prepare.specs.declared.item.Stop.TheVariants as stop
+use Rattle.prepare.specs.declared.item.Item as program
+use Rattle.prepare.specs.declared.item.Item.TheVariants as items
+use Rattle.prepare.specs.Trees.{before, extent}
+use Rattle.prepare.specs.Attributes.{after_attributes, after_visibility, is_for_tests}
+use Rattle.prepare.specs.Names.{all_names}
+use Rattle.prepare.specs.Traits.{are_deriving}
+use Rattle.prepare.specs.Forms.{Form, declares, uses, form_at}
+use Rattle.prepare.specs.Forms as form
+
+-- what stands, a module, by what stands in its brackets, and an item that does not stand
+pub data Item : Type 0 where
+  stands : Standing → Item
+  holds : List Tree → Item
+  passed : Item
+
+abbrev pub item_view : program.Item → Item
+item_view (items.Stands s) = stands s
+item_view (items.Holds ts) = holds (map tree_view ts.now)
+item_view items.Passed = passed
+
+-- and with what follows it
+abbrev pub read_view : program.Item × Bor (List TokenTree) → Item × List Tree
+read_view p = (item_view p.0, map tree_view p.1.now)
+
+-- a function stopped where nothing can be read, unless memory ran out
+abbrev pub IsAt : Stop → Type 0
+IsAt stop.Memory = ⊥
+IsAt (stop.At span) = Unit {0}
+
+-- what a function returned, seen by view, is what can be read
+abbrev pub Reads : {X Y : Type 0} → (X → Y) → Result X Stop → Option Y → Type 0
+Reads view (Ok x) read = read ≡ Some (view x)
+Reads view (Err stop.Memory) read = Unit {0}
+Reads view (Err (stop.At span)) read = read ≡ None
+
+-- the declaration of the name, by its attributes, what stands before its keyword, and what stands behind its name
+abbrev pub declared_of : Ident → (attributes front behind : List Tree) → Declared
+declared_of name attributes front behind = record { name = name.text; is_deriving = are_deriving attributes; names = all_names front ++ all_names behind }
+
+-- The item of the form among these trees, from its start, behind its attributes, and from its keyword on; it ends before the rest.
+abbrev pub item_of : (ts start keyword : List Tree) → Form → List Tree → Item
+item_of ts start keyword (declares name behind) rest =
+    stands (record { declared = Some (declared_of name (before ts start) (before ts keyword) (before behind rest)); span = extent (before ts rest) })
+item_of ts start keyword uses rest = stands (record { declared = None; span = extent (before ts rest) })
+item_of ts start keyword (form.holds inside) rest = holds inside
+item_of ts start keyword form.passes rest = passed
+
+abbrev pub unless_for_tests : List Tree → Item → Item
+unless_for_tests attributes item = cond (is_for_tests attributes) passed item
+
+abbrev pub item_from : (ts start keyword : List Tree) → Form × List Tree → Item × List Tree
+item_from ts start keyword found = (unless_for_tests (before ts start) (item_of ts start keyword found.0 found.1), found.1)
+
+-- the item at the front, and what follows it
+unfoldable pub item_at : List Tree → Option (Item × List Tree)
+item_at ts =
+    let start = after_attributes ts in
+    let keyword = after_visibility start in
+    option_map (item_from ts start keyword) (form_at keyword)

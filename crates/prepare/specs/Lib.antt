@@ -1,0 +1,14 @@
+pub mod Attributes
+pub mod Choices
+pub mod Ends
+pub mod Forms
+pub mod Items
+pub mod Kinds
+pub mod Masked
+pub mod Names
+pub mod Positions
+pub mod Prepared
+pub mod Standing
+pub mod Traits
+pub mod Trees
+pub mod Wanted

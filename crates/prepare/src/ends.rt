@@ -1,0 +1,133 @@
+//! Where items end.
+
+ghost use Rattle.std.specs.Prelude.{◌≡◌, ◌^◌, ◌<◌, ◌-◌, false, map, option_map};
+ghost use Rattle.tokens.specs.Trees.{tree_view};
+ghost use Rattle.prepare.specs.Ends.{after_semicolon, is_end, angles, after_block, after_path, after_name, semicolon_at, after_group, behind_path, after_call};
+
+use crate::trees::{is_curly, is_group, is_path_part, is_sign, word};
+use tokens::TokenTree;
+
+/// What follows the first `;`.
+pub(crate) fn after_semicolon(trees: &[TokenTree]) -> Option<&[TokenTree]>
+    ensures { option_map (λ rest. map tree_view rest.now) result
+        ≡ after_semicolon (map tree_view trees.now) }
+{
+    let mut rest = trees;
+    'trees: while let [first, after @ ..] = rest {
+        if is_sign(first, ";") {
+            return Some(after);
+        }
+        rest = after;
+    }
+    None
+}
+
+/// Whether an item that goes to a block ends with the tree, inside of so many `<`.
+fn is_end(tree: &TokenTree, opened: usize) -> bool
+    ensures { result ≡ is_end opened (tree_view tree.now) }
+{
+    is_sign(tree, ";") || (opened == 0 && is_curly(tree))
+}
+
+/// How many `<` are open after the tree, which perhaps stands behind a `-`.
+fn angles(tree: &TokenTree, is_behind_minus: bool, opened: usize) -> usize
+    requires { opened < 2 ^ 64 - 1 }
+    ensures { result ≡ angles is_behind_minus opened (tree_view tree.now) }
+{
+    if is_sign(tree, "<") {
+        opened + 1
+    } else if is_sign(tree, ">") && !is_behind_minus {
+        opened.saturating_sub(1)
+    } else {
+        opened
+    }
+}
+
+/// What follows the first `;`, or the first group in curly brackets outside of `<` and `>`.
+#[tactic(auto, unfolding(crate::specs::Ends::after_block))]
+pub(crate) fn after_block(trees: &[TokenTree]) -> Option<&[TokenTree]>
+    ensures { option_map (λ rest. map tree_view rest.now) result
+        ≡ after_block false 0 (map tree_view trees.now) }
+{
+    let mut opened: usize = 0;
+    let mut is_behind_minus = false;
+    let mut rest = trees;
+    'trees: while let [first, after @ ..] = rest {
+        if is_end(first, opened) {
+            return Some(after);
+        }
+        opened = angles(first, is_behind_minus, opened);
+        is_behind_minus = is_sign(first, "-");
+        rest = after;
+    }
+    None
+}
+
+/// What follows the words and `::` that the trees begin with.
+fn after_path(trees: &[TokenTree]) -> &[TokenTree]
+    ensures { map tree_view result.now ≡ after_path (map tree_view trees.now) }
+{
+    let mut rest = trees;
+    'trees: while let [first, after @ ..] = rest {
+        if !is_path_part(first) {
+            return rest;
+        }
+        rest = after;
+    }
+    rest
+}
+
+/// What follows the word that the trees begin with, if they do.
+fn after_name(trees: &[TokenTree]) -> &[TokenTree]
+    ensures { map tree_view result.now ≡ after_name (map tree_view trees.now) }
+{
+    match trees {
+        [first, rest @ ..] if word(first).is_some() => rest,
+        _ => trees,
+    }
+}
+
+/// What follows the `;` that the trees begin with.
+pub(crate) fn semicolon_at(trees: &[TokenTree]) -> Option<&[TokenTree]>
+    ensures { option_map (λ rest. map tree_view rest.now) result
+        ≡ semicolon_at (map tree_view trees.now) }
+{
+    match trees {
+        [first, rest @ ..] if is_sign(first, ";") => Some(rest),
+        _ => None,
+    }
+}
+
+/// What follows the group that ends a call of a macro, and the `;` behind one in round or square brackets.
+fn after_group(trees: &[TokenTree]) -> Option<&[TokenTree]>
+    ensures { option_map (λ rest. map tree_view rest.now) result
+        ≡ after_group (map tree_view trees.now) }
+{
+    match trees {
+        [first, rest @ ..] if is_curly(first) => Some(rest),
+        [first, rest @ ..] if is_group(first) => semicolon_at(rest),
+        _ => None,
+    }
+}
+
+/// What follows a call of a macro, from its `!` on.
+fn behind_path(trees: &[TokenTree]) -> Option<&[TokenTree]>
+    ensures { option_map (λ rest. map tree_view rest.now) result
+        ≡ behind_path (map tree_view trees.now) }
+{
+    match trees {
+        [first, rest @ ..] if is_sign(first, "!") => after_group(after_name(rest)),
+        _ => None,
+    }
+}
+
+/// What follows the call of a macro that the trees begin with.
+pub(crate) fn after_call(trees: &[TokenTree]) -> Option<&[TokenTree]>
+    ensures { option_map (λ rest. map tree_view rest.now) result
+        ≡ after_call (map tree_view trees.now) }
+{
+    match trees {
+        [first, rest @ ..] if is_path_part(first) => behind_path(after_path(rest)),
+        _ => None,
+    }
+}

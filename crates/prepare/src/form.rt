@@ -1,0 +1,136 @@
+//! What items are, behind their attributes and visibilities, and what follows them.
+
+ghost use Rattle.std.specs.Prelude.{◌≡◌, map, option_map};
+ghost use Rattle.tokens.specs.Trees.{tree_view};
+ghost use Rattle.words.specs.Words.{ident_of};
+ghost use Rattle.prepare.specs.Forms.{first_word, kind_at, found_view, named_at, declared_at, declaration_at, held_at, module_at, passing, use_at, form_at};
+
+use crate::ends::{after_block, after_call, after_semicolon, semicolon_at};
+use crate::kind::{Kind, kind_of};
+use crate::trees::{inside, is_curly, word};
+use tokens::{Token, TokenTree};
+use words::{Word, word_of};
+
+/// What an item is.
+#[derive(Clone, Copy)]
+pub enum Form<'t> {
+    /// A declaration, by its name and what follows that.
+    Declares(&'t Token, &'t [TokenTree]),
+    Uses,
+    /// A module, by what stands in its brackets.
+    Holds(&'t [TokenTree]),
+    /// Any other.
+    Passes,
+}
+
+/// The word that the trees begin with.
+fn first_word(trees: &[TokenTree]) -> Option<&str>
+    ensures { option_map (λ text. text.now) result ≡ first_word (map tree_view trees.now) }
+{
+    match trees {
+        [first, ..] => word(first),
+        [] => None,
+    }
+}
+
+/// The kind of the item.
+fn kind_at(trees: &[TokenTree]) -> Kind
+    ensures { result ≡ kind_at (map tree_view trees.now) }
+{
+    match trees {
+        [first, rest @ ..] => match word(first) {
+            Some(text) => kind_of(text, first_word(rest)),
+            None => Kind::Call,
+        },
+        [] => Kind::Call,
+    }
+}
+
+/// The declaration of the name, with what follows the name.
+fn named_at<'t>(name: &'t Token, trees: &'t [TokenTree]) -> Option<(Form<'t>, &'t [TokenTree])>
+    ensures { option_map found_view result ≡ named_at (ident_of name.now) (map tree_view trees.now) }
+{
+    match after_block(trees) {
+        Some(rest) => Some((Form::Declares(name, trees), rest)),
+        None => None,
+    }
+}
+
+/// The declaration, from its name on.
+fn declared_at(trees: &[TokenTree]) -> Option<(Form<'_>, &[TokenTree])>
+    ensures { option_map found_view result ≡ declared_at (map tree_view trees.now) }
+{
+    match trees {
+        [first, rest @ ..] => match word_of(first) {
+            Word::Name(name) => named_at(name, rest),
+            _ => None,
+        },
+        [] => None,
+    }
+}
+
+/// The declaration whose keyword the trees begin with.
+fn declaration_at(trees: &[TokenTree]) -> Option<(Form<'_>, &[TokenTree])>
+    ensures { option_map found_view result ≡ declaration_at (map tree_view trees.now) }
+{
+    match trees {
+        [_, rest @ ..] => declared_at(rest),
+        [] => None,
+    }
+}
+
+/// The module, with what follows its name.
+fn held_at(trees: &[TokenTree]) -> Option<(Form<'_>, &[TokenTree])>
+    ensures { option_map found_view result ≡ held_at (map tree_view trees.now) }
+{
+    match trees {
+        [first, rest @ ..] if is_curly(first) => Some((Form::Holds(inside(first)), rest)),
+        _ => passing(semicolon_at(trees)),
+    }
+}
+
+/// The module whose keyword the trees begin with.
+fn module_at(trees: &[TokenTree]) -> Option<(Form<'_>, &[TokenTree])>
+    ensures { option_map found_view result ≡ module_at (map tree_view trees.now) }
+{
+    match trees {
+        [_, name, rest @ ..] if word(name).is_some() => held_at(rest),
+        _ => None,
+    }
+}
+
+/// An item that passes, where it ends.
+fn passing<'t>(rest: Option<&'t [TokenTree]>) -> Option<(Form<'t>, &'t [TokenTree])>
+    ensures { option_map found_view result
+        ≡ passing (option_map (λ rest. map tree_view rest.now) rest.entry) }
+{
+    match rest {
+        Some(rest) => Some((Form::Passes, rest)),
+        None => None,
+    }
+}
+
+/// A `use` line.
+fn use_at(trees: &[TokenTree]) -> Option<(Form<'_>, &[TokenTree])>
+    ensures { option_map found_view result ≡ use_at (map tree_view trees.now) }
+{
+    match after_semicolon(trees) {
+        Some(rest) => Some((Form::Uses, rest)),
+        None => None,
+    }
+}
+
+/// What the item is that the trees begin with, behind its attributes and visibility, and what follows it.
+#[tactic(auto, unfolding(crate::specs::Forms::form_at))]
+pub(crate) fn form_at(trees: &[TokenTree]) -> Option<(Form<'_>, &[TokenTree])>
+    ensures { option_map found_view result ≡ form_at (map tree_view trees.now) }
+{
+    match kind_at(trees) {
+        Kind::Declaration => declaration_at(trees),
+        Kind::Use => use_at(trees),
+        Kind::Module => module_at(trees),
+        Kind::Line => passing(after_semicolon(trees)),
+        Kind::Block => passing(after_block(trees)),
+        Kind::Call => passing(after_call(trees)),
+    }
+}

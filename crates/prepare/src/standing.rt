@@ -1,0 +1,57 @@
+//! What stands of a file.
+
+ghost use Rattle.std.specs.Prelude.{◌≡◌, map};
+ghost use Rattle.tokens.specs.Trees.{tree_view};
+ghost use Rattle.prepare.specs.Items.{item_view};
+ghost use Rattle.prepare.specs.Standing.{AreItems, StandIn, StandInside, Finds};
+
+use crate::attributes::{after_inner, is_for_tests};
+use crate::item::{Item, Standing, Stop};
+use crate::items::item_at;
+use crate::trees::before;
+use std::alloc::Global;
+use texts::List;
+use tokens::TokenTree;
+
+/// What stands of the item.
+#[cycle(standing)]
+fn stand_in(alloc: Global, item: Item<'_>) -> Result<List<Standing>, Stop>
+    ensures { Finds (StandIn (item_view item.entry)) result }
+{
+    match item {
+        Item::Stands(standing) => {
+            let mut one = List::new(alloc);
+            one.push(standing)?;
+            Ok(one)
+        }
+        Item::Holds(trees) => stand_inside(alloc, trees),
+        Item::Passed => Ok(List::new(alloc)),
+    }
+}
+
+/// What stands of the trees, which are items.
+#[cycle(standing)]
+fn are_items(alloc: Global, trees: &[TokenTree]) -> Result<List<Standing>, Stop>
+    ensures { Finds (AreItems (map tree_view trees.now)) result }
+{
+    let mut standing = List::new(alloc);
+    let mut rest = trees;
+    'items: while !rest.is_empty() {
+        let (item, after) = item_at(alloc, rest)?;
+        standing.append(stand_in(alloc, item)?)?;
+        rest = after;
+    }
+    Ok(standing)
+}
+
+/// What stands of the trees, which are a file, or what stands in the brackets of a module.
+#[cycle(standing)]
+pub(crate) fn stand_inside(alloc: Global, trees: &[TokenTree]) -> Result<List<Standing>, Stop>
+    ensures { Finds (StandInside (map tree_view trees.now)) result }
+{
+    let rest = after_inner(trees);
+    if is_for_tests(before(trees, rest)) {
+        return Ok(List::new(alloc));
+    }
+    are_items(alloc, rest)
+}

@@ -1,0 +1,108 @@
+//! Attributes that derive serde's or utoipa's traits.
+
+ghost use Rattle.std.specs.Prelude.{◌≡◌, map, IfOk};
+ghost use Rattle.tokens.specs.Trees.{tree_view, trees_view};
+ghost use Rattle.prepare.specs.Names.{names_of};
+ghost use Rattle.prepare.specs.Traits.{is_trait, is_any_trait, derives, group_derives, is_deriving, are_deriving};
+
+use crate::names::push_all_names;
+use crate::trees::is_word;
+use std::alloc::{AllocError, Global};
+use texts::{List, Text};
+use tokens::{Bracket, TokenTree};
+
+/// Whether a declaration that derives the trait is chosen.
+fn is_trait(name: &str) -> bool
+    ensures { result ≡ is_trait name.now }
+{
+    matches!(name, "Serialize" | "Deserialize" | "ToSchema")
+}
+
+/// Whether one of the names is such a trait.
+fn is_any_trait(names: &[Text]) -> bool
+    ensures { result ≡ is_any_trait names.now }
+{
+    let mut rest = names;
+    'names: while let [first, after @ ..] = rest {
+        if is_trait(first.as_str()) {
+            return true;
+        }
+        rest = after;
+    }
+    false
+}
+
+/// Whether such a trait is named in the trees, at any depth.
+fn name_traits(alloc: Global, trees: &[TokenTree]) -> Result<bool, AllocError>
+    ensures { IfOk result (λ found. found ≡ is_any_trait (names_of (trees_view trees.now))) }
+{
+    let mut names = List::new(alloc);
+    push_all_names(alloc, &mut names, trees)?;
+    Ok(is_any_trait(names.as_slice()))
+}
+
+/// Whether the trees go on with a group in round brackets that derives such a trait behind this tree: `derive(..)`, or
+/// `cfg_attr(..)` with that in it.
+#[cycle(derives)]
+fn group_derives(alloc: Global, tree: &TokenTree, rest: &[TokenTree]) -> Result<bool, AllocError>
+    ensures { IfOk result (λ found. found
+        ≡ group_derives (tree_view tree.now) (trees_view rest.now)) }
+{
+    match rest {
+        [TokenTree::Group(group), ..] => match group.bracket {
+            Bracket::Round => {
+                if is_word(tree, "derive") {
+                    return name_traits(alloc, group.trees.as_slice());
+                }
+                if is_word(tree, "cfg_attr") {
+                    return derives(alloc, group.trees.as_slice());
+                }
+                Ok(false)
+            }
+            _ => Ok(false),
+        },
+        _ => Ok(false),
+    }
+}
+
+/// Whether such a group stands in the trees.
+#[cycle(derives)]
+fn derives(alloc: Global, trees: &[TokenTree]) -> Result<bool, AllocError>
+    ensures { IfOk result (λ found. found ≡ derives (trees_view trees.now)) }
+{
+    let mut rest = trees;
+    'trees: while let [first, after @ ..] = rest {
+        if group_derives(alloc, first, after)? {
+            return Ok(true);
+        }
+        rest = after;
+    }
+    Ok(false)
+}
+
+/// Whether the tree is what stands behind the `#` of an attribute that derives such a trait.
+fn is_deriving(alloc: Global, tree: &TokenTree) -> Result<bool, AllocError>
+    ensures { IfOk result (λ found. found ≡ is_deriving (tree_view tree.now)) }
+{
+    match tree {
+        TokenTree::Group(group) => match group.bracket {
+            Bracket::Square => derives(alloc, group.trees.as_slice()),
+            _ => Ok(false),
+        },
+        TokenTree::Token(_) => Ok(false),
+    }
+}
+
+/// Whether one of the attributes does.
+pub(crate) fn are_deriving(alloc: Global, attributes: &[TokenTree]) -> Result<bool, AllocError>
+    ensures { IfOk result (λ found. found ≡ are_deriving (map tree_view attributes.now)) }
+{
+    let mut rest = attributes;
+    'trees: while let [first, after @ ..] = rest {
+        if is_deriving(alloc, first)? {
+            return Ok(true);
+        }
+        rest = after;
+    }
+    Ok(false)
+}

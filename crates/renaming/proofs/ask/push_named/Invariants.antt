@@ -1,0 +1,10 @@
+use Rattle.std.proofs.Common.{◌≡◌, ◌++◌, map, take}
+use Rattle.std.specs.List.{flat_map}
+use Rattle.syntax.specs.Items.{field_view}
+use Rattle.derive_decl.specs.Fields.{kept}
+use Rattle.renaming.specs.Asked.{asked_of_field}
+use Rattle.renaming.proofs.ask.push_named.Given as goal
+
+-- the names so far are those of the fields so far
+abbrev pub invariant-loop-field : goal.invariant-loop-field
+invariant-loop-field l = l.names ≡ l.initial.names ++ flat_map (asked_of_field l.rule) (kept (map field_view (take l.field-index l.fields)))
