@@ -105,9 +105,8 @@ fn bounded_components(
 /// `SerdeTag`, `BadValue`, `MissingRow`, `UnknownType`, `Arity`, `TypeSize` or `TaggedTuple`: a name that two declarations
 /// have comes first; then, declaration by declaration, what serde's attributes of a struct, an enum or a variant contradict,
 /// what is wrong with the name of a field or a variant, with a field's type or with a variant's tag, before a name that two
-/// of them have; a form of unnamed fields without a field is `Arity`. Else it is
-/// `TooManyInstances`, `InlineDepth` or `TooManyCopies`, in this order, where the instances are beyond a bound of the
-/// configuration.
+/// of them have; a form of unnamed fields without a field is `Arity`. Else it is `TooManyInstances`, `InlineDepth` or
+/// `TooManyCopies`, in this order, where the instances are beyond a bound of the configuration.
 pub fn derive_components(
     alloc: Global,
     source: &str,
