@@ -6,6 +6,7 @@ mod Groups
 mod Lines
 mod Masking
 mod One
+mod Parts
 mod Passed
 mod Repeated
 mod Stands

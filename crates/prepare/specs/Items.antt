@@ -1,5 +1,5 @@
 -- Items with their attributes (The Rust Reference, "Items", "Conditional compilation").
-use Rattle.std.specs.Prelude.{◌≡◌, List, ◌++◌, map, cond, option_map, Option, Some, None, Result, Ok, Err}
+use Rattle.std.specs.Prelude.{◌≡◌, List, map, cond, option_map, Option, Some, None, Result, Ok, Err}
 use Rattle.std.specs.Borrow.{Bor}
 use Rattle.tokens.specs.declared.token.TokenTree.{TokenTree}
 use Rattle.tokens.specs.Trees.{Tree, tree_view}
@@ -12,7 +12,7 @@ use Rattle.prepare.specs.declared.item.Item as program
 use Rattle.prepare.specs.declared.item.Item.TheVariants as items
 use Rattle.prepare.specs.Trees.{before, extent}
 use Rattle.prepare.specs.Attributes.{after_attributes, after_visibility, is_for_tests}
-use Rattle.prepare.specs.Names.{all_names}
+use Rattle.prepare.specs.Fields.{declared_names}
 use Rattle.prepare.specs.Traits.{are_deriving}
 use Rattle.prepare.specs.Forms.{Form, declares, uses, form_at}
 use Rattle.prepare.specs.Forms as form
@@ -43,14 +43,14 @@ Reads view (Ok x) read = read ≡ Some (view x)
 Reads view (Err stop.Memory) read = Unit {0}
 Reads view (Err (stop.At span)) read = read ≡ None
 
--- the declaration of the name, by its attributes, what stands before its keyword, and what stands behind its name
-abbrev pub declared_of : Ident → (attributes front behind : List Tree) → Declared
-declared_of name attributes front behind = record { name = name.text; is_deriving = are_deriving attributes; names = all_names front ++ all_names behind }
+-- the declaration of the name, by its attributes, by what stands from its keyword on, and by what stands behind its name
+abbrev pub declared_of : Ident → (attributes keyword behind : List Tree) → Declared
+declared_of name attributes keyword behind = record { name = name.text; is_deriving = are_deriving attributes; names = declared_names keyword behind }
 
 -- The item of the form among these trees, from its start, behind its attributes, and from its keyword on; it ends before the rest.
 abbrev pub item_of : (ts start keyword : List Tree) → Form → List Tree → Item
 item_of ts start keyword (declares name behind) rest =
-    stands (record { declared = Some (declared_of name (before ts start) (before ts keyword) (before behind rest)); span = extent (before ts rest) })
+    stands (record { declared = Some (declared_of name (before ts start) keyword (before behind rest)); span = extent (before ts rest) })
 item_of ts start keyword uses rest = stands (record { declared = None; span = extent (before ts rest) })
 item_of ts start keyword (form.holds inside) rest = holds inside
 item_of ts start keyword form.passes rest = passed

@@ -1,6 +1,7 @@
 pub mod Attributes
 pub mod Choices
 pub mod Ends
+pub mod Fields
 pub mod Forms
 pub mod Items
 pub mod Kinds

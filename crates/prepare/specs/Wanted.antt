@@ -12,14 +12,14 @@ abbrev pub IsDeclaredIn : List Standing → Declared → Type 0
 IsDeclaredIn [] d = ⊥
 IsDeclaredIn (s ∷ ss) d = (s.declared ≡ Some d) ⊎ IsDeclaredIn ss d
 
--- A name is wanted where it stands in a declaration that derives one of the traits, or in one whose name is wanted.
+-- A name is wanted where a declaration that derives one of the traits names it, or one whose name is wanted.
 pub data IsWanted (ss : List Standing) : List ℕ → Type 0 where
   by_deriving : (d : Declared) {name : List ℕ} → IsDeclaredIn ss d → d.is_deriving ≡ true → is_in name d.names ≡ true → IsWanted ss name
   by_wanted : (d : Declared) {name : List ℕ} → IsDeclaredIn ss d → IsWanted ss d.name → is_in name d.names ≡ true → IsWanted ss name
 
 -- ---- how the program finds them
 
--- the names in the declarations that derive one of the traits
+-- the names that the declarations name which derive one of the traits
 abbrev pub names_if_deriving : Option Declared → List (List ℕ)
 names_if_deriving None = []
 names_if_deriving (Some d) = cond d.is_deriving d.names []

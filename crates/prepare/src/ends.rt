@@ -30,7 +30,7 @@ fn is_end(tree: &TokenTree, opened: usize) -> bool
 }
 
 /// How many `<` are open after the tree, which perhaps stands behind a `-`.
-fn angles(tree: &TokenTree, is_behind_minus: bool, opened: usize) -> usize
+pub(crate) fn angles(tree: &TokenTree, is_behind_minus: bool, opened: usize) -> usize
     requires { opened < 2 ^ 64 - 1 }
     ensures { result ≡ angles is_behind_minus opened (tree_view tree.now) }
 {

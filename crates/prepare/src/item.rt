@@ -3,7 +3,7 @@ use texts::{List, Span, Text};
 use tokens::TokenTree;
 
 /// A declaration of a struct or an enum: its name, whether it derives one of the traits by which declarations are chosen,
-/// and the names that stand in it, but for its own behind the keyword.
+/// and the names in the types of its fields, but for those that serde skips.
 #[derive(Debug, Drop)]
 pub struct Declared {
     pub name: Text,

@@ -7,9 +7,9 @@ ghost use Rattle.prepare.specs.Forms.{form_view};
 ghost use Rattle.prepare.specs.Items.{declared_of, item_view, read_view, item_of, item_at, Reads, IsAt};
 
 use crate::attributes::{after_attributes, after_visibility, is_for_tests};
+use crate::fields::push_declared;
 use crate::form::{Form, form_at};
 use crate::item::{Declared, Item, Standing, Stop};
-use crate::names::push_all_names;
 use crate::traits::are_deriving;
 use crate::trees::{before, extent};
 use std::alloc::{AllocError, Global};
@@ -17,23 +17,22 @@ use texts::{List, Span};
 use tokens::{Token, TokenTree};
 use words::{ident_of, start_of};
 
-/// The declaration of the name, by its attributes, by all that stands before its keyword, and by what stands behind its name.
+/// The declaration of the name, by its attributes, by what stands from its keyword on, and by what stands behind its name.
 fn declared_of(
     alloc: Global,
     name: &Token,
     attributes: &[TokenTree],
-    front: &[TokenTree],
+    keyword: &[TokenTree],
     behind: &[TokenTree],
 ) -> Result<Declared, AllocError>
     ensures { IfOk result
         (λ declared. declared
-        ≡ declared_of (ident_of name.now) (map tree_view attributes.now) (map tree_view front.now)
+        ≡ declared_of (ident_of name.now) (map tree_view attributes.now) (map tree_view keyword.now)
         (map tree_view behind.now)) }
 {
     let is_deriving = are_deriving(alloc, attributes)?;
     let mut names = List::new(alloc);
-    push_all_names(alloc, &mut names, front)?;
-    push_all_names(alloc, &mut names, behind)?;
+    push_declared(alloc, &mut names, keyword, behind)?;
     let ident = ident_of(alloc, name)?;
     Ok(Declared {
         name: ident.text,
@@ -59,8 +58,7 @@ fn item_of<'t>(
     match form {
         Form::Declares(name, behind) => {
             let attributes = before(trees, start);
-            let front = before(trees, keyword);
-            let declared = declared_of(alloc, name, attributes, front, before(behind, rest))?;
+            let declared = declared_of(alloc, name, attributes, keyword, before(behind, rest))?;
             Ok(Item::Stands(Standing {
                 declared: Some(declared),
                 span,

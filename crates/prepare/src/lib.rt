@@ -25,6 +25,7 @@
 mod attributes;
 mod choice;
 mod ends;
+mod fields;
 mod form;
 mod item;
 mod items;

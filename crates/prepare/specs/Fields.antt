@@ -1,0 +1,86 @@
+-- The names in the types of a declaration's fields (The Rust Reference, "Structs", "Enumerations"; serde, "Field attributes",
+-- "Variant attributes").
+use Rattle.std.specs.Prelude.{ℕ, List, [], ◌∷◌, drop, codes, Bool, false, cond, ◌&&◌, ◌||◌, ◌==◌}
+use Rattle.std.specs.List.{flat_map, list_any}
+use Rattle.tokens.specs.Trees.{Tree}
+use Rattle.prepare.specs.Trees.{is_word, is_sign, is_round, is_square, is_curly, inside, before}
+use Rattle.prepare.specs.Attributes.{after_attributes, after_visibility}
+use Rattle.prepare.specs.Ends.{angles}
+use Rattle.prepare.specs.Names.{all_names}
+
+-- ---- parts
+
+-- a `,` ends a part, inside of no `<`
+abbrev pub is_comma : ℕ → Tree → Bool
+is_comma opened t = (opened == 0) && is_sign (codes ",") t
+
+abbrev pub in_front : Tree → List (List Tree) → List (List Tree)
+in_front t [] = (t ∷ []) ∷ []
+in_front t (part ∷ others) = (t ∷ part) ∷ others
+
+-- what stands between the commas outside of `<` and `>`, and behind the last of them only where something does
+abbrev pub parts_from : Bool → ℕ → List Tree → List (List Tree)
+parts_from is_behind_minus opened [] = []
+parts_from is_behind_minus opened (t ∷ ts) = cond (is_comma opened t) ([] ∷ parts_from false 0 ts) (in_front t (parts_from (is_sign (codes "-") t) (angles is_behind_minus opened t) ts))
+
+unfoldable pub parts : List Tree → List (List Tree)
+parts ts = parts_from false 0 ts
+
+-- the trees from the first such comma on
+abbrev pub from_comma : Bool → ℕ → List Tree → List Tree
+from_comma is_behind_minus opened [] = []
+from_comma is_behind_minus opened (t ∷ ts) = cond (is_comma opened t) (t ∷ ts) (from_comma (is_sign (codes "-") t) (angles is_behind_minus opened t) ts)
+
+-- ---- skipped
+
+-- serde knows no field and no variant with one of these
+abbrev pub is_skip : Tree → Bool
+is_skip t = is_word (codes "skip") t || (is_word (codes "skip_serializing") t || is_word (codes "skip_deserializing") t)
+
+-- `serde(..)` with one of them, and that in square brackets
+abbrev pub are_serde_skip : List Tree → Bool
+are_serde_skip (t ∷ u ∷ []) = is_word (codes "serde") t && is_round u && list_any is_skip (inside u)
+are_serde_skip _ = false
+
+abbrev pub is_serde_skip : Tree → Bool
+is_serde_skip t = is_square t && are_serde_skip (inside t)
+
+-- it is among the attributes
+abbrev pub are_skipping : List Tree → Bool
+are_skipping attributes = list_any is_serde_skip attributes
+
+-- ---- fields and variants
+
+-- attr* vis? name ":" type, unless it is skipped
+abbrev pub named_names : List Tree → List (List ℕ)
+named_names part =
+    let start = after_attributes part in
+    cond (are_skipping (before part start)) [] (all_names (drop 2 (after_visibility start)))
+
+-- attr* vis? type
+abbrev pub unnamed_names : List Tree → List (List ℕ)
+unnamed_names part = all_names (after_visibility (after_attributes part))
+
+-- a group of fields: in curly brackets they have names, in round ones they have none
+abbrev pub field_names : Tree → List (List ℕ)
+field_names t = cond (is_curly t) (flat_map named_names (parts (inside t))) (cond (is_round t) (flat_map unnamed_names (parts (inside t))) [])
+
+-- name fields?
+abbrev pub content_names : List Tree → List (List ℕ)
+content_names (name ∷ t ∷ ts) = field_names t
+content_names _ = []
+
+-- attr* name fields?, unless it is skipped
+abbrev pub variant_names : List Tree → List (List ℕ)
+variant_names part =
+    let start = after_attributes part in
+    cond (are_skipping (before part start)) [] (content_names start)
+
+-- a group of variants
+abbrev pub variants_names : Tree → List (List ℕ)
+variants_names t = cond (is_curly t) (flat_map variant_names (parts (inside t))) []
+
+-- the names in a declaration, from its keyword on, by what stands behind its name
+abbrev pub declared_names : (keyword behind : List Tree) → List (List ℕ)
+declared_names [] behind = []
+declared_names (t ∷ ts) behind = cond (is_word (codes "enum") t) (flat_map variants_names behind) (flat_map field_names behind)
