@@ -1,7 +1,7 @@
 #!/usr/bin/env bash
-# Derives the sources of two services, examples/shop.rs and examples/jobs.rs, with their configurations, and compares each document
-# with the components beside it by bytes. Before that it compares the library's example in README.md with its file, and what
-# examples/declarations.awk makes of each source with the lines behind its last `use`.
+# Derives the sources of two services, examples/shop.rs and examples/jobs.rs, with their configurations and as whole files without
+# one, and compares each document with the components beside it by bytes. Before that it compares the library's example in README.md
+# with its file.
 # Ends with 0 where all are equal, with 1 where some differ, and else with the program's own status.
 set -u
 cd "$(dirname "${BASH_SOURCE[0]}")/.." || exit 1
@@ -17,26 +17,25 @@ if ! diff "$found" "$program"; then
 fi
 echo "examples/check.sh: README.md quotes $program"
 
-# Checks a source with its configuration and its document.
-check() {
-    awk -f examples/declarations.awk "$1" > "$found"
-    if ! sed '1,/^use crate::/d' "$1" | diff "$found" -; then
-        echo "examples/check.sh: examples/declarations.awk prints other declarations than $1 has" >&2
+# Compares what a program wrote, behind its status, with the components of the source.
+compare() {
+    if [ "$1" -ne 0 ]; then
+        echo "examples/check.sh: $2 ended with status $1 for $3" >&2
+        exit "$1"
+    fi
+    if ! cmp "$found" "$4"; then
+        echo "examples/check.sh: the document that $2 writes of $3 is another than $4" >&2
         exit 1
     fi
-    echo "examples/check.sh: examples/declarations.awk prints the declarations of $1"
+    echo "examples/check.sh: $2 writes $4 of $3"
+}
 
+# Checks a source with its configuration and its components.
+check() {
     ./schema_gen derive --config "$2" < "$1" > "$found"
-    local status=$?
-    if [ "$status" -ne 0 ]; then
-        echo "examples/check.sh: schema_gen ended with status $status for $1" >&2
-        exit "$status"
-    fi
-    if ! cmp "$found" "$3"; then
-        echo "examples/check.sh: the document of $1 is another than $3" >&2
-        exit 1
-    fi
-    echo "examples/check.sh: the document of $1 is $3"
+    compare $? schema_gen "$1" "$3"
+    ./schema_gen_file "$1" > "$found"
+    compare $? schema_gen_file "$1" "$3"
 }
 
 check examples/shop.rs examples/config.json examples/components.json
