@@ -7,7 +7,6 @@ use Rattle.std.specs.declared.cmp.Ordering.{Ordering}
 use Rattle.std.specs.declared.cmp.Ordering.TheVariants.{Less, Equal, Greater}
 use Rattle.std.proofs.lemmas.Cmp.{tied_itself}
 use Rattle.diag.specs.declared.rename_rule.RenameRule.{RenameRule}
-use Rattle.diag.specs.declared.rename_rule.RenameRule.TheVariants.{Lower, Upper, Camel, Snake, ScreamingSnake, Pascal, Kebab, ScreamingKebab}
 use Rattle.diag.specs.declared.rename_row.RenamePlace.{RenamePlace}
 use Rattle.diag.specs.declared.rename_row.RenamePlace.TheVariants.{Field, Variant}
 use Rattle.diag.specs.RenameRules.{name_of}
@@ -15,27 +14,7 @@ use Rattle.configuration.specs.Form.{place_name}
 use Rattle.renaming.specs.declared.row_key.RowKey.{RowKey}
 use Rattle.renaming.specs.Rows.{key_cmp, key_cmp_total}
 
--- ---- rules and places have names of their own
-
-rule_named : List ℕ → RenameRule
-rule_named name =
-    cond (bytes_eq name (codes "lowercase")) Lower (cond (bytes_eq name (codes "UPPERCASE")) Upper (cond (bytes_eq name (codes "camelCase")) Camel
-    (cond (bytes_eq name (codes "snake_case")) Snake (cond (bytes_eq name (codes "SCREAMING_SNAKE_CASE")) ScreamingSnake
-    (cond (bytes_eq name (codes "PascalCase")) Pascal (cond (bytes_eq name (codes "kebab-case")) Kebab ScreamingKebab))))))
-
-named_rule : (rule : RenameRule) → rule_named (name_of rule) ≡ rule
-unfolding rule_named
-named_rule Lower = refl
-named_rule Upper = refl
-named_rule Camel = refl
-named_rule Snake = refl
-named_rule ScreamingSnake = refl
-named_rule Pascal = refl
-named_rule Kebab = refl
-named_rule ScreamingKebab = refl
-
-pub rule_from_name : (one other : RenameRule) → name_of one ≡ name_of other → one ≡ other
-rule_from_name one other same = sym (named_rule one) ∙ ap rule_named same ∙ named_rule other
+-- ---- places have names of their own
 
 place_named : List ℕ → RenamePlace
 place_named name = cond (bytes_eq name (codes "field")) Field Variant
@@ -58,17 +37,21 @@ then_tied Greater p tie = absurd (cc)
 text_from_tie : (a b : List ℕ) → slice_cmp nat_cmp a b ≡ Equal → a ≡ b
 text_from_tie a b tie = (bytes_decides a b).0 (texts_ties a b ∙ ap is_eq tie)
 
-same_key : (k j : RowKey) → k.rule ≡ j.rule → k.place ≡ j.place → k.from ≡ j.from → k ≡ j
+pub same_key : (k j : RowKey) → k.rule ≡ j.rule → k.place ≡ j.place → k.from ≡ j.from → k ≡ j
 same_key k j rules places names = λ i. record { rule = rules i; place = places i; from = names i }
 
-key_from_tie : (k j : RowKey) → key_cmp k j ≡ Equal → k ≡ j
-key_from_tie k j tie =
+-- the statement of diag's law
+abbrev pub RulesHaveOwnNames : Type 0
+RulesHaveOwnNames = (one other : RenameRule) → name_of one ≡ name_of other → one ≡ other
+
+key_from_tie : RulesHaveOwnNames → (k j : RowKey) → key_cmp k j ≡ Equal → k ≡ j
+key_from_tie own k j tie =
     let first : (slice_cmp nat_cmp (name_of k.rule) (name_of j.rule) ≡ Equal) × (ordering_then (slice_cmp nat_cmp (place_name k.place) (place_name j.place)) (slice_cmp nat_cmp k.from j.from) ≡ Equal) = then_tied _ _ tie in
     let second : (slice_cmp nat_cmp (place_name k.place) (place_name j.place) ≡ Equal) × (slice_cmp nat_cmp k.from j.from ≡ Equal) = then_tied _ _ first.1 in
-    same_key k j (rule_from_name k.rule j.rule (text_from_tie _ _ first.0)) (place_from_name k.place j.place (text_from_tie _ _ second.0)) (text_from_tie _ _ second.1)
+    same_key k j (own k.rule j.rule (text_from_tie _ _ first.0)) (place_from_name k.place j.place (text_from_tie _ _ second.0)) (text_from_tie _ _ second.1)
 
-pub key_found : (k j : RowKey) → is_eq (key_cmp k j) ≡ true → k ≡ j
-key_found k j found = key_from_tie k j ((Equal-is (key_cmp k j)).0 found)
+pub key_found : RulesHaveOwnNames → (k j : RowKey) → is_eq (key_cmp k j) ≡ true → k ≡ j
+key_found own k j found = key_from_tie own k j ((Equal-is (key_cmp k j)).0 found)
 
 pub key_itself : (k : RowKey) → is_eq (key_cmp k k) ≡ true
 key_itself k = ap is_eq (tied_itself key_cmp_total k)

@@ -1,6 +1,7 @@
 -- The rows of names serve them.
-use Rattle.std.proofs.Common.{ℕ, List, [], ◌∷◌, Bool, true, false, cond, ◌&&◌, Option, Some, None, option_map, IsSome, find, bytes_eq, ◌≡◌, refl, ap, sym, ◌∙◌, ◌⊎◌, inl, inr, subst}
+use Rattle.std.proofs.Common.{ℕ, List, [], ◌∷◌, Bool, true, false, cond, Option, Some, None, option_map, IsSome, find, bytes_eq, ◌≡◌, refl, ap, sym, ◌∙◌, inl, inr, subst}
 use Rattle.std.specs.List.{AllByRecursion}
+use Rattle.std.proofs.lemmas.Bool.{cases_Bool, and_parts, and_from}
 use Rattle.std.proofs.lemmas.Slice.Eq.{bytes_eq-Decides}
 use Rattle.diag.specs.declared.rename_rule.RenameRule.{RenameRule}
 use Rattle.diag.specs.declared.rename_row.RenamePlace.{RenamePlace}
@@ -19,22 +20,10 @@ use Rattle.renaming.specs.Asked.{is_given, IsNameless}
 use Rattle.renaming.specs.Cases.{renamed}
 use Rattle.renaming.specs.Law.{Serve, RowsServe}
 use Rattle.renaming.specs.Rows.{key_of, key_in, name_for, row_with, row_of, AreRowsOf}
-use Rattle.renaming.proofs.Keys.{rule_from_name}
+use Rattle.renaming.proofs.Keys.{RulesHaveOwnNames, same_key}
 use Rattle.renaming.proofs.Lists.{all_weaker, somewhere_weaker, met}
 
-bool_cases : (b : Bool) → (b ≡ true) ⊎ (b ≡ false)
-bool_cases true = inl refl
-bool_cases false = inr refl
-
 -- ---- the row that a look-up finds
-
-and_true : (a b : Bool) → (a && b) ≡ true → (a ≡ true) × (b ≡ true)
-and_true true b e = (refl, e)
-and_true false b e = absurd (cc)
-
-both_true : (a b : Bool) → a ≡ true → b ≡ true → (a && b) ≡ true
-both_true true b e f = f
-both_true false b e f = absurd (cc)
 
 place_means : (one other : RenamePlace) → same_place one other ≡ true → one ≡ other
 place_means Field Field e = refl
@@ -49,34 +38,31 @@ place_itself Variant = refl
 for_key : RowKey → RenameRow → Bool
 for_key k row = is_for k.rule k.place k.from row
 
-same_key : (k j : RowKey) → k.rule ≡ j.rule → k.place ≡ j.place → k.from ≡ j.from → k ≡ j
-same_key k j rules places names = λ i. record { rule = rules i; place = places i; from = names i }
-
 -- && groups to the left
-key_from_row : (k : RowKey) (row : RenameRow) → for_key k row ≡ true → k ≡ key_in row
+key_from_row : RulesHaveOwnNames → (k : RowKey) (row : RenameRow) → for_key k row ≡ true → k ≡ key_in row
 unfolding for_key
-key_from_row k row e =
-    let last : (_ ≡ true) × (bytes_eq k.from row.from ≡ true) = and_true _ _ e in
-    let first : (bytes_eq (name_of k.rule) (name_of row.rule) ≡ true) × (same_place k.place row.place ≡ true) = and_true _ _ last.0 in
-    same_key k (key_in row) (rule_from_name k.rule row.rule ((bytes_eq-Decides _ _).0 first.0)) (place_means k.place row.place first.1) ((bytes_eq-Decides _ _).0 last.1)
+key_from_row own k row e =
+    let last : (_ ≡ true) × (bytes_eq k.from row.from ≡ true) = and_parts _ _ e in
+    let first : (bytes_eq (name_of k.rule) (name_of row.rule) ≡ true) × (same_place k.place row.place ≡ true) = and_parts _ _ last.0 in
+    same_key k (key_in row) (own k.rule row.rule ((bytes_eq-Decides _ _).0 first.0)) (place_means k.place row.place first.1) ((bytes_eq-Decides _ _).0 last.1)
 
 row_for_itself : (row : RenameRow) → for_key (key_in row) row ≡ true
 unfolding for_key
-row_for_itself row = both_true _ _ (both_true _ _ ((bytes_eq-Decides (name_of row.rule) (name_of row.rule)).1 refl) (place_itself row.place)) ((bytes_eq-Decides row.from row.from).1 refl)
+row_for_itself row = and_from _ _ (and_from _ _ ((bytes_eq-Decides (name_of row.rule) (name_of row.rule)).1 refl) (place_itself row.place)) ((bytes_eq-Decides row.from row.from).1 refl)
 
 -- a look-up among rows that say what serde makes of what they are for
-found_name : (k : RowKey) (rows : List RenameRow) → AllByRecursion (λ row. name_for (key_in row) ≡ Some row.to) rows → Somewhere (λ row. k ≡ key_in row) rows
+found_name : RulesHaveOwnNames → (k : RowKey) (rows : List RenameRow) → AllByRecursion (λ row. name_for (key_in row) ≡ Some row.to) rows → Somewhere (λ row. k ≡ key_in row) rows
     → option_map (λ row. row.to) (find (for_key k) rows) ≡ name_for k
-found_name k [] named some = absurd some
-found_name k (row ∷ rows) named some = elim (bool_cases (for_key k row)) [
+found_name own k [] named some = absurd some
+found_name own k (row ∷ rows) named some = elim (cases_Bool (for_key k row)) [
   | inl here ↦
-      ap (λ b. option_map (λ r. r.to) (cond b (Some row) (find (for_key k) rows))) here ∙ sym named.0 ∙ ap name_for (sym (key_from_row k row here))
+      ap (λ b. option_map (λ r. r.to) (cond b (Some row) (find (for_key k) rows))) here ∙ sym named.0 ∙ ap name_for (sym (key_from_row own k row here))
   | inr there ↦
       let later : Somewhere (λ r. k ≡ key_in r) rows = elim some [
         | inl same ↦ let here : for_key k row ≡ true = ap (λ j. for_key j row) same ∙ row_for_itself row in absurd (cc)
         | inr more ↦ more
       ] in
-      ap (λ b. option_map (λ r. r.to) (cond b (Some row) (find (for_key k) rows))) there ∙ found_name k rows named.1 later
+      ap (λ b. option_map (λ r. r.to) (cond b (Some row) (find (for_key k) rows))) there ∙ found_name own k rows named.1 later
 ]
 
 -- ---- names by their rows
@@ -103,11 +89,11 @@ name_by-row place rows rule value a None is none = as_row-is a.ident.text (row_t
 name_by-row place rows rule value a (Some []) is none = as_row-is a.ident.text (row_to rule place a.ident.text rows)
 name_by-row place rows rule value a (Some (b ∷ bs)) is none = absurd (cc)
 
-module _ (names : List Asked) (rows : List RenameRow) (are : AreRowsOf names rows) where
+module _ (own : RulesHaveOwnNames) (names : List Asked) (rows : List RenameRow) (are : AreRowsOf names rows) where
   row_is : (a : Asked) → Somewhere (λ row. row_of a ≡ Some row) rows → row_to a.rule a.place a.ident.text rows ≡ renamed a.rule a.place a.ident.text
   unfolding for_key
   row_is a some =
-      found_name (key_of a) rows (all_weaker (λ row. Somewhere (λ b. row_of b ≡ Some row) names) (λ row. name_for (key_in row) ≡ Some row.to) rows (λ row from. row_named names row from) are.asked)
+      found_name own (key_of a) rows (all_weaker (λ row. Somewhere (λ b. row_of b ≡ Some row) names) (λ row. name_for (key_in row) ≡ Some row.to) rows (λ row from. row_named names row from) are.asked)
       (somewhere_weaker (λ row. row_of a ≡ Some row) (λ row. key_of a ≡ key_in row) rows (λ row made. (row_says a row (name_for (key_of a)) refl made).0) some)
 
   serve : (a : Asked) → Somewhere (λ row. row_of a ≡ Some row) rows → Serve rows a
@@ -142,5 +128,5 @@ pub none_nameless : (names : List Asked) (rows : List RenameRow) → AreRowsOf n
 none_nameless names rows are e some =
     met (λ a. IsNameless a e) (λ a. Somewhere (λ row. row_of a ≡ Some row) rows) ⊥ names (λ a nameless given. no_row_of a rows nameless.0 given) some are.given
 
-pub rows_serve : RowsServe
-rows_serve names rows are = all_served names rows are
+pub rows_serve : RulesHaveOwnNames → RowsServe
+rows_serve = all_served

@@ -37,8 +37,10 @@ use Rattle.derive_decl.specs.Faults.{IsFaultyType, IsUnwritten, IsFaultyMember, 
 use Rattle.renaming.specs.declared.asked.Asked.{Asked}
 use Rattle.renaming.specs.Asked.{is_given, asked_for, asked_as, asked_of_field, asked_of_fields, asked_of_variant, asked_of_variants, asked_told, asked_of_body, asked_of_item, asked_of}
 use Rattle.renaming.specs.Law.{RowsSuffice}
+use Rattle.renaming.proofs.Keys.{RulesHaveOwnNames}
 use Rattle.renaming.proofs.Lists.{all_front, all_back, all-flat_map, met}
 use Rattle.renaming.proofs.Serving.{as_row-is, all_have_rows}
+use Rattle.renaming.proofs.Wanted.{told_rule}
 
 -- ---- refusals of other kinds
 
@@ -133,13 +135,6 @@ module _ (span : Span) (message : List ℕ) (e : DeriveError) (missing : IsRefus
 
     -- ---- enums
 
-    -- the rule of the names of variants
-    abbrev told_rule : Tagging → Option RenameRule → Option RenameRule
-    told_rule External rule = rule
-    told_rule (Internal tag) rule = rule
-    told_rule (Adjacent tag content) rule = rule
-    told_rule Untagged rule = None
-
     no_unnamed : (rule : Option RenameRule) (tagging : Tagging) (v : VariantItem) → AllByRecursion HasRow (asked_for Variant (told_rule tagging rule) (value_of_variant v) v.ident) → IsUnnamed rows rule tagging v e → ⊥
     no_unnamed rule External v has fault = no_unwritten Variant rule (value_of_variant v) v.ident has fault
     no_unnamed rule (Internal tag) v has fault = no_unwritten Variant rule (value_of_variant v) v.ident has fault
@@ -188,5 +183,5 @@ module _ (span : Span) (message : List ℕ) (e : DeriveError) (missing : IsRefus
     no_faulty_items ds has fault =
         met (λ d. IsFaultyItem around d e) (λ d. AllByRecursion HasRow (asked_of_item d)) ⊥ ds (λ d faulty own. no_faulty_item d own faulty) fault (all-flat_map HasRow asked_of_item ds has)
 
-pub rows_suffice : RowsSuffice
-rows_suffice ds rows are e span message fault missing = no_faulty_items span message e missing (around_of rows ds).place_of rows ds (all_have_rows (asked_of ds) rows are) fault
+pub rows_suffice : RulesHaveOwnNames → RowsSuffice
+rows_suffice own ds rows are e span message fault missing = no_faulty_items span message e missing (around_of rows ds).place_of rows ds (all_have_rows own (asked_of ds) rows are) fault

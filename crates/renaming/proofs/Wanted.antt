@@ -1,6 +1,7 @@
 -- Without rows a derivation is refused for each of its names.
-use Rattle.std.proofs.Common.{ℕ, List, [], ◌∷◌, Bool, true, false, cond, Option, Some, None, Result, Ok, Err, ◌≡◌, refl, ap, sym, ◌⊎◌, inl, inr, subst}
+use Rattle.std.proofs.Common.{ℕ, List, [], ◌∷◌, false, cond, Option, Some, None, Result, Ok, Err, ◌≡◌, refl, ap, sym, inl, inr, subst}
 use Rattle.std.specs.List.{AllByRecursion, flat_map}
+use Rattle.std.proofs.lemmas.Bool.{cases_Bool}
 use Rattle.diag.specs.Refusal.{IsRefusal}
 use Rattle.diag.specs.declared.error.DeriveError.{DeriveError}
 use Rattle.diag.specs.declared.kind.Kind.TheVariants.{MissingRow}
@@ -38,14 +39,17 @@ Refuse names refuses = AllByRecursion (λ a. (e : DeriveError) → Misses a e �
 weaker : (names : List Asked) (one other : DeriveError → Type 0) → ((e : DeriveError) → one e → other e) → Refuse names one → Refuse names other
 weaker names one other h all = all_weaker (λ a. (e : DeriveError) → Misses a e → one e) (λ a. (e : DeriveError) → Misses a e → other e) names (λ a refuses e misses. h e (refuses e misses)) all
 
-bool_cases : (b : Bool) → (b ≡ true) ⊎ (b ≡ false)
-bool_cases true = inl refl
-bool_cases false = inr refl
-
 no_name : (place : RenamePlace) (rule : RenameRule) (x : Ident) (given : Option (List ℕ)) → is_given given ≡ false → or_as_it_was x.text (new_name place [] x.text given (Some rule)) ≡ None
 no_name place rule x None none = refl
 no_name place rule x (Some []) none = refl
 no_name place rule x (Some (b ∷ bs)) none = absurd (cc)
+
+-- the rule of the names of variants
+abbrev pub told_rule : Tagging → Option RenameRule → Option RenameRule
+told_rule External rule = rule
+told_rule (Internal tag) rule = rule
+told_rule (Adjacent tag content) rule = rule
+told_rule Untagged rule = None
 
 module _ (place_of : List ℕ → Option ℕ) where
   abbrev around : Around
@@ -53,7 +57,7 @@ module _ (place_of : List ℕ → Option ℕ) where
 
   name_wanted : (place : RenamePlace) (rule : Option RenameRule) (value : SerdeValue) (x : Ident) → Refuse (asked_for place rule value x) (IsUnwritten place [] rule value x)
   name_wanted place None value x = tt
-  name_wanted place (Some rule) value x = elim (bool_cases (is_given value.rename)) [
+  name_wanted place (Some rule) value x = elim (cases_Bool (is_given value.rename)) [
     | inl given ↦ subst (λ b. Refuse (cond b [] (record { rule = rule; place = place; ident = x } ∷ [])) (IsUnwritten place [] (Some rule) value x)) (sym given) tt
     | inr none ↦ subst (λ b. Refuse (cond b [] (record { rule = rule; place = place; ident = x } ∷ [])) (IsUnwritten place [] (Some rule) value x)) (sym none)
         (λ e misses. (no_name place rule x value.rename none, misses), tt)
@@ -73,13 +77,6 @@ module _ (place_of : List ℕ → Option ℕ) where
   fields_wanted items x unit = tt
 
   -- ---- enums
-
-  -- the rule of the names of variants
-  abbrev told_rule : Tagging → Option RenameRule → Option RenameRule
-  told_rule External rule = rule
-  told_rule (Internal tag) rule = rule
-  told_rule (Adjacent tag content) rule = rule
-  told_rule Untagged rule = None
 
   variant_named : (rule : Option RenameRule) (tagging : Tagging) (v : VariantItem) → Refuse (asked_for Variant (told_rule tagging rule) (value_of_variant v) v.ident) (IsUnnamed [] rule tagging v)
   variant_named rule External v = name_wanted Variant rule (value_of_variant v) v.ident

@@ -16,7 +16,7 @@ use crate::asked::Asked;
 use crate::by_rule::renamed;
 use crate::law::rows_suffice;
 use crate::row_key::RowKey;
-use diag::{DeriveError, Kind, RenameRow};
+use diag::{DeriveError, Kind, RenameRow, rules_have_own_names};
 use std::alloc::{AllocError, Global};
 use std::collections::BTreeMap;
 use syntax::Declarations;
@@ -55,6 +55,7 @@ fn put_name(alloc: Global, table: &mut Table, asked: &Asked) -> Result<(), Deriv
         place: asked.place,
         from: from.copy(alloc)?,
     };
+    rules_have_own_names();
     match table.insert(key, to) {
         Ok(_) => Ok(()),
         Err(_) => Err(DeriveError::Memory),
@@ -99,6 +100,7 @@ pub fn rows_of_names(alloc: Global, names: &[Asked]) -> Result<List<RenameRow>, 
         (λ _. RefusesNone (λ e. Somewhere (λ a. IsNameless a e) names.now)) }
     ensures refused { Refuses result (λ e. Somewhere (λ a. IsNameless a e) names.now) }
 {
+    rules_have_own_names();
     let table = table_of(alloc, names)?;
     Ok(rows_in(alloc, table)?)
 }

@@ -15,4 +15,4 @@ returns-in-Ok-clause-put c = λ before is.
     let named : name_for (key_of a) ≡ Some to = sym (c.in_ok-to.ensures ∙ ap (renamed a.rule a.place) c.as_str.ensures) ∙ c.in-Some.is in
     let updates : (k : RowKey) → get key_cmp new k ≡ cond (is_at (key_cmp (key_of a)) k) (Some to) (get key_cmp old k) =
     subst (λ from. (k : RowKey) → get key_cmp new k ≡ cond (is_at (key_cmp (record { rule = a.rule; place = a.place; from = from })) k) (Some to) (get key_cmp old k)) c.in_ok-copy.ensures c.in-Ok.ensures.updates.0 in
-    table_more before a to old new named updates is
+    table_more c.rules_have_own_names.ensures before a to old new named updates is
