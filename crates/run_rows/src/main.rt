@@ -1,4 +1,4 @@
-//! Rows of runs of the program: the words, the files and the input of each, and how it ends.
+//! Rows of runs of the programs: the words, the files and the input of each, and how it ends.
 #![tactic(auto)]
 
 mod outcome;

@@ -54,10 +54,13 @@ fn push_status(text: &mut String, status: Status) -> Result<(), AllocError> {
     text.push_str(name)
 }
 
-/// Adds what an output has: a document for itself, without the new line that ends it, and any other text as a JSON text.
+/// Adds what an output has: a document of one line for itself, without the new line that ends it, and any other text as a
+/// JSON text.
 fn push_output(alloc: Global, text: &mut String, output: &str) -> Result<(), AllocError> {
     match output.strip_suffix('\n') {
-        Some(document) if document.starts_with('{') => text.push_str(document),
+        Some(document) if document.starts_with('{') && !document.contains('\n') => {
+            text.push_str(document)
+        }
         _ => {
             let quoted = Value::String(String::from_str(alloc, output)?).to_string(alloc)?;
             text.push_str(quoted.as_str())

@@ -1,16 +1,18 @@
-//! Runs of the program.
+//! Runs of the programs.
 
 use crate::outcome::{Outcome, status_named};
 use crate::parts::{bytes_at, bytes_of, counts_at};
 use anyhow::bail;
-use files::{HonestFiles, MemoryFiles, StdFiles};
+use files::{Files, HonestFiles, MemoryFiles, StdFiles};
 use rows::Row;
 use rows::given::{count_at, items_at, text_of};
-use schema_gen::{Words, run};
+use schema_gen::{Status, Words};
 use serde_json::Value;
 use std::alloc::Global;
 use std::rt::Files as FileSystem;
-use streams::{HonestSink, HonestSource, MemorySink, MemorySource, StdSink, StdSource};
+use streams::{
+    HonestSink, HonestSource, MemorySink, MemorySource, Sink, Source, StdSink, StdSource,
+};
 
 /// Room for all that a run of a row writes.
 const ROOM: usize = 1_000_000;
@@ -54,9 +56,29 @@ fn files_of(alloc: Global, given: &Value) -> anyhow::Result<Vec<(String, Vec<u8>
     Ok(files)
 }
 
+/// A run of `schema_gen`, or where the row has the member `program`, of the program of that name.
+fn run<S: Source, F: Files, O: Sink, E: Sink>(
+    alloc: Global,
+    given: &Value,
+    words: &Words,
+    input: &mut S,
+    files: &mut F,
+    out: &mut O,
+    err: &mut E,
+) -> anyhow::Result<Status> {
+    let Some(program) = given.get("program") else {
+        return Ok(schema_gen::run(alloc, words, input, files, out, err));
+    };
+    match text_of(program)? {
+        "schema_prepare" => Ok(preparing::run(alloc, words, input, files, out, err)),
+        other => bail!("no program {other}"),
+    }
+}
+
 /// A run whose input and outputs do not fail.
 fn run_on(
     alloc: Global,
+    given: &Value,
     words: &Words,
     source: Vec<u8>,
     files: Vec<(String, Vec<u8>)>,
@@ -65,7 +87,9 @@ fn run_on(
     let mut files = HonestFiles::new(files);
     let mut out = HonestSink::new(alloc, ROOM)?;
     let mut err = HonestSink::new(alloc, ROOM)?;
-    let status = run(alloc, words, &mut input, &mut files, &mut out, &mut err);
+    let status = run(
+        alloc, given, words, &mut input, &mut files, &mut out, &mut err,
+    )?;
     Outcome::new(alloc, status, out.as_slice(), err.as_slice())
 }
 
@@ -73,7 +97,7 @@ fn run_on(
 fn honest(alloc: Global, given: &Value) -> anyhow::Result<Outcome> {
     let source = bytes_at(alloc, given, "source")?;
     let files = files_of(alloc, given)?;
-    run_on(alloc, &words_of(alloc, given)?, source, files)
+    run_on(alloc, given, &words_of(alloc, given)?, source, files)
 }
 
 /// The words to derive, with the file `config` where one is told.
@@ -97,7 +121,7 @@ fn derive(alloc: Global, given: &Value) -> anyhow::Result<Outcome> {
         files.push((String::from_str(alloc, CONFIG)?, bytes))?;
     }
     let words = derive_words(alloc, configuration.is_some())?;
-    run_on(alloc, &words, source, files)
+    run_on(alloc, given, &words, source, files)
 }
 
 /// The document of the source, or why it is refused.
@@ -128,7 +152,9 @@ fn with_faults(alloc: Global, given: &Value) -> anyhow::Result<Outcome> {
     let mut out = MemorySink::new(alloc, count_at(given, "room")?, 100, writes)?;
     let reports = counts_at(alloc, given, "reports")?;
     let mut err = MemorySink::new(alloc, ROOM, 1000, reports)?;
-    let status = run(alloc, &words, &mut input, &mut files, &mut out, &mut err);
+    let status = run(
+        alloc, given, &words, &mut input, &mut files, &mut out, &mut err,
+    )?;
     Outcome::new(alloc, status, out.as_slice(), err.as_slice())
 }
 
@@ -143,12 +169,13 @@ fn over_std<R: AllocGlobal + FileSystem>(rt: &R, given: &Value) -> anyhow::Resul
     let mut report_room = err.as_mut_slice();
     let status = run(
         alloc,
+        given,
         &words,
         &mut StdSource::new(source.as_slice()),
         &mut StdFiles::new(rt),
         &mut StdSink::new(&mut room),
         &mut StdSink::new(&mut report_room),
-    );
+    )?;
     Outcome::new(alloc, status, &out, &err)
 }
 

@@ -11,13 +11,13 @@ use Rattle.files.specs.Held.{IsMissing}
 use Rattle.configuration.specs.Configuration.{Configuration}
 use Rattle.shapes.specs.Declarations.{DeclarationOf}
 use Rattle.closing.specs.Described.{Describes}
-use Rattle.schema_gen.specs.Beginning.{Beginning, IsTold}
-use Rattle.schema_gen.specs.Given.{Given, IsConfigured, IsMisconfigured, IsGiven, ResolvesTo}
+use Rattle.reporting.specs.Beginning.{Beginning}
+use Rattle.schema_gen.specs.Given.{IsTold, Given, IsConfigured, IsMisconfigured, IsGiven, ResolvesTo}
 use Rattle.schema_gen.specs.Owed.{IsDocument, Owed}
 use Rattle.schema_gen.specs.Refusals.{IsSound, IsRefusedSource, IsRefusedRun, IsReported}
 use Rattle.schema_gen.specs.Words.{IsDerive, HaveForm}
-use Rattle.schema_gen.specs.declared.status.Status.{Status}
-use Rattle.schema_gen.specs.declared.status.Status.TheVariants.{Done, Refused, Usage, ReadFault, WriteFault, Memory, FileFault}
+use Rattle.reporting.specs.declared.status.Status.{Status}
+use Rattle.reporting.specs.declared.status.Status.TheVariants.{Done, Refused, Usage, ReadFault, WriteFault, Memory, FileFault}
 use Rattle.schema_gen.proofs.OtherKinds.{config_kind, no_bad_config}
 use Rattle.schema_gen.proofs.Told.{OneConfiguration, one_text, misconfigured, said_missing, none_missing, one_configuration, refused_form}
 

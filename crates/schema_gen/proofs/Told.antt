@@ -1,12 +1,18 @@
 -- What words, files and input give, where they tell it.
 use Rattle.std.proofs.Common.{◌≡◌, ℕ, List, IsTrue, Option, Some, None, IsSome, inl, inr, refl, sym, ◌∙◌, subst}
+use Rattle.diag.specs.declared.diagnostics.DiangosticsInner.{DiangosticsInner}
 use Rattle.diag.specs.declared.error.DeriveError.{DeriveError}
+use Rattle.diag.specs.declared.error.DeriveError.TheVariants as error
 use Rattle.streams.specs.Told.{IsAll}
 use Rattle.files.specs.Held.{IsMissing}
 use Rattle.configuration.specs.Configuration.{Configuration}
 use Rattle.configuration.specs.Form.{IsConfigurationText}
-use Rattle.schema_gen.specs.Beginning.{Beginning, IsTold}
-use Rattle.schema_gen.specs.Given.{IsSaid, IsConfigured, IsMisconfigured}
+use Rattle.reporting.specs.Beginning.{Beginning}
+use Rattle.reporting.specs.Endings.{Reports}
+use Rattle.reporting.specs.declared.ending.Ending.{Ending}
+use Rattle.reporting.specs.declared.ending.Ending.TheVariants.{Done, Refused, Usage, ReadFault, Memory, FileFault}
+use Rattle.schema_gen.specs.Given.{IsTold, IsSaid, IsConfigured, IsMisconfigured}
+use Rattle.schema_gen.specs.Owed.{Owed, IsEnding}
 use Rattle.schema_gen.specs.Refusals.{IsRefusedRun}
 use Rattle.schema_gen.specs.Words.{IsDerive, HaveForm}
 
@@ -73,3 +79,13 @@ module _ (begun : Beginning) where
   pub refused_form : (e : DeriveError) → IsRefusedRun begun e → HaveForm begun.words
   refused_form e (inl (file, bad)) = (Some file.0, file.2)
   refused_form e (inr (given, is, refused)) = (is.config.0, is.config.1)
+
+-- a run that is refused may end as the diagnostics are reported
+pub reported : (begun : Beginning) (ds : List DiangosticsInner) (ending : Ending) → Reports ds ending → IsRefusedRun begun (error.Refused ds) → IsEnding begun ending
+unfolding Owed
+reported begun ds (Done text) is cause = absurd is
+reported begun ds (Refused kind line) is cause = (record { diagnostics = ds; cause = cause; kind_is = is.0; line_is = is.1 }, refl)
+reported begun ds (Usage line) is cause = absurd is
+reported begun ds ReadFault is cause = absurd is
+reported begun ds Memory is cause = (refused_form begun (error.Refused ds) cause, refl, refl)
+reported begun ds FileFault is cause = absurd is

@@ -1,7 +1,4 @@
-pub mod Beginning
-pub mod Endings
 pub mod Given
-pub mod Numbers
 pub mod Owed
 pub mod Refusals
 pub mod Words
@@ -27,6 +24,11 @@ pub use Rattle.files.specs.Memory as FileMemory
 pub use Rattle.closing.specs.Targets
 pub use Rattle.inlining.specs.Inlining
 pub use Rattle.compose.specs.Bounds
+pub use Rattle.reporting.specs.Beginning
+pub use Rattle.reporting.specs.Bytes
+pub use Rattle.reporting.specs.Endings
+pub use Rattle.reporting.specs.Numbers
+pub use Rattle.reporting.specs.Report
 pub use Rattle.schema_core.specs.Document
 pub use Rattle.streams.specs.Faults as StreamFaults
 pub use Rattle.streams.specs.Memory

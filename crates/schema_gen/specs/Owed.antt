@@ -4,12 +4,15 @@ use Rattle.schema_core.specs.Document.{Entry, document, text_of}
 use Rattle.configuration.specs.Configuration.{Configuration}
 use Rattle.closing.specs.Described.{Describes}
 use Rattle.compose.specs.Faults.{IsDerived}
-use Rattle.schema_gen.specs.Beginning.{Beginning}
+use Rattle.reporting.specs.Beginning.{Beginning}
+use Rattle.reporting.specs.Bytes.{IsText}
+use Rattle.reporting.specs.Endings.{status_of, document_of, report_of}
+use Rattle.reporting.specs.declared.ending.Ending.{Ending}
+use Rattle.reporting.specs.declared.status.Status.{Status}
+use Rattle.reporting.specs.declared.status.Status.TheVariants.{Done, Refused, Usage, ReadFault, WriteFault, Memory, FileFault}
 use Rattle.schema_gen.specs.Given.{Given, IsConfigured, IsGiven}
-use Rattle.schema_gen.specs.Refusals.{IsText, IsReported}
+use Rattle.schema_gen.specs.Refusals.{IsReported}
 use Rattle.schema_gen.specs.Words.{IsDerive, HaveForm}
-use Rattle.schema_gen.specs.declared.status.Status.{Status}
-use Rattle.schema_gen.specs.declared.status.Status.TheVariants.{Done, Refused, Usage, ReadFault, WriteFault, Memory, FileFault}
 
 -- The text is that of the document of a source's components, which describes the declarations that
 -- the source declares.
@@ -39,3 +42,7 @@ Owed begun ReadFault out err =
     ((c : Configuration) × IsConfigured begun c) × (out ≡ []) × (err ≡ codes "read fault\n")
 Owed begun Memory out err = HaveForm begun.words × (out ≡ []) × (err ≡ [])
 Owed begun WriteFault out err = ⊥
+
+-- a run that begins so may end so
+abbrev pub IsEnding : Beginning → Ending → Type 0
+IsEnding begun ending = Owed begun (status_of ending) (document_of ending) (report_of ending)

@@ -3,15 +3,10 @@
 #![tactic(auto)]
 
 mod command;
-mod deliver;
-mod ending;
 mod law;
 mod program;
 mod reading;
-mod refusal;
-mod status;
 
-pub use command::Words;
 pub use compose::{Derived, derive_components};
 pub use configuration::Config;
 pub use diag::{DeriveError, Diagnostics, DiangosticsInner, Kind, List, Span, Suggestion, Text};
@@ -19,8 +14,8 @@ pub use files::{FileAnswer, FileBytes, Files, HonestFiles, MemoryFiles, StdFiles
 pub use law::sound_is_not_refused;
 pub use open_types::ClosedType;
 pub use program::run;
+pub use reporting::{Status, Words};
 pub use schema_core::Components;
-pub use status::Status;
 pub use streams::{
     Failed, HonestSink, HonestSource, MemorySink, MemorySource, ReadError, Sink, Source, StdSink,
     StdSource, read_all, write_all,

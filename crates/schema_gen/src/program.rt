@@ -9,21 +9,19 @@ ghost use Rattle.configuration.specs.Configuration.{Configuration};
 ghost use Rattle.files.specs.Held.{IsMissing};
 ghost use Rattle.shapes.specs.Declarations.{DeclarationOf};
 ghost use Rattle.closing.specs.Described.{Describes};
-ghost use Rattle.schema_gen.specs.Beginning.{IsTold, beginning_of};
-ghost use Rattle.schema_gen.specs.Given.{Given as AnyGiven, IsGiven, IsConfigured, IsMisconfigured, ResolvesTo};
+ghost use Rattle.reporting.specs.Beginning.{beginning_of};
+ghost use Rattle.reporting.specs.declared.status.Status.{Status as AnyStatus};
+ghost use Rattle.schema_gen.specs.Given.{Given as AnyGiven, IsGiven, IsTold, IsConfigured, IsMisconfigured, ResolvesTo};
 ghost use Rattle.schema_gen.specs.Owed.{IsDocument, Owed};
 ghost use Rattle.schema_gen.specs.Refusals.{IsSound, IsReported};
 ghost use Rattle.schema_gen.specs.Words.{IsDerive, HaveForm};
-ghost use Rattle.schema_gen.specs.declared.status.Status.{Status as AnyStatus};
 
-use crate::command::Words;
-use crate::deliver::deliver;
 use crate::law::sound_is_not_refused;
 use crate::reading::end_of;
-use crate::status::Status;
 use configuration::configurations_are_one;
 use diag::Kind;
 use files::Files;
+use reporting::{Status, Words, deliver};
 use std::alloc::Global;
 use streams::{Failed, Sink, Source};
 

@@ -10,24 +10,26 @@ ghost use Rattle.configuration.specs.Form.{IsConfigurationText};
 ghost use Rattle.files.specs.Held.{IsHeld};
 ghost use Rattle.diag.specs.Diagnostics.{HasFirst};
 ghost use Rattle.diag.specs.declared.kind.Kind.{Kind as AnyKind};
-ghost use Rattle.schema_gen.specs.Beginning.{Beginning, beginning_of};
-ghost use Rattle.schema_gen.specs.Endings.{status_of, IsEnding};
+ghost use Rattle.reporting.specs.Beginning.{Beginning, beginning_of};
+ghost use Rattle.reporting.specs.Bytes.{most_bytes};
+ghost use Rattle.reporting.specs.Endings.{status_of};
 ghost use Rattle.schema_gen.specs.Given.{Given, IsSaidBy, IsConfigured, IsMisconfigured, IsGiven};
-ghost use Rattle.schema_gen.specs.Owed.{IsDocumentOf};
-ghost use Rattle.schema_gen.specs.Refusals.{most_bytes, IsRefusedSource, IsRefusedRun};
+ghost use Rattle.schema_gen.specs.Owed.{IsDocumentOf, IsEnding};
+ghost use Rattle.schema_gen.specs.Refusals.{IsRefusedSource, IsRefusedRun};
 ghost use Rattle.schema_gen.specs.Words.{IsDerive};
 
-use crate::command::Words;
-use crate::ending::Ending;
-use crate::refusal::{MAX_BYTES, refusal_line, source_text, too_long};
-use crate::status::Status;
+use crate::command::{config_path, is_derive};
 use compose::derive_components;
 use configuration::{Config, bad_config};
 use diag::{DeriveError, Diagnostics, Kind};
 use files::{FileAnswer, Files};
-use std::alloc::{AllocError, Global};
+use reporting::{Ending, MAX_BYTES, Status, Words, source_text, too_long};
+use std::alloc::Global;
 use streams::{ReadError, Source, read_all};
 use texts::Text;
+
+/// How to use the program.
+const USAGE: &str = "usage: schema_gen derive [--config PATH]\n";
 
 /// The ending of a run that is refused.
 fn refused(alloc: Global, refusal: &Diagnostics) -> Ending
@@ -39,10 +41,7 @@ fn refused(alloc: Global, refusal: &Diagnostics) -> Ending
     ensures kind { (kind : AnyKind) → status_of result ≡ Status.Refused kind
         → HasFirst refusal.now (λ d. d.kind ≡ kind) }
 {
-    match refusal_line(alloc, refusal) {
-        Ok(line) => Ending::Refused(refusal.kind(), line),
-        Err(AllocError) => Ending::Memory,
-    }
+    Ending::of_refusal(alloc, refusal)
 }
 
 /// The text of the document of a source.
@@ -224,11 +223,11 @@ pub(crate) fn end_of<S: Source, F: Files>(
         → CountsFault (F.faults files.old) (F.faults files.new)
         × ((path : Items ℕ) × IsDerive words.now (Some path) × (F.failed files.new ≡ Some path)) }
 {
-    if words.is_derive() {
+    if is_derive(words) {
         return end_with(alloc, &Config::new(alloc), input);
     }
-    match words.config_path() {
+    match config_path(words) {
         Some(path) => end_at(alloc, path, input, files),
-        None => Ending::Usage,
+        None => Ending::Usage(USAGE),
     }
 }

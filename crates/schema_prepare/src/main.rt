@@ -1,17 +1,12 @@
-//! What stands around a derivation: the declarations of a whole file, the rows that they need, and where a span stands.
+//! The program: the arguments, the files and the standard streams, and the number of how the run ended.
 #![tactic(auto)]
 
-mod answers;
-mod failure;
-mod shown;
-mod task;
-
-use failure::Failure;
+use preparing::{Status, StdFiles, StdSink, StdSource, Words, run};
 use std::process::ExitCode;
 use std::{env, io};
 
 /// The words after the program's name. An argument that is no text is no word, and then there are none.
-fn words(rt: &HostRuntime) -> io::Result<Vec<String>> {
+fn words(rt: &HostRuntime) -> io::Result<Words> {
     let mut words = Vec::new(rt.alloc());
     match env::args(rt) {
         Ok(args) => {
@@ -22,16 +17,26 @@ fn words(rt: &HostRuntime) -> io::Result<Vec<String>> {
         Err(error) if error.kind() == io::ErrorKind::InvalidData => {}
         Err(error) => return Err(error),
     }
-    Ok(words)
+    Ok(Words::new(words))
 }
 
 fn main(rt: HostRuntime) -> ExitCode {
-    let ended = match words(&rt) {
-        Ok(words) => answers::run(&rt, words.as_slice()),
-        Err(_) => Err(Failure::Memory),
+    let status = match words(&rt) {
+        Ok(words) => {
+            let mut input = StdSource::new(rt.stdin());
+            let mut files = StdFiles::new(&rt);
+            let mut out = StdSink::new(rt.stdout());
+            let mut err = StdSink::new(rt.stderr());
+            run(
+                rt.alloc(),
+                &words,
+                &mut input,
+                &mut files,
+                &mut out,
+                &mut err,
+            )
+        }
+        Err(_) => Status::Memory,
     };
-    match ended {
-        Ok(()) => ExitCode::SUCCESS,
-        Err(failure) => failure.told(&rt),
-    }
+    ExitCode::from(status.number())
 }

@@ -8,7 +8,8 @@ use Rattle.shapes.specs.Declarations.{DeclarationOf}
 use Rattle.derive_decl.specs.Whole.{resolved_declarations}
 use Rattle.compose.specs.Bounds.{AreBounded, BoundedAreNotRefused}
 use Rattle.compose.specs.Faults.{AreAtFault, IsBeyond, IsRefused, AreClear}
-use Rattle.schema_gen.specs.Refusals.{most_bytes, IsSound, IsRefusedSource}
+use Rattle.reporting.specs.Bytes.{most_bytes}
+use Rattle.schema_gen.specs.Refusals.{IsSound, IsRefusedSource}
 use Rattle.schema_gen.proofs.law.sound_is_not_refused.Goals as goal
 
 OneReading : Type 0

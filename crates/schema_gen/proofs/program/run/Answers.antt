@@ -1,6 +1,6 @@
 use Rattle.std.proofs.Common.{◌≡◌, ◌∙◌, ◌⊎◌, sym, subst}
 use Rattle.std.specs.Io.KnownBytes.{Appends}
-use Rattle.schema_gen.specs.declared.status.Status.TheVariants.{Done, Refused, Memory, FileFault, WriteFault}
+use Rattle.reporting.specs.declared.status.Status.TheVariants.{Done, Refused, Memory, FileFault, WriteFault}
 use Rattle.diag.specs.declared.kind.Kind.TheVariants.{BadConfig}
 use Rattle.schema_gen.proofs.Consequences.{described, document_owed, refused_owed, bad_config_owed, only_bad_owed, missing_owed, sound_owed}
 use Rattle.schema_gen.proofs.program.run.Goals as goal

@@ -7,7 +7,8 @@ use Rattle.configuration.specs.Configuration.{Configuration}
 use Rattle.closing.specs.Described.{Describes}
 use Rattle.compose.specs.Faults.{IsDerived, IsRefused}
 use Rattle.schema_gen.specs.Owed.{IsDocumentOf}
-use Rattle.schema_gen.specs.Refusals.{IsText, IsRefusedSource}
+use Rattle.reporting.specs.Bytes.{IsText}
+use Rattle.schema_gen.specs.Refusals.{IsRefusedSource}
 use Rattle.schema_gen.proofs.reading.document_text.Goals as goal
 
 -- what refuses the text refuses its bytes

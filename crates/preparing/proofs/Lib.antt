@@ -1,0 +1,4 @@
+pub mod Consequences
+pub mod Forms
+pub mod Spans
+pub mod Told

@@ -1,0 +1,36 @@
+use Rattle.std.proofs.Common.{◌≡◌, ◌≤◌, ◌<◌, ℕ, List, length, inl, inr, subst, arith}
+use Rattle.diag.specs.declared.error.DeriveError.{DeriveError}
+use Rattle.syntax.specs.Items.{DeclaredItem}
+use Rattle.syntax.specs.Source.{Reads}
+use Rattle.renaming.specs.Asked.{HaveNoRows}
+use Rattle.reporting.specs.Bytes.{most_bytes}
+use Rattle.preparing.specs.Answers.{IsRefusedFor, IsSoundFor}
+use Rattle.preparing.specs.Given.{Given}
+use Rattle.preparing.specs.Refusals.{IsRefusedSource, IsSound}
+use Rattle.preparing.specs.Words.{Request, declarations, renames, place}
+use Rattle.preparing.proofs.law.sound_is_not_refused.Goals as goal
+
+OneReading : Type 0
+OneReading = (source : List ℕ) (ds es : List DeclaredItem) → Reads source ds → Reads source es → ds ≡ es
+
+-- a text that is sound is not refused
+sound_text : OneReading → (request : Request) (source : List ℕ) (e : DeriveError) → IsSoundFor request source → IsRefusedFor request source e → ⊥
+unfolding OneReading
+sound_text one (declarations choice) source e sound (inl (span, is, opens)) = sound.shallow span opens
+sound_text one (declarations choice) source e sound (inr (span, is, within, none)) = none sound.standing sound.file
+sound_text one renames source e sound (inl (span, is, deep)) = sound.shallow span deep
+sound_text one renames source e sound (inr (inl (span, is, within, none))) = none sound.items sound.read
+sound_text one renames source e sound (inr (inr (ds, read, rowless))) = sound.named e (subst (λ items. HaveNoRows items e) (one source ds sound.items read sound.read) rowless)
+sound_text one (place path span) source e sound refused = refused
+
+long_and_short : (n : ℕ) → most_bytes < n → n ≤ most_bytes → ⊥
+long_and_short n long short = omega arith
+
+not_refused : OneReading → (given : Given) (e : DeriveError) → IsSound given → IsRefusedSource given.request given.bytes e → ⊥
+not_refused one given e sound (inl (long, is)) = long_and_short (length given.bytes) long sound.text.short
+not_refused one given e sound (inr (inl (short, (span, broken, is)))) = broken.no_text sound.text.utf8
+not_refused one given e sound (inr (inr (is_text, refused))) = sound_text one given.request given.bytes e sound.sound refused
+
+pub returns : goal.returns
+unfolding OneReading
+returns c = not_refused c.one_reading.ensures

@@ -1,0 +1,5 @@
+pub mod Beginning
+pub mod Bytes
+pub mod Endings
+pub mod Numbers
+pub mod Report
