@@ -1,0 +1,15 @@
+mod Blanks
+mod Firsts
+mod Forms
+mod Comments
+mod Longest
+mod Cutting
+mod Thinning
+mod Order
+mod Nesting
+mod Placing
+mod Settling
+mod Items
+mod Alone
+mod Reading
+mod Filing
