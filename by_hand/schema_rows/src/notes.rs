@@ -1,7 +1,7 @@
 //! Notes as rows write them, under the names that they have in JSON.
 
 use anyhow::bail;
-use schema_core::{Json, Notes};
+use schema_core::{Annotations, Json, Notes};
 use serde_json::Value;
 use std::alloc::{AllocError, Global};
 use texts::{List, Text};
@@ -49,7 +49,7 @@ fn truth(given: &Value, name: &str) -> Option<bool> {
 }
 
 /// Sets the notes that are texts.
-fn set_texts(alloc: Global, notes: &mut Notes, given: &Value) -> Result<(), AllocError> {
+fn set_texts(alloc: Global, notes: &mut Annotations, given: &Value) -> Result<(), AllocError> {
     notes.title = text(alloc, given, "title")?;
     notes.description = text(alloc, given, "description")?;
     notes.content_encoding = text(alloc, given, "contentEncoding")?;
@@ -58,7 +58,7 @@ fn set_texts(alloc: Global, notes: &mut Notes, given: &Value) -> Result<(), Allo
 }
 
 /// Sets the notes that are values.
-fn set_values(alloc: Global, notes: &mut Notes, given: &Value) -> anyhow::Result<()> {
+fn set_values(alloc: Global, notes: &mut Annotations, given: &Value) -> anyhow::Result<()> {
     notes.default = json(given, "default")?;
     notes.example = json(given, "example")?;
     notes.examples = jsons(alloc, given, "examples")?;
@@ -67,11 +67,11 @@ fn set_values(alloc: Global, notes: &mut Notes, given: &Value) -> anyhow::Result
 
 /// The notes among the members of what a row gives.
 pub(crate) fn notes(alloc: Global, given: &Value) -> anyhow::Result<Notes> {
-    let mut notes = Notes::new();
+    let mut notes = Annotations::none();
     notes.deprecated = truth(given, "deprecated");
     notes.read_only = truth(given, "readOnly");
     notes.write_only = truth(given, "writeOnly");
     set_texts(alloc, &mut notes, given)?;
     set_values(alloc, &mut notes, given)?;
-    Ok(notes)
+    Ok(Notes::of(alloc, notes)?)
 }

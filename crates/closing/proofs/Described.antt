@@ -14,7 +14,7 @@ use Rattle.schema_core.specs.Schema as tree
 use Rattle.schema_core.specs.Form.{form}
 use Rattle.schema_core.specs.Document.{Entry, document}
 use Rattle.schema_core.specs.Entries.{names_of, find, IsInOrder}
-use Rattle.schema_core.specs.declared.notes.Notes.{Notes}
+use Rattle.schema_core.specs.declared.notes.Annotations.{Annotations as Notes}
 use Rattle.schema_core.specs.Meaning.{IsProper, tree_accepts, FormsAccept, FormsRefer, DocumentsHold}
 use Rattle.open_types.specs.Open.{Open, Opens, leaf, any_value, free_object, unit, tuple, items, set, map_of, option, through, no_types, more_types}
 use Rattle.open_types.specs.Open as types

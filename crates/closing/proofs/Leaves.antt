@@ -57,12 +57,12 @@ module _ {X Y : Type 0} (f g : X → SchemaOf Y) where
 
 -- ---- the declarations that are inline at the leaves
 
-among-left : (e : ℕ) (xs ys : List ℕ) → IsAmong e xs → IsAmong e (xs ++ ys)
+pub among-left : (e : ℕ) (xs ys : List ℕ) → IsAmong e xs → IsAmong e (xs ++ ys)
 among-left e [] ys h = absurd h
 among-left e (x ∷ xs) ys (inl h) = inl h
 among-left e (x ∷ xs) ys (inr h) = inr (among-left e xs ys h)
 
-among-right : (e : ℕ) (xs ys : List ℕ) → IsAmong e ys → IsAmong e (xs ++ ys)
+pub among-right : (e : ℕ) (xs ys : List ℕ) → IsAmong e ys → IsAmong e (xs ++ ys)
 among-right e [] ys h = h
 among-right e (x ∷ xs) ys h = inr (among-right e xs ys h)
 

@@ -1,6 +1,6 @@
 -- Schemas of declarations that are made one after another, each behind those that stand in it.
-use Rattle.std.proofs.Common.{ℕ, zero, suc, ◌+◌, ◌<◌, ◌≤◌, ◌⊎◌, List, [], ◌∷◌, ◌++◌, length, map, take, get_or, set, ◌≡◌, refl, ap, sym, subst, ◌∙◌, inl, inr, arith}
-use Rattle.std.proofs.lemmas.List.{take_more, length-map}
+use Rattle.std.proofs.Common.{ℕ, zero, suc, ◌+◌, ◌<◌, ◌≤◌, ◌⊎◌, List, [], ◌∷◌, ◌++◌, length, map, take, get_or, set, ◌≡◌, ◌≢◌, refl, ap, sym, subst, ◌∙◌, inl, inr, arith}
+use Rattle.std.proofs.lemmas.List.{take_more, length-map, length-set, get_or-set_other}
 use Rattle.schema_core.specs.declared.tree.RefLeaf.{RefLeaf}
 use Rattle.schema_core.specs.declared.tree.Tree.{Tree}
 use Rattle.schema_core.specs.Schema.{SchemaOf, schema_view, bind}
@@ -9,11 +9,11 @@ use Rattle.component.specs.declared.term.TermLeaf.{TermLeaf}
 use Rattle.shapes.specs.Declarations.{DeclarationOf, declaration_at, body_types, AreWithin}
 use Rattle.shapes.specs.Plain.{StandsInOne}
 use Rattle.shapes.specs.Terms.{term}
-use Rattle.inlining.specs.Inlining.{targets_of, IsAmong, IsAtMost}
+use Rattle.inlining.specs.Inlining.{targets_of, IsAmong, AreOnce, IsAtMost}
 use Rattle.closing.specs.Targets.{inlining_of, most_inlined}
 use Rattle.closing.specs.Closed.{any_value, put, closed, schema_in, declared_schema}
 use Rattle.closing.proofs.Described.{all-within}
-use Rattle.closing.proofs.Leaves.{among_cases}
+use Rattle.closing.proofs.Leaves.{among-left, among-right, among_cases}
 use Rattle.closing.proofs.Targets.{IsShort, targets-are, as_many-targets, shorter, all-short, same-term, closed-stays}
 
 -- the schemas of these declarations are made
@@ -72,6 +72,35 @@ schema_past (s ∷ made) zero l = absurd (omega arith)
 schema_past (s ∷ made) (suc d) l = schema_past made d (omega arith)
 
 -- ---- terms
+
+-- the terms of declarations that are not among these are still there
+abbrev pub AreWaiting : List DeclarationOf → List (Tree TermLeaf) → List ℕ → Type 0
+AreWaiting ss terms ds = (d : ℕ) → d < length terms → ¬ (IsAmong d ds) → (x : Tree TermLeaf) → x ≡ get_or terms d x → term_view x ≡ term (declaration_at ss d)
+
+-- one that is let go is among those that are done
+pub waiting_more : (ss : List DeclarationOf) (terms : List (Tree TermLeaf)) (ds : List ℕ) (i : ℕ) (t : Tree TermLeaf) → i < length ds → AreWaiting ss terms (take i ds) → AreWaiting ss (set terms (get_or ds i 0) t) (take (i + 1) ds)
+waiting_more ss terms ds i t h waiting d l none x at =
+    let p = get_or ds i 0 in
+    let more : take (i + 1) ds ≡ take i ds ++ p ∷ [] = take_more ds i 0 h in
+    let other : d ≢ p = λ same. none (subst (IsAmong d) (sym more) (among-right d (take i ds) (p ∷ []) (inl same))) in
+    let fresh : ¬ (IsAmong d (take i ds)) = λ among. none (subst (IsAmong d) (sym more) (among-left d (take i ds) (p ∷ []) among)) in
+    waiting d (subst (λ n. d < n) (length-set terms p t) l) fresh x (at ∙ get_or-set_other terms p d t x other)
+
+among_at : (ds : List ℕ) (i : ℕ) → i < length ds → IsAmong (get_or ds i 0) ds
+among_at [] i h = absurd (omega arith)
+among_at (d ∷ ds) zero h = inl refl
+among_at (d ∷ ds) (suc i) h = inr (among_at ds i (omega arith))
+
+-- of an order, a declaration is not among those before it
+pub fresh_at : (ds : List ℕ) (i : ℕ) → AreOnce ds → i < length ds → ¬ (IsAmong (get_or ds i 0) (take i ds))
+fresh_at [] i once h = absurd (omega arith)
+fresh_at (d ∷ ds) zero once h = λ none. none
+fresh_at (d ∷ ds) (suc i) once h = by (fresh_at ds i once.1 (omega arith))
+  where
+    by : ¬ (IsAmong (get_or ds i 0) (take i ds)) → (get_or ds i 0 ≡ d) ⊎ IsAmong (get_or ds i 0) (take i ds) → ⊥
+    by before (inl same) = once.0 (subst (λ e. IsAmong e ds) same (among_at ds i (omega arith)))
+    by before (inr among) = before among
+
 module _ {A : Type 0} (view : A → DeclarationOf) where
   term_at : (terms : List (Tree TermLeaf)) (ds : List A) (d : ℕ) (x : Tree TermLeaf) → map term_view terms ≡ map (λ s. term (view s)) ds → d < length terms → term_view (get_or terms d x) ≡ term (declaration_at (map view ds) d)
   term_at [] ds d x e l = absurd (omega arith)
@@ -82,16 +111,19 @@ module _ {A : Type 0} (view : A → DeclarationOf) where
   pub as_many_terms : (terms : List (Tree TermLeaf)) (ds : List A) → map term_view terms ≡ map (λ s. term (view s)) ds → length terms ≡ length ds
   as_many_terms terms ds e = sym (length-map terms term_view) ∙ ap length e ∙ length-map ds (λ s. term (view s))
 
+  -- at first all terms wait
+  pub all_wait : (terms : List (Tree TermLeaf)) (ds : List A) → map term_view terms ≡ map (λ s. term (view s)) ds → AreWaiting (map view ds) terms []
+  all_wait terms ds e d l none x at = ap term_view at ∙ term_at terms ds d x e l
+
   -- the schema that is put together at a place of the order
-  pub next_schema : (ds : List A) (terms : List (Tree TermLeaf)) (made now : List (Tree RefLeaf)) (d : ℕ) (x : Tree TermLeaf) (s : SchemaOf RefLeaf) → map term_view terms ≡ map (λ s. term (view s)) ds →
+  pub next_schema : (ds : List A) (terms : List (Tree TermLeaf)) (made now : List (Tree RefLeaf)) (done : List ℕ) (d : ℕ) (x : Tree TermLeaf) (s : SchemaOf RefLeaf) → AreWaiting (map view ds) terms done → ¬ (IsAmong d done) → d < length terms →
       AreWithin (length (map view ds)) (map view ds) → IsAtMost most_inlined (inlining_of (map view ds)) → d < length ds → AreMade (map view ds) made (targets_of (inlining_of (map view ds)) d) →
       now ≡ made → x ≡ get_or terms d x → s ≡ bind (put (map view ds) (schema_in (map schema_view now))) (term_view x) → s ≡ declared_schema (map view ds) d
-  next_schema ds terms made now d x s are within most l all same at is =
+  next_schema ds terms made now done d x s waiting fresh here within most l all same at is =
       let ss = map view ds in
-      let here : d < length terms = subst (λ n. d < n) (sym (as_many_terms terms ds are)) l in
       is
       ∙ ap (λ m. bind (put ss (schema_in (map schema_view m))) (term_view x)) same
-      ∙ ap (bind (put ss (schema_in (map schema_view made)))) (ap term_view at ∙ term_at terms ds d x are here)
+      ∙ ap (bind (put ss (schema_in (map schema_view made)))) (waiting d here fresh x at)
       ∙ schema_is ss (all-within ss within) most made d (subst (λ n. d < n) (sym (length-map ds view)) l) all
 
   -- a place of the order is that of a declaration

@@ -1,6 +1,6 @@
 -- The terms of places and of fields: no object names a property twice, and what holds of each leaf.
 use Rattle.std.proofs.Common.{ℕ, List, [], ◌∷◌, length, Bool, true, false, cond, Option, Some, None, ◌≡◌, refl, ap, sym, subst, inl, inr}
-use Rattle.schema_core.specs.declared.notes.Notes.{Notes}
+use Rattle.schema_core.specs.declared.notes.Annotations.{Annotations as Notes}
 use Rattle.schema_core.specs.Notes.{no_notes, described}
 use Rattle.schema_core.specs.Schema.{SchemaOf, property_names, EachLeaf, EachSchemaLeaf, EachPropertyLeaf}
 use Rattle.schema_core.specs.Schema as tree

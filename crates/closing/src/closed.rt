@@ -146,14 +146,15 @@ fn none_made(alloc: Global, count: usize) -> Result<Vec<Schema>, AllocError>
     Ok(made)
 }
 
-/// The schema of each declaration, where `order` has each behind those whose schemas stand in its own.
+/// The schema of each declaration, where `order` has each behind those whose schemas stand in its own. A term is let go as
+/// soon as its schema is made.
 pub(crate) fn closed<D: Declared>(
     alloc: Global,
     declared: &[D],
-    terms: &[Term],
+    mut terms: Vec<Term>,
     order: &[usize],
 ) -> Result<Vec<Schema>, AllocError>
-    requires terms { map term_view terms.now ≡ map (λ s. term (D.declaration s)) declared.now }
+    requires terms { map term_view terms.items ≡ map (λ s. term (D.declaration s)) declared.now }
     requires within { AreWithin (length (map D.declaration declared.now))
         (map D.declaration declared.now) }
     requires depth { IsAtMost most_inlined (inlining_of (map D.declaration declared.now)) }
@@ -172,6 +173,7 @@ pub(crate) fn closed<D: Declared>(
         };
         let schema = filled(alloc, &terms[*place], &closing)?;
         made[*place] = schema;
+        terms[*place] = Tree::Leaf(TermLeaf::Param(0));
     }
     Ok(made)
 }

@@ -20,10 +20,10 @@ use std::alloc::{AllocError, Global};
 pub fn components_of<D: Declared>(
     alloc: Global,
     declared: &[D],
-    terms: &[Term],
+    terms: Vec<Term>,
     order: &[usize],
 ) -> Result<Components, AllocError>
-    requires terms { map term_view terms.now ≡ map (λ s. term (D.declaration s)) declared.now }
+    requires terms { map term_view terms.items ≡ map (λ s. term (D.declaration s)) declared.now }
     requires within { AreWithin (length (map D.declaration declared.now))
         (map D.declaration declared.now) }
     requires depth { IsAtMost most_inlined (inlining_of (map D.declaration declared.now)) }

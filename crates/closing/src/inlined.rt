@@ -15,11 +15,11 @@ use std::alloc::{AllocError, Global};
 use texts::{List, Text};
 
 /// The terms of the declarations, in their order.
-pub fn terms_of<D: Declared>(alloc: Global, declared: &[D]) -> Result<List<Term>, AllocError>
+pub fn terms_of<D: Declared>(alloc: Global, declared: &[D]) -> Result<Vec<Term>, AllocError>
     ensures { IfOk result
-        (λ terms. map term_view terms ≡ map (λ s. term (D.declaration s)) declared.now) }
+        (λ terms. map term_view terms.items ≡ map (λ s. term (D.declaration s)) declared.now) }
 {
-    let mut terms = List::new(alloc);
+    let mut terms = Vec::new(alloc);
     for of in declared {
         terms.push(of.term(alloc)?)?;
     }

@@ -1,7 +1,7 @@
 -- What a term leaves open: parameters and declarations.
 use Rattle.std.specs.Prelude.{ℕ, Bool}
 use Rattle.open_types.specs.Open.{Open, open_view}
-use Rattle.schema_core.specs.declared.notes.Notes.{Notes}
+use Rattle.schema_core.specs.declared.notes.Annotations.{Annotations as Notes}
 use Rattle.schema_core.specs.declared.tree.Tree.{Tree}
 use Rattle.schema_core.specs.Schema.{SchemaOf, tree_view}
 use Rattle.component.specs.declared.term.TermLeaf.{TermLeaf}

@@ -4,7 +4,7 @@ use Rattle.schema_core.specs.declared.tree.SchemaTypeInner.{SchemaTypeInner}
 use Rattle.schema_core.specs.declared.tree.SchemaTypeInner.TheVariants as word
 use Rattle.schema_core.specs.declared.tree.TypeWord.{TypeWord}
 use Rattle.schema_core.specs.declared.tree.TypeWord.TheVariants.{Any, One, Nullable}
-use Rattle.schema_core.specs.declared.notes.Notes.{Notes}
+use Rattle.schema_core.specs.declared.notes.Annotations.{Annotations as Notes}
 use Rattle.schema_core.specs.declared.bounds.Bounds.{Bounds}
 use Rattle.schema_core.specs.Bounds.{at_least}
 use Rattle.schema_core.specs.Notes.{no_notes, noted, described, null_default}

@@ -1,17 +1,18 @@
 //! Schemas of one keyword or two, with leaves of any type.
 
-ghost use Rattle.std.specs.Prelude.{◌≡◌, IfOk};
+ghost use Rattle.std.specs.Prelude.{◌≡◌, IfOk, Some};
+ghost use Rattle.acceptance.specs.Json.{null};
 ghost use Rattle.schema_core.specs.Schema.{SchemaOf, tree_view, object_view, tree_views, named_views, no_schemas, schema};
 ghost use Rattle.component.specs.Leaves.{leaf_view, term_view};
-ghost use Rattle.schema_core.specs.Notes.{where_true, noted, null_default};
+ghost use Rattle.schema_core.specs.Notes.{notes_of, where_true, noted, null_default};
 ghost use Rattle.schema_core.specs.Objects.{only_word};
 ghost use Rattle.component.specs.Places.{word_of, minimum_of, bounds_of, type_word, one_of_null, or_null, beside, in_place, leaf_object, list_of, tuple_of, map_object};
 
 use crate::term::{Term, TermLeaf};
 use leaves::{Leaf, LeafKind};
 use schema_core::{
-    Additional, AllOfSchema, Array, ArrayItems, Bound, Bounds, Json, Notes, Object, OneOfSchema,
-    SchemaTypeInner, Tree, TypeWord,
+    Additional, AllOfSchema, Annotations, Array, ArrayItems, Bound, Bounds, Json, Notes, Object,
+    OneOfSchema, SchemaTypeInner, Tree, TypeWord,
 };
 use serde_json::Value;
 use std::alloc::{AllocError, Global};
@@ -58,6 +59,24 @@ pub fn bounds_of(kind: LeafKind) -> Bounds
     }
 }
 
+/// Annotations that a place is deprecated, and of its description.
+fn said(
+    alloc: Global,
+    deprecated: bool,
+    description: &Option<Text>,
+) -> Result<Annotations, AllocError>
+    ensures { IfOk result (λ said. said ≡ noted deprecated description.now) }
+{
+    let mut said = Annotations::none();
+    if deprecated {
+        said.deprecated = Some(true);
+    }
+    if let Some(text) = description {
+        said.description = Some(text.copy(alloc)?);
+    }
+    Ok(said)
+}
+
 /// Notes that a place is deprecated, and of its description.
 pub fn noted(
     alloc: Global,
@@ -66,14 +85,10 @@ pub fn noted(
 ) -> Result<Notes, AllocError>
     ensures { IfOk result (λ notes. notes ≡ noted deprecated description.now) }
 {
-    let mut notes = Notes::new();
-    if deprecated {
-        notes.deprecated = Some(true);
+    if !deprecated && description.is_none() {
+        return Ok(Notes::new());
     }
-    if let Some(text) = description {
-        notes.description = Some(text.copy(alloc)?);
-    }
-    Ok(notes)
+    Notes::of(alloc, said(alloc, deprecated, description)?)
 }
 
 pub(crate) fn boxed(alloc: Global, object: Object<TermLeaf>) -> Result<Term, AllocError>
@@ -97,17 +112,29 @@ pub(crate) fn any_object(alloc: Global, nullable: bool, notes: Notes) -> Result<
     only_word(alloc, type_word(nullable, SchemaTypeInner::Object), notes)
 }
 
+/// Notes that a place is deprecated, of its description, and that null is its default.
+pub fn noted_null(
+    alloc: Global,
+    deprecated: bool,
+    description: &Option<Text>,
+) -> Result<Notes, AllocError>
+    ensures { IfOk result (λ notes. notes
+        ≡ notes_of description.now (Some null) (where_true deprecated)) }
+{
+    let mut said = said(alloc, deprecated, description)?;
+    said.default = match Json::new(Value::Null) {
+        Ok(null) => Some(null),
+        Err(_) => None,
+    };
+    Notes::of(alloc, said)
+}
+
 /// Null as the default of any value, with a description.
 pub fn null_default(alloc: Global, description: &Option<Text>) -> Result<Term, AllocError>
     ensures { IfOk result
         (λ s. term_view s ≡ only_word TypeWord.Any (null_default description.now)) }
 {
-    let mut notes = noted(alloc, false, description)?;
-    notes.default = match Json::new(Value::Null) {
-        Ok(null) => Some(null),
-        Err(_) => None,
-    };
-    only_word(alloc, TypeWord::Any, notes)
+    only_word(alloc, TypeWord::Any, noted_null(alloc, false, description)?)
 }
 
 /// The schema of a built-in name.

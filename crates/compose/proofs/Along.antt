@@ -5,10 +5,8 @@ use Rattle.diag.specs.Diagnostics.{diagnostic}
 use Rattle.diag.specs.declared.diagnostics.DiangosticsInner.{DiangosticsInner}
 use Rattle.diag.specs.declared.kind.Kind.TheVariants.{InlineDepth}
 use Rattle.texts.specs.declared.span.Span.{Span}
-use Rattle.syntax.specs.declared.item.Declaration.{Declaration}
-use Rattle.syntax.specs.Items.{declaration_view}
+use Rattle.written_types.specs.declared.written.Ident.{Ident}
 use Rattle.texts.specs.Lists.{Somewhere}
-use Rattle.scopes.specs.Names.{declared_names}
 use Rattle.derive_decl.specs.declared.resolved.Resolved.{Resolved}
 use Rattle.shapes.specs.Declarations.{DeclarationOf, declaration_at, declaration_names}
 use Rattle.derive_decl.specs.Views.{resolved_view}
@@ -20,33 +18,33 @@ use Rattle.closing.specs.Targets.{inlining_of, most_inlined}
 use Rattle.compose.specs.Bounds.{IsFirst, deep_message, names_along}
 
 -- what holds of an item holds somewhere
-pub somewhere_at : {A B : Type 0} (P : B → Type 0) (f : A → B) (xs : List A) (i : ℕ) (x : A) → i < length xs → P (f (get_or xs i x)) → Somewhere P (map f xs)
-somewhere_at P f [] i x l p = absurd (omega arith)
-somewhere_at P f (y ∷ ys) zero x l p = inl p
-somewhere_at P f (y ∷ ys) (suc i) x l p = inr (somewhere_at P f ys i x (omega arith) p)
+pub somewhere_at : {A : Type 0} (P : A → Type 0) (xs : List A) (i : ℕ) (x : A) → i < length xs → P (get_or xs i x) → Somewhere P xs
+somewhere_at P [] i x l p = absurd (omega arith)
+somewhere_at P (y ∷ ys) zero x l p = inl p
+somewhere_at P (y ∷ ys) (suc i) x l p = inr (somewhere_at P ys i x (omega arith) p)
 
--- ---- declarations and declarations
+-- ---- declarations and their names
 
 declaration_at-view : (resolved : List Resolved) (d : ℕ) (x : Resolved) → d < length resolved → declaration_at (map resolved_view resolved) d ≡ resolved_view (get_or resolved d x)
 declaration_at-view [] d x l = absurd (omega arith)
 declaration_at-view (s ∷ resolved) zero x l = refl
 declaration_at-view (s ∷ resolved) (suc d) x l = declaration_at-view resolved d x (omega arith)
 
--- as many declarations as declarations, where their names are the same
-pub same_length : (resolved : List Resolved) (ds : List Declaration) → declaration_names (map resolved_view resolved) ≡ declared_names (map declaration_view ds) → length resolved ≡ length ds
+-- as many declarations as names, where these are theirs
+pub same_length : (resolved : List Resolved) (ds : List Ident) → declaration_names (map resolved_view resolved) ≡ map (λ (i : Ident). i.text) ds → length resolved ≡ length ds
 same_length [] [] e = refl
 same_length [] (d ∷ ds) e = cc
 same_length (s ∷ resolved) [] e = cc
 same_length (s ∷ resolved) (d ∷ ds) e =
-    let rest : declaration_names (map resolved_view resolved) ≡ declared_names (map declaration_view ds) = cc in
+    let rest : declaration_names (map resolved_view resolved) ≡ map (λ (i : Ident). i.text) ds = cc in
     ap suc (same_length resolved ds rest)
 
-same_name : (resolved : List Resolved) (ds : List Declaration) (i : ℕ) (x : Declaration) → declaration_names (map resolved_view resolved) ≡ declared_names (map declaration_view ds) → i < length ds → (get_or ds i x).ident.text ≡ (declaration_at (map resolved_view resolved) i).name
+same_name : (resolved : List Resolved) (ds : List Ident) (i : ℕ) (x : Ident) → declaration_names (map resolved_view resolved) ≡ map (λ (i : Ident). i.text) ds → i < length ds → (get_or ds i x).text ≡ (declaration_at (map resolved_view resolved) i).name
 same_name resolved [] i x e l = absurd (omega arith)
 same_name [] (d ∷ ds) i x e l = cc
 same_name (s ∷ resolved) (d ∷ ds) zero x e l = cc
 same_name (s ∷ resolved) (d ∷ ds) (suc i) x e l =
-    let rest : declaration_names (map resolved_view resolved) ≡ declared_names (map declaration_view ds) = cc in
+    let rest : declaration_names (map resolved_view resolved) ≡ map (λ (i : Ident). i.text) ds = cc in
     same_name resolved ds i x rest (omega arith)
 
 -- ---- paths
@@ -69,7 +67,7 @@ declaration_along resolved path i d p l =
     omega (arith, within, length-inlining resolved)
 
 -- a path that is too long, which begins at a declaration
-pub deep_path : (resolved : List Resolved) (ds : List Declaration) (g : List (List ℕ)) (depth : Depth) (found path : List ℕ) → declaration_names (map resolved_view resolved) ≡ declared_names (map declaration_view ds) → g ≡ inlining_of (map resolved_view resolved) → IsDepth most_inlined g depth → depth ≡ Beyond found → path ≡ found →
+pub deep_path : (resolved : List Resolved) (ds : List Ident) (g : List (List ℕ)) (depth : Depth) (found path : List ℕ) → declaration_names (map resolved_view resolved) ≡ map (λ (i : Ident). i.text) ds → g ≡ inlining_of (map resolved_view resolved) → IsDepth most_inlined g depth → depth ≡ Beyond found → path ≡ found →
     IsPath (inlining_of (map resolved_view resolved)) path × (length path ≡ suc most_inlined) × (get_or path 0 0 < length ds)
 deep_path resolved ds g depth found path names targets is beyond same =
     let here = subst (IsDepth most_inlined g) beyond is in
@@ -79,8 +77,8 @@ deep_path resolved ds g depth found path names targets is beyond same =
     (is_path, long, omega (arith, within, same_length resolved ds names))
 
 -- the first name is that of the first declaration
-pub first_along : (resolved : List Resolved) (ds : List Declaration) (path : List ℕ) (d : ℕ) (x : Declaration) → declaration_names (map resolved_view resolved) ≡ declared_names (map declaration_view ds) → 0 < length path → get_or path 0 d < length ds →
-    IsFirst (get_or ds (get_or path 0 d) x).ident.text (names_along (map resolved_view resolved) path)
+pub first_along : (resolved : List Resolved) (ds : List Ident) (path : List ℕ) (d : ℕ) (x : Ident) → declaration_names (map resolved_view resolved) ≡ map (λ (i : Ident). i.text) ds → 0 < length path → get_or path 0 d < length ds →
+    IsFirst (get_or ds (get_or path 0 d) x).text (names_along (map resolved_view resolved) path)
 first_along resolved ds [] d x e l w = absurd (omega arith)
 first_along resolved ds (p ∷ path) d x e l w = same_name resolved ds p x e w
 

@@ -32,7 +32,7 @@ pub record AreClear (rows : List RenameRow) (ds : List DeclaredItem) : Type 0 wh
 
 -- the error refuses declarations that are clear: their instances are beyond a bound
 abbrev pub IsBeyond : Configuration → List DeclaredItem → DeriveError → Type 0
-IsBeyond c ds e = AreClear c.renames ds × ((ss : List DeclarationOf) × (resolved_declarations c.renames ds ≡ Some ss) × IsUnbounded c ds ss e)
+IsBeyond c ds e = AreClear c.renames ds × ((ss : List DeclarationOf) × (resolved_declarations c.renames ds ≡ Some ss) × IsUnbounded c (declared_idents ds) ss e)
 
 -- the error refuses a source that is read and nests no deeper than it may, whose declarations are at fault or beyond a bound
 abbrev pub IsFaultySource : Configuration → List ℕ → DeriveError → Type 0
@@ -50,6 +50,6 @@ pub record IsDerived (c : Configuration) (source : List ℕ) (components : List 
   pub clear : AreClear c.renames declarations
   pub resolved : List DeclarationOf
   pub resolves : resolved_declarations c.renames declarations ≡ Some resolved
-  pub bounded : AreBounded c declarations resolved
+  pub bounded : AreBounded c (declared_idents declarations) resolved
   pub apart : IsApart resolved
   pub components_are : AreComponents resolved components

@@ -3,8 +3,6 @@
 ghost use Rattle.std.specs.Prelude.{◌≡◌, ◌<◌, ◌≤◌, length, map, IfOk};
 ghost use Rattle.diag.specs.Refusal.{IsErrorFor, IsRefusal, Refuses};
 ghost use Rattle.texts.specs.Span.{no_span};
-ghost use Rattle.syntax.specs.Items.{declaration_view};
-ghost use Rattle.scopes.specs.Names.{declared_names};
 ghost use Rattle.shapes.specs.Declarations.{declaration_names};
 ghost use Rattle.derive_decl.specs.Views.{resolved_view};
 ghost use Rattle.inlining.specs.Inlining.{AreTargets, IsAtMost, IsOrder, IsPath, all_copies};
@@ -16,8 +14,8 @@ use derive_decl::Resolved;
 use diag::{DeriveError, Diagnostics, Kind};
 use inlining::{Depth, are_more_copies, inline_order};
 use std::alloc::{AllocError, Global};
-use syntax::Declaration;
 use texts::{List, Span};
+use written_types::Ident;
 
 /// An inline path has at most so many declarations.
 const MOST_INLINED: usize = 32;
@@ -33,20 +31,16 @@ fn too_many_instances(alloc: Global, span: Span, limit: usize) -> Result<DeriveE
 }
 
 /// Refuses more declarations than instances may be reachable: each is one.
-fn few_instances(
-    alloc: Global,
-    declarations: &[Declaration],
-    config: &Config,
-) -> Result<(), DeriveError>
-    ensures few { IfOk result (λ _. length declarations.now ≤ config.now.limit) }
+fn few_instances(alloc: Global, idents: &[Ident], config: &Config) -> Result<(), DeriveError>
+    ensures few { IfOk result (λ _. length idents.now ≤ config.now.limit) }
     ensures refused { Refuses result
-        (IsCrowded config.now (map declaration_view declarations.now)) }
+        (IsCrowded config.now idents.now) }
 {
     let limit = config.limit();
-    if declarations.len() <= limit {
+    if idents.len() <= limit {
         return Ok(());
     }
-    Err(too_many_instances(alloc, declarations[limit].ident.span, limit)?)
+    Err(too_many_instances(alloc, idents[limit].span, limit)?)
 }
 
 /// The refusal of an inline path that is too long, whose instances are the names along it.
@@ -72,24 +66,24 @@ fn inline_depth(
 /// An order in which each declaration stands behind its targets; refuses an inline path that is too long.
 fn shallow_order(
     alloc: Global,
-    declarations: &[Declaration],
+    idents: &[Ident],
     resolved: &[Resolved],
     targets: &[List<usize>],
 ) -> Result<List<usize>, DeriveError>
     requires names { declaration_names (map resolved_view resolved.now)
-        ≡ declared_names (map declaration_view declarations.now) }
+        ≡ map (λ i. i.text) idents.now }
     requires targets { targets.now ≡ inlining_of (map resolved_view resolved.now) }
     requires declared { AreTargets targets.now }
     ensures shallow { IfOk result (λ _. IsAtMost most_inlined targets.now) }
     ensures order { IfOk result (λ order. IsOrder targets.now order) }
     ensures refused { Refuses result
-        (IsDeep (map declaration_view declarations.now) (map resolved_view resolved.now)) }
+        (IsDeep idents.now (map resolved_view resolved.now)) }
 {
     match inline_order(alloc, targets, MOST_INLINED)? {
         Depth::Within(order) => Ok(order),
         Depth::Beyond(path) => {
             let path = path.as_slice();
-            let span = declarations[path[0]].ident.span;
+            let span = idents[path[0]].span;
             Err(inline_depth(alloc, span, resolved, path)?)
         }
     }
@@ -125,8 +119,8 @@ fn few_copies(
     Ok(())
 }
 
-/// The declarations in an order in which each stands behind those whose schemas stand in its own, where `targets` has these
-/// for each declaration.
+/// The declarations, which have these names, in an order in which each stands behind those whose schemas stand in its own,
+/// where `targets` has these for each declaration.
 ///
 /// A refusal is of kind `TooManyInstances`, at a declaration's name, where more instances are reachable than the
 /// configuration's limit; else `InlineDepth`, at the name of the first of 33 declarations of which the schema of each stands
@@ -134,25 +128,25 @@ fn few_copies(
 /// schemas stand in the components than the configuration's copies.
 pub fn inline_order_of(
     alloc: Global,
-    declarations: &[Declaration],
+    idents: &[Ident],
     resolved: &[Resolved],
     targets: &[List<usize>],
     config: &Config,
 ) -> Result<List<usize>, DeriveError>
     requires names { declaration_names (map resolved_view resolved.now)
-        ≡ declared_names (map declaration_view declarations.now) }
+        ≡ map (λ i. i.text) idents.now }
     requires targets { targets.now ≡ inlining_of (map resolved_view resolved.now) }
     requires declared { AreTargets targets.now }
     ensures bounded { IfOk result
-        (λ _. AreBounded config.now (map declaration_view declarations.now)
+        (λ _. AreBounded config.now idents.now
         (map resolved_view resolved.now)) }
     ensures order { IfOk result (IsOrder (inlining_of (map resolved_view resolved.now))) }
     ensures refused { Refuses result
-        (IsUnbounded config.now (map declaration_view declarations.now)
+        (IsUnbounded config.now idents.now
         (map resolved_view resolved.now)) }
 {
-    few_instances(alloc, declarations, config)?;
-    let order = shallow_order(alloc, declarations, resolved, targets)?;
+    few_instances(alloc, idents, config)?;
+    let order = shallow_order(alloc, idents, resolved, targets)?;
     few_copies(alloc, targets, order.as_slice(), config)?;
     Ok(order)
 }

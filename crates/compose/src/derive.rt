@@ -1,16 +1,17 @@
 //! From a source to its components.
 
-ghost use Rattle.std.specs.Prelude.{◌≡◌, ℕ, List as Items, map, IfOk};
+ghost use Rattle.std.specs.Prelude.{◌≡◌, ℕ, List as Items, length, map, IfOk};
 ghost use Rattle.std.specs.BTreeMap.{get_by_text};
 ghost use Rattle.diag.specs.Refusal.{Refuses};
 ghost use Rattle.schema_core.specs.Document.{document};
 ghost use Rattle.schema_core.specs.Entries.{names_of};
 ghost use Rattle.open_types.specs.Open.{open_view};
-ghost use Rattle.scopes.specs.Names.{place_among};
-ghost use Rattle.syntax.specs.Items.{declaration_view, declarations_view};
+ghost use Rattle.scopes.specs.Names.{declared_idents, place_among};
+ghost use Rattle.shapes.specs.Declarations.{declaration_names, AreWithin};
+ghost use Rattle.syntax.specs.Items.{declarations_view};
 ghost use Rattle.syntax.specs.Named.{AreNamed};
 ghost use Rattle.derive_decl.specs.Views.{resolved_view};
-ghost use Rattle.closing.specs.Described.{AreComponents, Describes};
+ghost use Rattle.closing.specs.Described.{AreComponents, Describes, IsApart};
 ghost use Rattle.compose.specs.Bounds.{AreBounded, IsUnbounded};
 ghost use Rattle.compose.specs.Faults.{AreAtFault, IsDerived, IsRefused};
 ghost use Rattle.compose.specs.Settled.{IsSettled};
@@ -25,10 +26,11 @@ use diag::DeriveError;
 use open_types::ClosedType;
 use schema_core::Components;
 use scopes::{Places, declared_places};
-use std::alloc::Global;
+use std::alloc::{AllocError, Global};
 use std::collections::BTreeMap;
-use syntax::{Declaration, Declarations, parse_declarations};
+use syntax::{Declarations, parse_declarations};
 use texts::List;
+use written_types::Ident;
 
 /// What is derived of a source.
 #[derive(Drop)]
@@ -74,28 +76,40 @@ fn settle(
     })
 }
 
-/// The components of the declarations, where nothing is beyond its bound.
+/// The names of the declarations, which are let go.
+fn idents_of(alloc: Global, declarations: Declarations) -> Result<List<Ident>, AllocError>
+    ensures { IfOk result (λ idents. idents ≡ declared_idents (declarations_view declarations)) }
+{
+    let mut idents = List::new(alloc);
+    for declaration in declarations.items.as_slice() {
+        idents.push(declaration.ident.copy(alloc)?)?;
+    }
+    Ok(idents)
+}
+
+/// The components of the declarations with these names, where nothing is beyond its bound.
 fn bounded_components(
     alloc: Global,
-    declarations: &[Declaration],
+    idents: &[Ident],
     resolved: &[Resolved],
     config: &Config,
 ) -> Result<Components, DeriveError>
-    requires { IsSettled config.now.renames (map declaration_view declarations.now)
+    requires names { declaration_names (map resolved_view resolved.now)
+        ≡ map (λ i. i.text) idents.now }
+    requires apart { IsApart (map resolved_view resolved.now) }
+    requires within { AreWithin (length (map resolved_view resolved.now))
         (map resolved_view resolved.now) }
     ensures bounded { IfOk result
-        (λ _. AreBounded config.now (map declaration_view declarations.now)
-        (map resolved_view resolved.now)) }
+        (λ _. AreBounded config.now idents.now (map resolved_view resolved.now)) }
     ensures components { IfOk result (AreComponents (map resolved_view resolved.now)) }
     ensures refused { Refuses result
-        (IsUnbounded config.now (map declaration_view declarations.now)
-        (map resolved_view resolved.now)) }
+        (IsUnbounded config.now idents.now (map resolved_view resolved.now)) }
 {
     closing::targets_are_declared();
     let terms = terms_of(alloc, resolved)?;
     let targets = inlining_of(alloc, terms.as_slice())?;
-    let order = inline_order_of(alloc, declarations, resolved, targets.as_slice(), config)?;
-    Ok(components_of(alloc, resolved, terms.as_slice(), order.as_slice())?)
+    let order = inline_order_of(alloc, idents, resolved, targets.as_slice(), config)?;
+    Ok(components_of(alloc, resolved, terms, order.as_slice())?)
 }
 
 /// The components of the source's declarations.
@@ -123,8 +137,9 @@ pub fn derive_components(
     let declarations = parse_declarations(alloc, source)?;
     syntax::read_fields_are_named();
     let settled = settle(alloc, &declarations, config)?;
-    let (items, resolved) = (declarations.items.as_slice(), settled.resolved.as_slice());
-    let components = bounded_components(alloc, items, resolved, config)?;
+    let idents = idents_of(alloc, declarations)?;
+    let resolved = settled.resolved.as_slice();
+    let components = bounded_components(alloc, idents.as_slice(), resolved, config)?;
     let types = types_of(alloc, &settled.places, components.names())?;
     closing::components_describe();
     Ok(Derived { components, types })

@@ -8,7 +8,7 @@ ghost use Rattle.scopes.specs.Names.{texts};
 ghost use Rattle.shapes.specs.Terms.{texts_facts, texts_schema, requiring, tag_schema, tag_alone, null_term, with_property, beside_tag, tagged_leaf, adjacent_term};
 
 use crate::named_struct::object_of;
-use component::{Term, TermLeaf, bounds_of, noted};
+use component::{Term, TermLeaf, bounds_of, noted_null};
 use leaves::Leaf;
 use schema_core::{AllOfSchema, Json, Notes, Object, SchemaTypeInner, Tree, TypeWord};
 use serde_json::Value;
@@ -187,11 +187,7 @@ pub(crate) fn tagged_leaf(
 pub(crate) fn null_term(alloc: Global, remarks: &Remarks) -> Result<Term, AllocError>
     ensures { IfOk result (λ t. term_view t ≡ null_term remarks.now) }
 {
-    let mut notes = noted(alloc, remarks.deprecated, &remarks.description)?;
-    notes.default = match Json::new(Value::Null) {
-        Ok(null) => Some(null),
-        Err(_) => None,
-    };
+    let notes = noted_null(alloc, remarks.deprecated, &remarks.description)?;
     let object = Object::new(alloc, TypeWord::One(SchemaTypeInner::Null), notes);
     Ok(Tree::Object(Box::new(alloc, object)?))
 }

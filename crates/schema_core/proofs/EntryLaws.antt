@@ -16,7 +16,7 @@ abbrev pub compare : List ℕ → List ℕ → Ordering
 compare = slice_cmp nat_cmp
 
 -- the other way round
-reversed : (n k : List ℕ) (o : Ordering) → compare n k ≡ o → compare k n ≡ ordering_reverse o
+pub reversed : (n k : List ℕ) (o : Ordering) → compare n k ≡ o → compare k n ≡ ordering_reverse o
 reversed n k o e = nat_list_cmp_total.antisymm k n ∙ ap ordering_reverse e
 
 differs : (n k : List ℕ) (o : Ordering) → compare n k ≡ o → is_eq (ordering_reverse o) ≡ false → bytes_eq k n ≡ false

@@ -8,7 +8,7 @@ use Rattle.texts.specs.Names.{is_in, IsDistinct}
 use Rattle.acceptance.specs.Acceptance.{kinds_of, texts_of, if_texts, keyword_holds, names_of, named, count_of, prefix_count, others_pass, names_pass, in_order, each_accepts, accepts_with, readings_of}
 use Rattle.acceptance.specs.Keyword.{keyword_of, other}
 use Rattle.acceptance.specs.Acceptance.{some_accepts as some_json_accepts}
-use Rattle.schema_core.specs.declared.notes.Notes.{Notes}
+use Rattle.schema_core.specs.declared.notes.Annotations.{Annotations as Notes}
 use Rattle.schema_core.specs.declared.tree.TypeWord.{TypeWord}
 use Rattle.schema_core.specs.declared.tree.TypeWord.TheVariants.{Any, One, Nullable}
 use Rattle.schema_core.specs.declared.tree.RefLeaf.{RefLeaf}

@@ -6,3 +6,4 @@ pub mod Puts
 pub mod Refers
 pub mod Values
 pub mod WholeLaws
+mod Written

@@ -2,7 +2,7 @@
 use Rattle.std.specs.Prelude.{ℕ, zero, suc, ℤ, Bool, false, List, [], ◌∷◌, map, Option, Some, None, option_map}
 use Rattle.acceptance.specs.Json.{Json}
 use Rattle.schema_core.specs.declared.bounds.Bounds.{Bounds}
-use Rattle.schema_core.specs.declared.notes.Notes.{Notes}
+use Rattle.schema_core.specs.declared.notes.Annotations.{Annotations as Notes}
 use Rattle.schema_core.specs.declared.tree.TypeWord.{TypeWord}
 use Rattle.schema_core.specs.declared.tree.RefLeaf.{RefLeaf}
 use Rattle.schema_core.specs.declared.tree.Tree.{Tree, fold-Tree}

@@ -1,18 +1,19 @@
 //! Components by name, and their document.
 
-ghost use Rattle.std.specs.Prelude.{◌≡◌, ◌<◌, ◌≤◌, ℕ, List as Items, [], length, take, drop, get_or, insert, map as map_list, option_map, None, Some, MatchResult, IfOk, OnOk, OnErr, IsTrue, ◌↔◌, if◌then◌else◌, string_bytes, true, false};
+ghost use Rattle.std.specs.Prelude.{◌≡◌, ◌<◌, ◌≤◌, ℕ, List as Items, [], length, take, drop, get_or, insert, ◌++◌, map as map_list, option_map, None, Some, MatchResult, IfOk, OnOk, OnErr, IsTrue, ◌↔◌, if◌then◌else◌, string_bytes, true, false};
 ghost use Rattle.std.specs.declared.cmp.Ordering.TheVariants.{Less, Greater};
 ghost use Rattle.std.specs.Cmp.Lexicographic.{slice_cmp};
 ghost use Rattle.std.specs.Ordering.{nat_cmp};
 ghost use Rattle.serde_json.specs.View.{view, members_view};
-ghost use Rattle.acceptance.specs.Json.{put_all, no_members};
+ghost use Rattle.serde_json.specs.Written.{comma_if, compact_text};
+ghost use Rattle.acceptance.specs.Json.{Json, put_all, no_members};
 ghost use Rattle.acceptance.specs.Data.{data_of, members_data};
-ghost use Rattle.schema_core.specs.Document.{document, entry_form, text_of};
+ghost use Rattle.schema_core.specs.Document.{document, entry_form, entry_text, entries_text, text_of};
 ghost use Rattle.schema_core.specs.Entries.{entries_of, names_of, find, with_entry, IsInOrder};
 ghost use Rattle.schema_core.specs.Schema.{schema_view};
 
 use crate::form::schema_value;
-use crate::members::{object_of, put};
+use crate::members::{object_of, put, text_value};
 use crate::tree::Schema;
 use serde_json::{Map, Value};
 use std::alloc::{AllocError, Global};
@@ -155,10 +156,73 @@ impl Components {
     pub fn to_text(&self, alloc: Global) -> Result<Text, AllocError>
         ensures { IfOk result (λ text. text ≡ text_of (document self.now)) }
     {
-        let mut text = self.to_value(alloc)?.to_string(alloc)?;
-        text.push_str("\n")?;
+        let mut text = String::from_str(alloc, "{\"components\":{\"schemas\":{")?;
+        push_entries(
+            alloc,
+            &mut text,
+            self.names.as_slice(),
+            self.schemas.as_slice(),
+        )?;
+        text.push_str("}}}\n")?;
         Ok(Text::from(text))
     }
+}
+
+/// Adds a comma, where something stands before.
+fn push_comma(text: &mut String, later: bool) -> Result<(), AllocError>
+    ensures { OnOk result (string_bytes text.new ≡ string_bytes text.old ++ comma_if later) }
+{
+    if later {
+        text.push_str(",")?;
+    }
+    Ok(())
+}
+
+/// Adds the value's compact text.
+fn push_value(alloc: Global, text: &mut String, value: &Value) -> Result<(), AllocError>
+    ensures { OnOk result ((j : Json) → view value.now ≡ data_of j
+        → string_bytes text.new ≡ string_bytes text.old ++ compact_text (data_of j)) }
+{
+    let written = value.to_string(alloc)?;
+    text.push_str(written.as_str())?;
+    Ok(())
+}
+
+/// Adds the name and the form of the schema, as a member of an object.
+fn push_entry(
+    alloc: Global,
+    text: &mut String,
+    name: &str,
+    schema: &Schema,
+) -> Result<(), AllocError>
+    ensures { OnOk result (string_bytes text.new
+        ≡ string_bytes text.old ++ entry_text (name.now, schema_view schema.now)) }
+{
+    let key = text_value(alloc, name)?;
+    push_value(alloc, text, &key)?;
+    text.push_str(":")?;
+    let value = schema_value(alloc, schema)?;
+    push_value(alloc, text, &value)?;
+    Ok(())
+}
+
+/// Adds the schemas under the names at their places, with commas between. One form at a time is made.
+fn push_entries(
+    alloc: Global,
+    text: &mut String,
+    names: &[Text],
+    schemas: &[Schema],
+) -> Result<(), AllocError>
+    requires { length names.now ≡ length schemas.now }
+    ensures { OnOk result (string_bytes text.new
+        ≡ string_bytes text.old
+        ++ entries_text false (entries_of names.now (map_list schema_view schemas.now))) }
+{
+    for i in 0..names.len() {
+        push_comma(text, i > 0)?;
+        push_entry(alloc, text, names[i].as_str(), &schemas[i])?;
+    }
+    Ok(())
 }
 
 /// The forms of the schemas under the names at their places.

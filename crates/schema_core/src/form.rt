@@ -14,7 +14,7 @@ use crate::json_value::Json;
 use crate::members::{
     put, put_bound, put_given, put_json, put_text, put_true, put_truth, text_value,
 };
-use crate::notes::Notes;
+use crate::notes::{Annotations, Notes};
 use crate::tree::{
     Additional, AllOfSchema, Array, ArrayItems, Object, OneOfSchema, RefLeaf, Schema,
     SchemaTypeInner, Tree, TypeWord,
@@ -109,11 +109,11 @@ fn array_word(nullable: bool) -> TypeWord
     }
 }
 
-/// Puts each note that is given at its name.
-fn put_notes(
+/// Puts each annotation that is given at its name.
+fn put_annotations(
     alloc: Global,
     members: &mut Map<String, Value>,
-    notes: &Notes,
+    notes: &Annotations,
 ) -> Result<(), AllocError>
     ensures { OnOk result
         (Puts (note_fields notes.now) (members_view members.old.entries)
@@ -136,6 +136,22 @@ fn put_notes(
         &notes.content_media_type,
     )?;
     Ok(())
+}
+
+/// Puts each note that is given at its name.
+fn put_notes(
+    alloc: Global,
+    members: &mut Map<String, Value>,
+    notes: &Notes,
+) -> Result<(), AllocError>
+    ensures { OnOk result
+        (Puts (note_fields notes.now) (members_view members.old.entries)
+        (members_view members.new.entries)) }
+{
+    match notes.said() {
+        Some(said) => put_annotations(alloc, members, said),
+        None => Ok(()),
+    }
 }
 
 /// Puts each bound that is given at its name.

@@ -19,7 +19,7 @@ pub use components::Components;
 pub use copies::{copy_json, copy_jsons, copy_text, copy_texts};
 pub use json_value::Json;
 pub use law::{documents_hold, forms_accept, forms_refer, type_words_are_equal};
-pub use notes::Notes;
+pub use notes::{Annotations, Notes};
 pub use tree::{
     Additional, AllOfSchema, Array, ArrayItems, Object, OneOfSchema, RefLeaf, Schema,
     SchemaTypeInner, Tree, TypeWord,

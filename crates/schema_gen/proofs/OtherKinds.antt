@@ -22,7 +22,7 @@ use Rattle.serde_rules.specs.Items.{literal_for}
 use Rattle.serde_rules.specs.Container.{TagFault, with_item, rename_rule, rule_named, unknown_rule, IsTagRefusal, IsContainerRefusal}
 use Rattle.written_types.specs.declared.written.Ident.{Ident}
 use Rattle.syntax.specs.Items.{FieldItem, FieldItems, named, unnamed, unit, VariantItem, BodyItem, struct_body, enum_body, DeclaredItem}
-use Rattle.scopes.specs.Names.{IsGivenTwice}
+use Rattle.scopes.specs.Names.{declared_idents, IsGivenTwice}
 use Rattle.resolving.specs.Resolved.{Fault, unknown_type, wrong_arity, too_large, IsRefusedFor}
 use Rattle.texts.specs.Lists.{Somewhere}
 use Rattle.configuration.specs.Configuration.{Configuration}
@@ -71,7 +71,7 @@ module _ (ds : List DiangosticsInner) (first : HasFirst ds (λ d. d.kind ≡ Bad
   nowhere P (x ∷ xs) none (inl here) = none x here
   nowhere P (x ∷ xs) none (inr there) = nowhere P xs none there
 
-  unbounded : (c : Configuration) (items : List DeclaredItem) (resolved : List DeclarationOf) → IsUnbounded c items resolved (Refused ds) → ⊥
+  unbounded : (c : Configuration) (items : List Ident) (resolved : List DeclarationOf) → IsUnbounded c items resolved (Refused ds) → ⊥
   unbounded c items resolved (inl (many, somewhere)) = nowhere _ items (λ d is. other TooManyInstances _ _ (λ e. cc) is) somewhere
   unbounded c items resolved (inr (inl (few, (path, is_path, long, somewhere)))) = nowhere _ items (λ d is. other_of InlineDepth _ _ _ (λ e. cc) is.1) somewhere
   unbounded c items resolved (inr (inr (few, shallow, (many, is)))) = other TooManyCopies _ _ (λ e. cc) is
@@ -140,7 +140,7 @@ module _ (ds : List DiangosticsInner) (first : HasFirst ds (λ d. d.kind ≡ Bad
   declared : (c : Configuration) (items : List DeclaredItem) → AreAtFault c.renames items (Refused ds) ⊎ IsBeyond c items (Refused ds) → ⊥
   declared c items (inl (inl (span, attributed, is))) = other Syntax _ _ (λ e. cc) is
   declared c items (inl (inr (derivable, fault))) = faulty c.renames items fault
-  declared c items (inr (clear, (resolved, resolves, beyond))) = unbounded c items resolved beyond
+  declared c items (inr (clear, (resolved, resolves, beyond))) = unbounded c (declared_idents items) resolved beyond
 
   refused : (c : Configuration) (source : List ℕ) → IsRefused c source (Refused ds) → ⊥
   refused c source (inl (span, is, deep)) = other TooDeep _ _ (λ e. cc) is

@@ -7,7 +7,7 @@ use Rattle.acceptance.specs.Json.{Json, Members, null, boolean, number, text, li
 use Rattle.texts.specs.Names.{is_in}
 use Rattle.schema_core.specs.declared.tree.SchemaTypeInner.TheVariants as word
 use Rattle.schema_core.specs.declared.tree.TypeWord.TheVariants.{Any, One}
-use Rattle.schema_core.specs.declared.notes.Notes.{Notes}
+use Rattle.schema_core.specs.declared.notes.Annotations.{Annotations as Notes}
 use Rattle.schema_core.specs.Notes.{no_notes, noted, described}
 use Rattle.schema_core.specs.Schema.{SchemaOf, schema_count, property_names}
 use Rattle.schema_core.specs.Schema as tree

@@ -4,7 +4,7 @@ use Rattle.std.specs.List.{list_all, list_any}
 use Rattle.acceptance.specs.Acceptance.{others_pass}
 use Rattle.acceptance.specs.Json.{Json, Members, null, boolean, number, text, list, map, entries, names, look, same, there, if_there}
 use Rattle.texts.specs.Names.{is_in}
-use Rattle.schema_core.specs.declared.notes.Notes.{Notes}
+use Rattle.schema_core.specs.declared.notes.Annotations.{Annotations as Notes}
 use Rattle.schema_core.specs.Notes.{notes_of, no_notes, where_true}
 use Rattle.schema_core.specs.Schema.{SchemaOf, schemas_of, PropertiesOf, property_names}
 use Rattle.schema_core.specs.Schema as tree

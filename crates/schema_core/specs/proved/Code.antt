@@ -4,10 +4,10 @@ use Rattle.std.specs.Coded.{Coded, code_by, coded×, coded_ℕ, coded_ℤ, coded
 use base.Stored.{Gv, gnil, gnum, gcons}
 use Rattle.acceptance.specs.Json.{Json}
 use Rattle.schema_core.specs.contracts.bounds.Bounds as bounds
-use Rattle.schema_core.specs.contracts.notes.Notes as notes
+use Rattle.schema_core.specs.contracts.notes.Annotations as notes
 use Rattle.schema_core.specs.contracts.tree.TypeWord as word
 use Rattle.schema_core.specs.declared.bounds.Bounds.{Bounds}
-use Rattle.schema_core.specs.declared.notes.Notes.{Notes}
+use Rattle.schema_core.specs.declared.notes.Annotations.{Annotations as Notes}
 use Rattle.schema_core.specs.declared.tree.TypeWord.{TypeWord}
 use Rattle.schema_core.specs.proved.JsonCode.{head, tail, apart, coded_json}
 use Rattle.schema_core.specs.Schema.{Facts, ArrayFacts, SchemaOf, leaf, object, array, one_of, all_of, SchemasOf, no_schemas, schema, PropertiesOf, no_properties, property, PartOf, no_part, truth, part}

@@ -1,29 +1,30 @@
-use Rattle.std.proofs.Common.{◌≡◌, ◌<◌, ◌∙◌, length, map, get_or, ap, sym, subst, arith, rules}
+use Rattle.std.proofs.Common.{◌≡◌, ◌<◌, ◌∙◌, length, map, take, get_or, ap, sym, subst, arith, rules}
 use Rattle.std.proofs.lemmas.List.{take_all, length-set}
 use Rattle.schema_core.specs.Schema.{schema_view}
 use Rattle.inlining.specs.Inlining.{targets_of}
 use Rattle.closing.specs.Targets.{inlining_of}
 use Rattle.closing.specs.Closed.{declared_schema}
-use Rattle.closing.proofs.Made.{AreMade, made_more, as_many_terms, next_schema, declaration_place, declaration_place_back}
+use Rattle.closing.proofs.Made.{AreMade, made_more, as_many_terms, all_wait, waiting_more, fresh_at, next_schema, declaration_place, declaration_place_back}
 use Rattle.closing.proofs.closed.closed.Goals as goal
 
-pub bounds-terms-place : goal.bounds-terms-place
-bounds-terms-place g c =
+pub index-requires : goal.index-requires
+index-requires g c =
     let view = g.D.Declared.declaration in
     let declared = c.args.declared.now in
     let place = get_or c.args.order.now c.loop-place.place-index 0 in
     let at : c.loop-place.place-index < length c.args.order.now = omega arith in
     let stands = c.orders_stand.ensures (inlining_of (map view declared)) c.args.order.now c.requires.order c.loop-place.place-index at in
-    subst (λ n. place < n) (sym (as_many_terms view c.args.terms.now declared c.requires.terms)) (declaration_place view declared place stands.0)
+    let within : place < length c.loop-place.terms.items = subst (λ n. place < n) (sym c.loop-place.invariant.terms) (declaration_place view declared place stands.0) in
+    search rules
 
-pub offset_bounds-terms-place : goal.offset_bounds-terms-place
-offset_bounds-terms-place g c =
+pub index_mut-requires-in-loop-place : goal.index_mut-requires-in-loop-place
+index_mut-requires-in-loop-place g c =
     let view = g.D.Declared.declaration in
     let declared = c.args.declared.now in
     let place = get_or c.args.order.now c.loop-place.place-index 0 in
     let at : c.loop-place.place-index < length c.args.order.now = omega arith in
     let stands = c.orders_stand.ensures (inlining_of (map view declared)) c.args.order.now c.requires.order c.loop-place.place-index at in
-    let within : place < length c.args.terms.now = subst (λ n. place < n) (sym (as_many_terms view c.args.terms.now declared c.requires.terms)) (declaration_place view declared place stands.0) in
+    let within : place < length c.loop-place.terms.items = subst (λ n. place < n) (sym c.loop-place.invariant.terms) (declaration_place view declared place stands.0) in
     search rules
 
 pub index_mut-requires : goal.index_mut-requires
@@ -48,9 +49,12 @@ loop-place-preserved g c =
     let within : place < length declared = declaration_place view declared place stands.0 in
     let targets : AreMade ss made (targets_of (inlining_of ss) place) = λ t among. c.loop-place.invariant.made t (stands.1 t among) in
     let schema : schema_view c.in_ok-schema.schema ≡ declared_schema ss place =
-    next_schema view declared c.args.terms.now made c.as_slice.result.now place c.index-terms-place.result (schema_view c.in_ok-schema.schema) c.requires.terms c.requires.within c.requires.depth within targets
-    c.as_slice.ensures.value c.index-terms-place.is c.in_ok-schema.ensures in
+    next_schema view declared c.loop-place.terms.items made c.as_slice.result.now (take c.loop-place.place-index order) place c.index.result.now (schema_view c.in_ok-schema.schema) c.loop-place.invariant.waiting
+    (fresh_at order c.loop-place.place-index c.requires.order.once at) (subst (λ n. place < n) (sym c.loop-place.invariant.terms) within) c.requires.within c.requires.depth within targets
+    c.as_slice.ensures.value c.index.ensures c.in_ok-schema.ensures in
     record {
+      terms = length-set c.loop-place.terms.items place _ ∙ c.loop-place.invariant.terms;
+      waiting = waiting_more ss c.loop-place.terms.items order c.loop-place.place-index _ at c.loop-place.invariant.waiting;
       many = length-set made place c.in_ok-schema.schema ∙ c.loop-place.invariant.many;
       made = made_more ss made order c.loop-place.place-index c.in_ok-schema.schema at (subst (λ n. place < n) (sym c.loop-place.invariant.many) within) schema c.loop-place.invariant.made;
     }
@@ -62,3 +66,13 @@ returns-clause-schemas g c = λ d l.
     let ss = map view declared in
     let all : AreMade ss c.loop-place.made.items c.args.order.now = subst (AreMade ss c.loop-place.made.items) (take_all c.loop-place.place-index c.args.order.now (omega arith)) c.loop-place.invariant.made in
     all d (c.requires.order.all d (declaration_place_back view declared d l))
+
+pub loop-place-init : goal.loop-place-init
+loop-place-init g c =
+    let view = g.D.Declared.declaration in
+    record {
+      terms = as_many_terms view c.args.terms.items c.args.declared.now c.requires.terms;
+      waiting = all_wait view c.args.terms.items c.args.declared.now c.requires.terms;
+      many = c.in_ok-made.ensures;
+      made = λ d none. absurd none;
+    }

@@ -5,4 +5,4 @@ use Rattle.closing.proofs.inlined.terms_of.Given as goal
 
 -- the terms of the declarations so far
 abbrev pub invariant-loop-of : goal.invariant-loop-of
-invariant-loop-of g l = map term_view l.terms ≡ map (λ s. term (g.D.Declared.declaration s)) (take l.of-index l.declared)
+invariant-loop-of g l = map term_view l.terms.items ≡ map (λ s. term (g.D.Declared.declaration s)) (take l.of-index l.declared)

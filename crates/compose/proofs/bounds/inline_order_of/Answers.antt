@@ -1,7 +1,5 @@
-use Rattle.std.proofs.Common.{◌<◌, ◌≤◌, inl, inr, subst, sym}
-use Rattle.std.proofs.lemmas.List.{length-map}
+use Rattle.std.proofs.Common.{◌<◌, ◌≤◌, inl, inr, subst}
 use Rattle.std.proofs.lemmas.Result.{err_from_is_err_and}
-use Rattle.syntax.specs.Items.{declaration_view}
 use Rattle.inlining.specs.Inlining.{IsAtMost, all_copies}
 use Rattle.closing.specs.Targets.{most_inlined}
 use Rattle.compose.proofs.bounds.inline_order_of.Goals as goal
@@ -9,8 +7,7 @@ use Rattle.compose.proofs.bounds.inline_order_of.Goals as goal
 pub returns-in_err-few_copies-clause-refused : goal.returns-in_err-few_copies-clause-refused
 returns-in_err-few_copies-clause-refused c =
     let p = err_from_is_err_and c.from_residual-in_err-few_copies.result c.from_residual-in_err-few_copies.ensures.1 in
-    let ds = c.args.declarations.now in
-    let few = subst (λ n. n ≤ c.args.config.now.limit) (sym (length-map ds declaration_view)) c.in_ok-few_instances.ensures.few in
+    let few = c.in_ok-few_instances.ensures.few in
     rw (p.1, p.2)
     (elim c.in_err-few_copies.ensures.refused [
       | inl memory ↦ inl memory
@@ -19,9 +16,8 @@ returns-in_err-few_copies-clause-refused c =
 
 pub returns-clause-bounded : goal.returns-clause-bounded
 returns-clause-bounded c =
-    let ds = c.args.declarations.now in
     record {
-      few = subst (λ n. n ≤ c.args.config.now.limit) (sym (length-map ds declaration_view)) c.in_ok-few_instances.ensures.few;
+      few = c.in_ok-few_instances.ensures.few;
       shallow = subst (IsAtMost most_inlined) c.requires.targets c.in_ok-order.ensures.shallow;
       copied = subst (λ g. all_copies g most_inlined ≤ c.args.config.now.copies) c.requires.targets c.in_ok-few_copies.ensures.few;
     }

@@ -3,6 +3,7 @@ use Rattle.std.proofs.lemmas.Option.{none-some}
 use Rattle.diag.specs.declared.error.DeriveError.{DeriveError}
 use Rattle.syntax.specs.Items.{DeclaredItem}
 use Rattle.syntax.specs.Source.{Reads}
+use Rattle.scopes.specs.Names.{declared_idents}
 use Rattle.configuration.specs.Configuration.{Configuration}
 use Rattle.shapes.specs.Declarations.{DeclarationOf}
 use Rattle.derive_decl.specs.Whole.{resolved_declarations}
@@ -23,12 +24,12 @@ clear_text one bounded c source e sound (inr (inl unreadable)) = unreadable.3 so
 clear_text one bounded c source e sound (inr (inr (ds, read, shallow, fault))) = by (subst IsFine (one source sound.declarations ds sound.read read) (sound.clear, sound.bounded)) fault
   where
     IsFine : List DeclaredItem → Type 0
-    IsFine ds = AreClear c.renames ds × ((resolved : List DeclarationOf) → resolved_declarations c.renames ds ≡ Some resolved → AreBounded c ds resolved)
+    IsFine ds = AreClear c.renames ds × ((resolved : List DeclarationOf) → resolved_declarations c.renames ds ≡ Some resolved → AreBounded c (declared_idents ds) resolved)
 
     by : IsFine ds → AreAtFault c.renames ds e ⊎ IsBeyond c ds e → ⊥
     by fine (inl (inl (span, at, is))) = none-some span (sym fine.0.derivable ∙ at)
     by fine (inl (inr (derivable, fault))) = fine.0.faultless e fault
-    by fine (inr (clear, (resolved, resolves, unbounded))) = bounded c ds resolved e (fine.1 resolved resolves) unbounded
+    by fine (inr (clear, (resolved, resolves, unbounded))) = bounded c (declared_idents ds) resolved e (fine.1 resolved resolves) unbounded
 
 long_and_short : (n : ℕ) → most_bytes < n → n ≤ most_bytes → ⊥
 long_and_short n long short = omega arith

@@ -1,5 +1,5 @@
 use Rattle.schema_core.specs.Form.{values_form}
-use Rattle.schema_core.proofs.form.put_notes.Goals as goal
+use Rattle.schema_core.proofs.form.put_annotations.Goals as goal
 
 pub returns : goal.returns
 returns c =

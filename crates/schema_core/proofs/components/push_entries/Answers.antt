@@ -1,0 +1,29 @@
+use Rattle.std.proofs.Common.{◌≡◌, ◌<◌, ◌++◌, ap, ap₂, sym, ◌∙◌, string_bytes, map, length, take, get_or, arith, false}
+use Rattle.std.proofs.lemmas.List.{length-map, get_or-map}
+use Rattle.schema_core.specs.Document.{entry_text, entries_text}
+use Rattle.schema_core.specs.Entries.{entries_of}
+use Rattle.schema_core.specs.Schema.{schema_view}
+use Rattle.schema_core.proofs.EntryLaws.{entry_at, length-entries, take_all_past}
+use Rattle.schema_core.proofs.Written.{one_more}
+use Rattle.schema_core.proofs.components.push_entries.Goals as goal
+
+pub loop-i-preserved : goal.loop-i-preserved
+loop-i-preserved c =
+    let ns = c.args.names.now in
+    let ss = map schema_view c.args.schemas.now in
+    let n = c.index-names-i.result in
+    let s = c.index-schemas-i.result in
+    let even : length ns ≡ length ss = c.requires ∙ sym (length-map c.args.schemas.now schema_view) in
+    let within : c.loop-i.i < length (entries_of ns ss) = omega (arith, length-entries ns ss even) in
+    let schema_here : schema_view s ≡ get_or ss c.loop-i.i (schema_view s) = ap schema_view c.index-schemas-i.is ∙ sym (get_or-map schema_view c.args.schemas.now c.loop-i.i s (schema_view s) (omega arith)) in
+    let here : (n, schema_view s) ≡ get_or (entries_of ns ss) c.loop-i.i (n, schema_view s) = ap₂ (λ m t. (m, t)) c.index-names-i.is schema_here ∙ sym (entry_at ns ss c.loop-i.i n (schema_view s) even (omega arith)) in
+    one_more (entries_of ns ss) c.loop-i.i (n, schema_view s) within here (string_bytes c.args.text.now) (string_bytes c.loop-i.text) (string_bytes c.push_comma.new.text) (string_bytes c.push_entry.new.text)
+    c.loop-i.invariant c.in_ok-push_comma.ensures (c.in_ok-push_entry.ensures ∙ ap (λ m. string_bytes c.push_comma.new.text ++ entry_text (m, schema_view s)) c.as_str.ensures)
+
+pub returns : goal.returns
+returns c =
+    let ns = c.args.names.now in
+    let ss = map schema_view c.args.schemas.now in
+    let even : length ns ≡ length ss = c.requires ∙ sym (length-map c.args.schemas.now schema_view) in
+    let whole : take c.loop-i.i (entries_of ns ss) ≡ entries_of ns ss = take_all_past (entries_of ns ss) c.loop-i.i (omega (arith, length-entries ns ss even)) in
+    c.loop-i.invariant ∙ ap (λ es. string_bytes c.args.text.now ++ entries_text false es) whole

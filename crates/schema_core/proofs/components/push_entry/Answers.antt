@@ -1,0 +1,18 @@
+use Rattle.std.proofs.Common.{◌++◌, ◌∷◌, [], ap, ◌∙◌, string_bytes}
+use Rattle.std.proofs.lemmas.List.{append_assoc}
+use Rattle.serde_json.specs.Data.{string}
+use Rattle.serde_json.specs.Written.{compact_text}
+use Rattle.acceptance.specs.Json.{text}
+use Rattle.acceptance.specs.Data.{data_of}
+use Rattle.schema_core.specs.Form.{form}
+use Rattle.schema_core.specs.Schema.{schema_view}
+use Rattle.schema_core.proofs.components.push_entry.Goals as goal
+
+pub returns : goal.returns
+returns c =
+    let before = string_bytes c.args.text.now in
+    let key = compact_text (string c.args.name.now) in
+    let value = compact_text (data_of (form (schema_view c.args.schema.now))) in
+    c.in_ok-push_value-2.ensures (form (schema_view c.args.schema.now)) c.in_ok-value.ensures
+    ∙ ap (λ xs. xs ++ value) (c.in_ok-push_str.ensures.bytes ∙ ap (λ xs. xs ++ 58 ∷ []) (c.in_ok-push_value.ensures (text c.args.name.now) c.in_ok-key.ensures))
+    ∙ append_assoc (before ++ key) (58 ∷ []) value ∙ append_assoc before key (58 ∷ value)
