@@ -6,4 +6,6 @@ pub mod Puts
 pub mod Refers
 pub mod Values
 pub mod WholeLaws
+mod Placed
+mod Writes
 mod Written

@@ -1,16 +1,20 @@
 -- Lists of values, built one by one.
-use Rattle.std.proofs.Common.{ℕ, suc, ◌+◌, ◌<◌, Some, rules, arith, List, [], ◌∷◌, ◌++◌, ◌≡◌, refl, ap, sym, ◌∙◌, length, take, get_or, map as map_list}
+use Rattle.std.proofs.Common.{ℕ, Bool, false, suc, ◌+◌, ◌<◌, Some, rules, arith, List, [], ◌∷◌, ◌++◌, ◌≡◌, refl, ap, sym, ◌∙◌, length, take, get_or, map as map_list}
 use Rattle.std.proofs.lemmas.List.{take_more, map-append}
 use Rattle.serde_json.specs.Data.{Data, string, item as data_item, put as put_data, Members as DataMembers}
 use Rattle.serde_json.specs.View.{items_of}
 use Rattle.acceptance.specs.Json.{Json, list, Members, put, put_all, no_members, map_of}
 use Rattle.acceptance.specs.Data.{data_of, items_data, members_data}
 use Rattle.schema_core.specs.declared.tree.Tree.{Tree, the_lemmas}
+use Rattle.schema_core.specs.declared.tree.Additional.TheVariants.{Truth, Of}
+use Rattle.schema_core.specs.declared.tree.ArrayItems.TheVariants.{False, Each}
+use Rattle.schema_core.specs.declared.tree.OneOfSchema.{OneOfSchema}
+use Rattle.schema_core.specs.declared.tree.AllOfSchema.{AllOfSchema}
 use Rattle.schema_core.specs.declared.tree.Array.{Array}
 use Rattle.schema_core.specs.declared.tree.Object.{Object}
 use Rattle.schema_core.specs.declared.tree.RefLeaf.{RefLeaf}
-use Rattle.schema_core.specs.Schema.{object_facts, ArrayFacts, object, array, object_view, array_view, additional_view, array_items_view, optional_view, schema_view, tree_views, named_views}
-use Rattle.schema_core.specs.Form.{form, schema_forms, property_forms, texts_form, value_items, schemas_form, entries_form}
+use Rattle.schema_core.specs.Schema.{object_facts, ArrayFacts, object, array, one_of, all_of, truth, part, one_of_view, all_of_view, object_view, array_view, additional_view, array_items_view, optional_view, schema_view, tree_views, named_views}
+use Rattle.schema_core.specs.Form.{form, schema_forms, property_forms, required_form, texts_form, value_items, schemas_form, entries_form}
 use Rattle.schema_core.proofs.Puts.{data_put}
 
 pub texts_items : (ts : List (List ℕ)) → items_of (map_list string ts) ≡ items_data (texts_form ts)
@@ -77,3 +81,27 @@ some_entries (x ∷ es) n e h = refl
 pub length-properties : (ps : List (List ℕ × Tree RefLeaf)) → length ps ≡ length (property_forms (named_views (λ l. l) ps))
 length-properties [] = refl
 length-properties (p ∷ ps) = ap suc (length-properties ps)
+
+-- a list of names, of which there is one
+pub some_texts : (ks : List (List ℕ)) → 0 < length ks → required_form ks ≡ Some (list (texts_form ks))
+some_texts [] h = absurd (omega arith)
+some_texts (k ∷ ks) h = refl
+
+-- the parts of a schema by their variants
+pub additional-truth : (b : Bool) → additional_view (λ (l : RefLeaf). l) (Truth b) ≡ truth b
+additional-truth b = search (rules, the_lemmas)
+
+pub additional-of : (s : Tree RefLeaf) → additional_view (λ l. l) (Of s) ≡ part (schema_view s)
+additional-of s = search (rules, the_lemmas)
+
+pub items-false : array_items_view (λ (l : RefLeaf). l) False ≡ truth false
+items-false = search (rules, the_lemmas)
+
+pub items-each : (s : Tree RefLeaf) → array_items_view (λ l. l) (Each s) ≡ part (schema_view s)
+items-each s = search (rules, the_lemmas)
+
+pub one_of_view-is : (o : OneOfSchema RefLeaf) → one_of_view (λ l. l) o ≡ one_of o.notes (tree_views (λ l. l) o.items)
+one_of_view-is o = search (rules, the_lemmas)
+
+pub all_of_view-is : (a : AllOfSchema RefLeaf) → all_of_view (λ l. l) a ≡ all_of a.notes (tree_views (λ l. l) a.items)
+all_of_view-is a = search (rules, the_lemmas)

@@ -9,4 +9,5 @@ pub mod Notes
 pub mod Objects
 pub mod Schema
 pub mod Whole
+pub mod Writes
 pub mod proved

@@ -5,15 +5,16 @@ ghost use Rattle.std.specs.declared.cmp.Ordering.TheVariants.{Less, Greater};
 ghost use Rattle.std.specs.Cmp.Lexicographic.{slice_cmp};
 ghost use Rattle.std.specs.Ordering.{nat_cmp};
 ghost use Rattle.serde_json.specs.View.{view, members_view};
-ghost use Rattle.serde_json.specs.Written.{comma_if, compact_text};
-ghost use Rattle.acceptance.specs.Json.{Json, put_all, no_members};
+ghost use Rattle.acceptance.specs.Json.{put_all, no_members};
 ghost use Rattle.acceptance.specs.Data.{data_of, members_data};
 ghost use Rattle.schema_core.specs.Document.{document, entry_form, entry_text, entries_text, text_of};
 ghost use Rattle.schema_core.specs.Entries.{entries_of, names_of, find, with_entry, IsInOrder};
 ghost use Rattle.schema_core.specs.Schema.{schema_view};
 
 use crate::form::schema_value;
-use crate::members::{object_of, put, text_value};
+use crate::members::{object_of, put};
+use crate::pushes::{push_comma, push_words};
+use crate::schema_text::push_schema;
 use crate::tree::Schema;
 use serde_json::{Map, Value};
 use std::alloc::{AllocError, Global};
@@ -168,26 +169,6 @@ impl Components {
     }
 }
 
-/// Adds a comma, where something stands before.
-fn push_comma(text: &mut String, later: bool) -> Result<(), AllocError>
-    ensures { OnOk result (string_bytes text.new ≡ string_bytes text.old ++ comma_if later) }
-{
-    if later {
-        text.push_str(",")?;
-    }
-    Ok(())
-}
-
-/// Adds the value's compact text.
-fn push_value(alloc: Global, text: &mut String, value: &Value) -> Result<(), AllocError>
-    ensures { OnOk result ((j : Json) → view value.now ≡ data_of j
-        → string_bytes text.new ≡ string_bytes text.old ++ compact_text (data_of j)) }
-{
-    let written = value.to_string(alloc)?;
-    text.push_str(written.as_str())?;
-    Ok(())
-}
-
 /// Adds the name and the form of the schema, as a member of an object.
 fn push_entry(
     alloc: Global,
@@ -198,15 +179,13 @@ fn push_entry(
     ensures { OnOk result (string_bytes text.new
         ≡ string_bytes text.old ++ entry_text (name.now, schema_view schema.now)) }
 {
-    let key = text_value(alloc, name)?;
-    push_value(alloc, text, &key)?;
+    push_words(alloc, text, name)?;
     text.push_str(":")?;
-    let value = schema_value(alloc, schema)?;
-    push_value(alloc, text, &value)?;
+    push_schema(alloc, text, schema)?;
     Ok(())
 }
 
-/// Adds the schemas under the names at their places, with commas between. One form at a time is made.
+/// Adds the schemas under the names at their places, with commas between.
 fn push_entries(
     alloc: Global,
     text: &mut String,

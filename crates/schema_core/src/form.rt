@@ -23,7 +23,7 @@ use serde_json::{Map, Value};
 use std::alloc::{AllocError, Global};
 use texts::{List, Text};
 
-fn word_of(word: SchemaTypeInner) -> &'static str
+pub(crate) fn word_of(word: SchemaTypeInner) -> &'static str
     ensures { result.now ≡ word_text word }
 {
     match word {
@@ -99,7 +99,7 @@ fn jsons_value(alloc: Global, jsons: &Option<List<Json>>) -> Result<Option<Value
 }
 
 /// The word of an array.
-fn array_word(nullable: bool) -> TypeWord
+pub(crate) fn array_word(nullable: bool) -> TypeWord
     ensures { result ≡ array_word nullable }
 {
     if nullable {

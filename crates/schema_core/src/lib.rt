@@ -9,8 +9,11 @@ mod form;
 mod json_value;
 mod law;
 mod members;
+mod note_text;
 mod notes;
 mod objects;
+mod pushes;
+mod schema_text;
 mod tree;
 
 pub use bound::Bound;

@@ -2,7 +2,6 @@ use Rattle.std.proofs.Common.{◌++◌, ◌∷◌, [], ap, ◌∙◌, string_byt
 use Rattle.std.proofs.lemmas.List.{append_assoc}
 use Rattle.serde_json.specs.Data.{string}
 use Rattle.serde_json.specs.Written.{compact_text}
-use Rattle.acceptance.specs.Json.{text}
 use Rattle.acceptance.specs.Data.{data_of}
 use Rattle.schema_core.specs.Form.{form}
 use Rattle.schema_core.specs.Schema.{schema_view}
@@ -13,6 +12,6 @@ returns c =
     let before = string_bytes c.args.text.now in
     let key = compact_text (string c.args.name.now) in
     let value = compact_text (data_of (form (schema_view c.args.schema.now))) in
-    c.in_ok-push_value-2.ensures (form (schema_view c.args.schema.now)) c.in_ok-value.ensures
-    ∙ ap (λ xs. xs ++ value) (c.in_ok-push_str.ensures.bytes ∙ ap (λ xs. xs ++ 58 ∷ []) (c.in_ok-push_value.ensures (text c.args.name.now) c.in_ok-key.ensures))
+    c.in_ok-push_schema.ensures
+    ∙ ap (λ xs. xs ++ value) (c.in_ok-push_str.ensures.bytes ∙ ap (λ xs. xs ++ 58 ∷ []) c.in_ok-push_words.ensures)
     ∙ append_assoc (before ++ key) (58 ∷ []) value ∙ append_assoc before key (58 ∷ value)

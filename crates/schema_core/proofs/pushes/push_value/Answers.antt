@@ -1,7 +1,7 @@
 use Rattle.std.proofs.Common.{◌++◌, ap, ◌∙◌, string_bytes}
 use Rattle.serde_json.specs.Written.{has_float, compact_text}
 use Rattle.schema_core.proofs.Puts.{has_no_float}
-use Rattle.schema_core.proofs.components.push_value.Goals as goal
+use Rattle.schema_core.proofs.pushes.push_value.Goals as goal
 
 pub returns : goal.returns
 returns c = λ j is.

@@ -1,0 +1,14 @@
+use Rattle.std.proofs.Common.{◌∷◌, [], refl, subst, codes, option_map, string_bytes}
+use Rattle.std.proofs.lemmas.Result.{IfOk-weaker}
+use Rattle.json.specs.Print.{escape_byte}
+use Rattle.acceptance.specs.Json.{boolean}
+use Rattle.schema_core.specs.Writes.{Writes}
+use Rattle.schema_core.proofs.note_text.push_write_only.Goals as goal
+
+pub returns-in-Some : goal.returns-in-Some
+unfolding escape_byte
+returns-in-Some c =
+    let before = string_bytes c.args.text.now in
+    IfOk-weaker c.push_truth.result _ _
+    (λ went w. subst (λ n. Writes ((codes "writeOnly", option_map boolean n.write_only) ∷ []) c.args.later before went (string_bytes c.push_truth.new.text)) c.in-Some.ensures (w (codes "writeOnly") refl))
+    c.push_truth.ensures

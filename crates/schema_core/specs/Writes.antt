@@ -1,0 +1,56 @@
+-- The text of an object's members, one written after another.
+use Rattle.std.specs.Prelude.{◌≡◌, ℕ, suc, Bool, true, List, [], ◌∷◌, ◌++◌, Option, Some, None, option_map, codes}
+use Rattle.std.specs.BTreeMap.{insert_entry}
+use Rattle.std.specs.Cmp.Lexicographic.{slice_cmp}
+use Rattle.std.specs.Ordering.{nat_cmp}
+use Rattle.json.specs.Print.{quoted}
+use Rattle.serde_json.specs.Written.{compact_text, comma_if}
+use Rattle.acceptance.specs.Json.{Json, boolean, text}
+use Rattle.acceptance.specs.Data.{data_of}
+use Rattle.schema_core.specs.declared.notes.Annotations.{Annotations as Notes}
+use Rattle.schema_core.specs.Form.{values_form}
+
+-- a key in quotes, and its colon
+abbrev pub key_text : List ℕ → List ℕ
+key_text k = quoted k ++ 58 ∷ []
+
+-- a member that may be left out, behind a comma where something stands before
+abbrev pub field_text : Bool → List ℕ → Option Json → List ℕ
+field_text later k None = []
+field_text later k (Some x) = comma_if later ++ (key_text k ++ compact_text (data_of x))
+
+-- whether something stands before what follows
+abbrev pub goes_on : Bool → Option Json → Bool
+goes_on later None = later
+goes_on later (Some x) = true
+
+abbrev pub fields_text : Bool → List (List ℕ × Option Json) → List ℕ
+fields_text later [] = []
+fields_text later (f ∷ fs) = field_text later f.0 f.1 ++ fields_text (goes_on later f.1) fs
+
+abbrev pub is_later : Bool → List (List ℕ × Option Json) → Bool
+is_later later [] = later
+is_later later (f ∷ fs) = is_later (goes_on later f.1) fs
+
+-- the members that are given are written behind the old text
+pub record Writes (fs : List (List ℕ × Option Json)) (later : Bool) (old : List ℕ) (went : Bool) (new : List ℕ) : Type 0 where
+  pub text_is : new ≡ old ++ fields_text later fs
+  pub later_is : went ≡ is_later later fs
+
+-- the same of one member, whose key is given as it is written
+abbrev pub WritesAt : List ℕ → Option Json → Bool → List ℕ → Bool → List ℕ → Type 0
+WritesAt key given later old went new = (k : List ℕ) → key ≡ key_text k → Writes ((k, given) ∷ []) later old went new
+
+-- notes whose keys stand together in byte order
+abbrev pub first_notes : Notes → List (List ℕ × Option Json)
+first_notes notes =
+    (codes "contentEncoding", option_map text notes.content_encoding) ∷ (codes "contentMediaType", option_map text notes.content_media_type) ∷ (codes "default", notes.default)
+    ∷ (codes "deprecated", option_map boolean notes.deprecated) ∷ (codes "description", option_map text notes.description) ∷ []
+
+abbrev pub example_notes : Notes → List (List ℕ × Option Json)
+example_notes notes = (codes "example", notes.example) ∷ (codes "examples", values_form notes.examples) ∷ []
+
+-- the names with their places, counted from i, are put among others in byte order; of equal names the last place counts
+abbrev pub places_from : ℕ → List (List ℕ) → List (List ℕ × ℕ) → List (List ℕ × ℕ)
+places_from i [] es = es
+places_from i (k ∷ ks) es = places_from (suc i) ks (insert_entry (slice_cmp nat_cmp) es k i)

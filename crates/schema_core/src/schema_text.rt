@@ -1,0 +1,370 @@
+//! Schemas as text.
+
+ghost use Rattle.std.specs.Prelude.{◌≡◌, ◌∷◌, [], ◌++◌, codes, true, false, IfOk, OnOk, option_map, string_bytes, map as map_list};
+ghost use Rattle.serde_json.specs.Written.{compact_text, items_text};
+ghost use Rattle.acceptance.specs.Json.{map_of};
+ghost use Rattle.acceptance.specs.Data.{data_of, items_data};
+ghost use Rattle.schema_core.specs.Form.{entries_form, form, part_form, property_forms, required_form, schema_forms, schemas_form, type_form};
+ghost use Rattle.schema_core.specs.Schema.{leaf, schema_view, object_view, array_view, one_of_view, all_of_view, additional_view, array_items_view, optional_view, tree_views, named_views};
+ghost use Rattle.schema_core.specs.Writes.{Writes, places_from};
+
+use crate::form::{array_word, word_of};
+use crate::note_text::{
+    push_examples, push_first_notes, push_read_only, push_title, push_write_only,
+};
+use crate::pushes::{
+    push_bound, push_comma, push_jsons, push_key, push_text, push_texts, push_true, push_truth,
+    push_words,
+};
+use crate::tree::{
+    Additional, AllOfSchema, Array, ArrayItems, Object, OneOfSchema, RefLeaf, Schema, Tree,
+    TypeWord,
+};
+use std::alloc::{AllocError, Global};
+use std::collections::BTreeMap;
+use texts::Text;
+
+/// Adds the member `required`, where a name is required.
+pub(crate) fn push_required(
+    alloc: Global,
+    text: &mut String,
+    later: bool,
+    required: &[Text],
+) -> Result<bool, AllocError>
+    ensures { IfOk result (λ went. Writes ((codes "required", required_form required.now) ∷ []) later
+        (string_bytes text.old) went (string_bytes text.new)) }
+{
+    if required.is_empty() {
+        return Ok(later);
+    }
+    push_key(text, later, "\"required\":[")?;
+    push_texts(alloc, text, required)?;
+    text.push_str("]")?;
+    Ok(true)
+}
+
+/// Adds the member `type`, where it says something.
+pub(crate) fn push_type(text: &mut String, later: bool, ty: TypeWord) -> Result<bool, AllocError>
+    ensures { IfOk result (λ went. Writes ((codes "type", type_form ty) ∷ []) later
+        (string_bytes text.old) went (string_bytes text.new)) }
+{
+    match ty {
+        TypeWord::Any => Ok(later),
+        TypeWord::One(word) => {
+            push_key(text, later, "\"type\":\"")?;
+            text.push_str(word_of(word))?;
+            text.push_str("\"")?;
+            Ok(true)
+        }
+        TypeWord::Nullable(word) => {
+            push_key(text, later, "\"type\":[\"")?;
+            text.push_str(word_of(word))?;
+            text.push_str("\",\"null\"]")?;
+            Ok(true)
+        }
+    }
+}
+
+/// The places of the properties by their names, in byte order; of equal names the last counts.
+fn property_order<'a>(
+    alloc: Global,
+    properties: &'a [(Text, Schema)],
+) -> Result<BTreeMap<&'a str, usize>, AllocError>
+    ensures { IfOk result
+        (λ order. map_list (λ e. (e.0.now, e.1)) order.entries
+        ≡ places_from 0 (map_list (λ p. p.0) properties.now) []) }
+{
+    let mut order = BTreeMap::new(alloc);
+    for i in 0..properties.len() {
+        order.insert(properties[i].0.as_str(), i)?;
+    }
+    Ok(order)
+}
+
+/// Adds the text of a reference.
+fn push_reference(alloc: Global, text: &mut String, reference: &RefLeaf) -> Result<(), AllocError>
+    ensures { OnOk result
+        (string_bytes text.new
+        ≡ string_bytes text.old ++ compact_text (data_of (form (leaf reference.now)))) }
+{
+    let mut target = String::from_str(alloc, "#/components/schemas/")?;
+    target.push_str(reference.name.as_str())?;
+    text.push_str("{\"$ref\":")?;
+    push_words(alloc, text, target.as_str())?;
+    let later = push_first_notes(alloc, text, true, &reference.notes)?;
+    let later = push_examples(alloc, text, later, &reference.notes)?;
+    let later = push_read_only(text, later, &reference.notes)?;
+    let later = push_title(alloc, text, later, &reference.notes)?;
+    push_write_only(text, later, &reference.notes)?;
+    text.push_str("}")?;
+    Ok(())
+}
+
+/// Adds the text of a schema.
+#[cycle(text)]
+pub(crate) fn push_schema(
+    alloc: Global,
+    text: &mut String,
+    schema: &Schema,
+) -> Result<(), AllocError>
+    ensures { OnOk result
+        (string_bytes text.new
+        ≡ string_bytes text.old ++ compact_text (data_of (form (schema_view schema.now)))) }
+{
+    match schema {
+        Tree::Object(object) => push_object(alloc, text, object),
+        Tree::Array(array) => push_array(alloc, text, array),
+        Tree::OneOf(one_of) => push_one_of(alloc, text, one_of),
+        Tree::AllOf(all_of) => push_all_of(alloc, text, all_of),
+        Tree::Leaf(reference) => push_reference(alloc, text, reference),
+    }
+}
+
+#[cycle(text)]
+fn push_object(alloc: Global, text: &mut String, object: &Object<RefLeaf>) -> Result<(), AllocError>
+    ensures { OnOk result
+        (string_bytes text.new
+        ≡ string_bytes text.old
+        ++ compact_text (data_of (form (object_view (λ l. l) object.now)))) }
+{
+    let notes = &object.notes;
+    text.push_str("{")?;
+    let later = push_additional(alloc, text, &object.additional)?;
+    let later = push_first_notes(alloc, text, later, notes)?;
+    let later = push_jsons(alloc, text, later, "\"enum\":", &object.enum_values)?;
+    let later = push_examples(alloc, text, later, notes)?;
+    let later = push_text(alloc, text, later, "\"format\":", &object.format)?;
+    let later = push_bound(alloc, text, later, "\"minimum\":", &object.bounds.minimum)?;
+    let later = push_properties(alloc, text, later, object.properties.as_slice())?;
+    let later = push_names(alloc, text, later, &object.property_names)?;
+    let later = push_read_only(text, later, notes)?;
+    let later = push_required(alloc, text, later, object.required.as_slice())?;
+    let later = push_title(alloc, text, later, notes)?;
+    let later = push_type(text, later, object.ty)?;
+    push_write_only(text, later, notes)?;
+    text.push_str("}")?;
+    Ok(())
+}
+
+/// Adds the member `additionalProperties` as the first, where it says something.
+#[cycle(text)]
+fn push_additional(
+    alloc: Global,
+    text: &mut String,
+    additional: &Additional<RefLeaf>,
+) -> Result<bool, AllocError>
+    ensures { IfOk result (λ went. Writes
+        ((codes "additionalProperties", part_form (additional_view (λ l. l) additional.now)) ∷ [])
+        false (string_bytes text.old) went (string_bytes text.new)) }
+{
+    match additional {
+        Additional::Absent => Ok(false),
+        Additional::Truth(truth) => {
+            push_truth(text, false, "\"additionalProperties\":", Some(*truth))
+        }
+        Additional::Of(schema) => {
+            text.push_str("\"additionalProperties\":")?;
+            push_schema(alloc, text, schema)?;
+            Ok(true)
+        }
+    }
+}
+
+/// Adds the member `propertyNames`, where it says something.
+#[cycle(text)]
+fn push_names(
+    alloc: Global,
+    text: &mut String,
+    later: bool,
+    names: &Option<Schema>,
+) -> Result<bool, AllocError>
+    ensures { IfOk result (λ went. Writes
+        ((codes "propertyNames", part_form (optional_view (λ l. l) names.now)) ∷ [])
+        later (string_bytes text.old) went (string_bytes text.new)) }
+{
+    match names {
+        None => Ok(later),
+        Some(schema) => {
+            push_key(text, later, "\"propertyNames\":")?;
+            push_schema(alloc, text, schema)?;
+            Ok(true)
+        }
+    }
+}
+
+/// Adds the member `properties`, where there is a property.
+#[cycle(text)]
+fn push_properties(
+    alloc: Global,
+    text: &mut String,
+    later: bool,
+    properties: &[(Text, Schema)],
+) -> Result<bool, AllocError>
+    ensures { IfOk result (λ went. Writes
+        ((codes "properties", entries_form (property_forms (named_views (λ l. l) properties.now)))
+        ∷ []) later (string_bytes text.old) went (string_bytes text.new)) }
+{
+    if properties.is_empty() {
+        return Ok(later);
+    }
+    push_key(text, later, "\"properties\":")?;
+    push_members(alloc, text, properties)?;
+    Ok(true)
+}
+
+/// Adds the object of the properties.
+#[cycle(text)]
+fn push_members(
+    alloc: Global,
+    text: &mut String,
+    properties: &[(Text, Schema)],
+) -> Result<(), AllocError>
+    ensures { OnOk result
+        (string_bytes text.new
+        ≡ string_bytes text.old
+        ++ compact_text (data_of (map_of (property_forms (named_views (λ l. l) properties.now))))) }
+{
+    let order = property_order(alloc, properties)?;
+    text.push_str("{")?;
+    let mut later = false;
+    for (name, place) in order.iter() {
+        push_comma(text, later)?;
+        push_words(alloc, text, name)?;
+        text.push_str(":")?;
+        push_schema(alloc, text, &properties[*place].1)?;
+        later = true;
+    }
+    text.push_str("}")?;
+    Ok(())
+}
+
+/// Adds the member `items`.
+#[cycle(text)]
+fn push_items(
+    alloc: Global,
+    text: &mut String,
+    later: bool,
+    items: &ArrayItems<RefLeaf>,
+) -> Result<(), AllocError>
+    ensures { OnOk result (Writes
+        ((codes "items", part_form (array_items_view (λ l. l) items.now)) ∷ [])
+        later (string_bytes text.old) true (string_bytes text.new)) }
+{
+    push_key(text, later, "\"items\":")?;
+    match items {
+        ArrayItems::False => text.push_str("false")?,
+        ArrayItems::Each(schema) => push_schema(alloc, text, schema)?,
+    }
+    Ok(())
+}
+
+/// Adds the member `prefixItems`, where there is a schema.
+#[cycle(text)]
+fn push_front(
+    alloc: Global,
+    text: &mut String,
+    later: bool,
+    schemas: &[Schema],
+) -> Result<bool, AllocError>
+    ensures { IfOk result (λ went. Writes
+        ((codes "prefixItems", schemas_form (schema_forms (tree_views (λ l. l) schemas.now))) ∷ [])
+        later (string_bytes text.old) went (string_bytes text.new)) }
+{
+    if schemas.is_empty() {
+        return Ok(later);
+    }
+    push_key(text, later, "\"prefixItems\":[")?;
+    push_schemas(alloc, text, schemas)?;
+    text.push_str("]")?;
+    Ok(true)
+}
+
+#[cycle(text)]
+fn push_array(alloc: Global, text: &mut String, array: &Array<RefLeaf>) -> Result<(), AllocError>
+    ensures { OnOk result
+        (string_bytes text.new
+        ≡ string_bytes text.old
+        ++ compact_text (data_of (form (array_view (λ l. l) array.now)))) }
+{
+    let notes = &array.notes;
+    text.push_str("{")?;
+    let later = push_first_notes(alloc, text, false, notes)?;
+    let later = push_examples(alloc, text, later, notes)?;
+    push_items(alloc, text, later, &array.items)?;
+    let later = push_bound(alloc, text, true, "\"maxItems\":", &array.max_items)?;
+    let later = push_bound(alloc, text, later, "\"minItems\":", &array.min_items)?;
+    let later = push_front(alloc, text, later, array.prefix_items.as_slice())?;
+    let later = push_read_only(text, later, notes)?;
+    let later = push_title(alloc, text, later, notes)?;
+    let later = push_type(text, later, array_word(array.nullable))?;
+    let later = push_true(text, later, "\"uniqueItems\":", array.unique)?;
+    push_write_only(text, later, notes)?;
+    text.push_str("}")?;
+    Ok(())
+}
+
+#[cycle(text)]
+fn push_one_of(
+    alloc: Global,
+    text: &mut String,
+    one_of: &OneOfSchema<RefLeaf>,
+) -> Result<(), AllocError>
+    ensures { OnOk result
+        (string_bytes text.new
+        ≡ string_bytes text.old
+        ++ compact_text (data_of (form (one_of_view (λ l. l) one_of.now)))) }
+{
+    let notes = &one_of.notes;
+    text.push_str("{")?;
+    let later = push_first_notes(alloc, text, false, notes)?;
+    let later = push_examples(alloc, text, later, notes)?;
+    push_key(text, later, "\"oneOf\":[")?;
+    push_schemas(alloc, text, one_of.items.as_slice())?;
+    text.push_str("]")?;
+    let later = push_read_only(text, true, notes)?;
+    let later = push_title(alloc, text, later, notes)?;
+    push_write_only(text, later, notes)?;
+    text.push_str("}")?;
+    Ok(())
+}
+
+#[cycle(text)]
+fn push_all_of(
+    alloc: Global,
+    text: &mut String,
+    all_of: &AllOfSchema<RefLeaf>,
+) -> Result<(), AllocError>
+    ensures { OnOk result
+        (string_bytes text.new
+        ≡ string_bytes text.old
+        ++ compact_text (data_of (form (all_of_view (λ l. l) all_of.now)))) }
+{
+    let notes = &all_of.notes;
+    text.push_str("{\"allOf\":[")?;
+    push_schemas(alloc, text, all_of.items.as_slice())?;
+    text.push_str("]")?;
+    let later = push_first_notes(alloc, text, true, notes)?;
+    let later = push_examples(alloc, text, later, notes)?;
+    let later = push_read_only(text, later, notes)?;
+    let later = push_title(alloc, text, later, notes)?;
+    push_write_only(text, later, notes)?;
+    text.push_str("}")?;
+    Ok(())
+}
+
+/// Adds the texts of the schemas with commas between.
+#[cycle(text)]
+fn push_schemas(alloc: Global, text: &mut String, schemas: &[Schema]) -> Result<(), AllocError>
+    ensures { OnOk result
+        (string_bytes text.new ++ 93 ∷ []
+        ≡ string_bytes text.old
+        ++ items_text false (items_data (schema_forms (tree_views (λ l. l) schemas.now)))) }
+{
+    let mut later = false;
+    for schema in schemas {
+        push_comma(text, later)?;
+        push_schema(alloc, text, schema)?;
+        later = true;
+    }
+    Ok(())
+}
