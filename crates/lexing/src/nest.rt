@@ -116,7 +116,7 @@ fn group_at<'p>(
             Ok((
                 TokenTree::Group(Group {
                     bracket,
-                    trees,
+                    trees: trees.shrunk(),
                     span,
                 }),
                 mid,

@@ -63,8 +63,20 @@ impl<T: Drop> List<T> {
         ensures ok { OnOk result (self.new ≡ self.old ++ item ∷ []) }
         ensures err { OnErr result (self.new ≡ self.old) }
     {
+        // Most lists of a source have one item: segments of paths, arguments of types, attributes.
+        if self.items.capacity() == 0 {
+            self.items.reserve_exact(1)?;
+        }
         self.items.push(item)?;
         Ok(())
+    }
+
+    /// The list, which gives back what it has room for beyond its items.
+    pub fn shrunk(mut self) -> List<T>
+        ensures { result ≡ self }
+    {
+        self.items.shrink_to_fit();
+        self
     }
 
     /// Adds the item before what stands at the place. A refused call changes nothing.

@@ -56,7 +56,7 @@ fn list_of<I: ReadItem>(alloc: Global, trees: &[TokenTree]) -> Result<List<I::It
         items.push(item)?;
         rest = after;
     }
-    Ok(items)
+    Ok(items.shrunk())
 }
 
 /// The items inside of the group, which are all that stands there. Where its trees ended too soon, reading stopped at its

@@ -47,7 +47,8 @@ pub group_at-returns-else-ne-clause-value : goal.group_at-returns-else-ne-clause
 group_at-returns-else-ne-clause-value t c =
     let read = c.in_ok-trees.ensures.value in
     let closes : c.in-Some.closing.kind ≡ Close c.args.bracket = search rules in
-    let some : c.args.left ≡ 0 → ⊥ = c.if-left-eq0.false in (
+    let some : c.args.left ≡ 0 → ⊥ = c.if-left-eq0.false in
+    rw c.shrunk.ensures (
       group_read c.args.source.now _ c.args.opening c.in-Some.closing c.args.pieces.now c.in_ok-trees.rest.now c.in-Some.mid.now read.0 c.in-Some.ensures closes refl refl,
       group_depth _ c.args.left some read.2,
     )

@@ -11,7 +11,7 @@ pub items-init : goal.items-init
 items-init g c = rw c.new-items.ensures (many_start itself (turn_at g.I.ReadItem.reader) (words_view c.args.trees.now))
 
 pub returns : goal.returns
-returns g c = many_done itself (turn_at g.I.ReadItem.reader) _ _ _ c.items.invariant (ends c.items.rest.now (sym c.is_empty.ensures ∙ c.items-test.false))
+returns g c = rw c.shrunk.ensures (many_done itself (turn_at g.I.ReadItem.reader) _ _ _ c.items.invariant (ends c.items.rest.now (sym c.is_empty.ensures ∙ c.items-test.false)))
 
 pub returns-in_err-item : goal.returns-in_err-item
 returns-in_err-item g c =
