@@ -1,4 +1,4 @@
-pub mod Lengths
+pub mod Reserved
 pub mod Same
 pub mod Signs
 pub mod Read

@@ -1,8 +1,11 @@
--- A sign and a keyword are the same as themselves.
-use Rattle.std.proofs.Common.{◌≡◌, true, refl}
+-- A sign is the same as itself, and no identifier is one.
+use Rattle.std.proofs.Common.{◌≡◌, Bool, true, false, cond, Option, Some, None, refl}
+use Rattle.written_types.specs.declared.written.Ident.{Ident}
+use Rattle.words.specs.declared.vocabulary.Keyword.{Keyword}
 use Rattle.words.specs.declared.vocabulary.Sign.{Sign}
 use Rattle.words.specs.declared.vocabulary.Sign.TheVariants as signs
-use Rattle.words.specs.Reading.{same_sign}
+use Rattle.words.specs.Words.{name, underscore, keyword_or_name, identifier_word}
+use Rattle.words.specs.Reading.{same_sign, as_sign}
 
 pub sign_is_itself : (k : Sign) → same_sign k k ≡ true
 sign_is_itself signs.Colons = refl
@@ -28,3 +31,12 @@ sign_is_itself signs.Caret = refl
 sign_is_itself signs.Bar = refl
 sign_is_itself signs.Tilde = refl
 sign_is_itself signs.Other = refl
+
+no_sign : (k : Sign) (x : Ident) (a b : Bool) (o : Option Keyword) → as_sign k (cond a (underscore x) (cond b (name x) (keyword_or_name o x))) ≡ None
+no_sign k x true b o = refl
+no_sign k x false true o = refl
+no_sign k x false false None = refl
+no_sign k x false false (Some j) = refl
+
+pub identifier_is_no_sign : (k : Sign) (x : Ident) → as_sign k (identifier_word x) ≡ None
+identifier_is_no_sign k x = no_sign k x _ _ _

@@ -1,5 +1,6 @@
 -- What a token tree is to the grammar (The Rust Reference, "Keywords", "Identifiers", "Punctuation").
-use Rattle.std.specs.Prelude.{ℕ, suc, min, max, List, [], ◌∷◌, ◌++◌, Bool, cond, codes, take, drop, Option, Some, None}
+use Rattle.std.specs.Prelude.{ℕ, suc, min, max, List, [], ◌∷◌, ◌++◌, Bool, false, cond, codes, take, drop, Option, Some, None}
+use Rattle.std.specs.Char.{is_ascii_lowercase}
 use Rattle.std.specs.List.{list_any}
 use Rattle.std.specs.Str.{bytes_eq}
 use Rattle.std.proofs.Math.Nat.{le-max_left, le-min, le-suc}
@@ -56,6 +57,11 @@ reserved_words = reserved_of_2 ++ (reserved_of_3 ++ (reserved_of_4 ++ (reserved_
 -- the text is one of the words
 abbrev pub is_among : List ℕ → List (List ℕ) → Bool
 is_among text words = list_any (λ word. bytes_eq text word) words
+
+-- the text begins with a small letter of ASCII
+abbrev pub begins_small : List ℕ → Bool
+begins_small [] = false
+begins_small (b ∷ bs) = is_ascii_lowercase b
 
 unfoldable pub is_reserved : List ℕ → Bool
 is_reserved text = is_among text reserved_words

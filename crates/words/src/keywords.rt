@@ -1,7 +1,7 @@
 //! The texts that are keywords.
 
-ghost use Rattle.std.specs.Prelude.{◌≡◌};
-ghost use Rattle.words.specs.Words.{is_among, is_reserved, keyword_of, sign_of, reserved_of_2, reserved_of_3, reserved_of_4, reserved_of_5, reserved_of_6, reserved_of_7, reserved_of_8};
+ghost use Rattle.std.specs.Prelude.{◌≡◌, ◌∷◌, [], true, Some};
+ghost use Rattle.words.specs.Words.{begins_small, is_among, is_reserved, keyword_of, sign_of, reserved_of_2, reserved_of_3, reserved_of_4, reserved_of_5, reserved_of_6, reserved_of_7, reserved_of_8};
 
 use crate::vocabulary::{Keyword, Sign};
 
@@ -72,8 +72,8 @@ fn is_reserved_of_8(text: &str) -> bool
     matches!(text, "abstract" | "continue" | "override")
 }
 
-/// Whether the text is a keyword.
-fn is_reserved(text: &str) -> bool
+/// Whether the text is one of the keywords of its length.
+fn is_reserved_of_length(text: &str) -> bool
     ensures { result ≡ is_reserved text.now }
 {
     match text.len() {
@@ -88,29 +88,92 @@ fn is_reserved(text: &str) -> bool
     }
 }
 
-/// The keyword that the text is, if it is one.
+/// Whether the text begins with a small letter, as each keyword but `Self` does.
+fn begins_small(text: &str) -> bool
+    ensures { result ≡ begins_small text.now }
+{
+    match text.as_bytes() {
+        [first, ..] => first.is_ascii_lowercase(),
+        [] => false,
+    }
+}
+
+/// Whether the text is a keyword.
+fn is_reserved(text: &str) -> bool
+    ensures { result ≡ is_reserved text.now }
+{
+    if begins_small(text) {
+        is_reserved_of_length(text)
+    } else {
+        text == "Self"
+    }
+}
+
+/// The keyword that the text is, which is one.
 #[tactic(auto, unfolding(crate::specs::Words::keyword_of))]
+fn reserved_keyword(text: &str) -> Keyword
+    requires { is_reserved text.now ≡ true }
+    ensures { keyword_of text.now ≡ Some result }
+{
+    match text {
+        "pub" => Keyword::Pub,
+        "struct" => Keyword::Struct,
+        "enum" => Keyword::Enum,
+        "use" => Keyword::Use,
+        "mut" => Keyword::Mut,
+        "dyn" => Keyword::Dyn,
+        "in" => Keyword::In,
+        "crate" => Keyword::Crate,
+        "self" => Keyword::SelfValue,
+        "super" => Keyword::Super,
+        "Self" => Keyword::SelfType,
+        "true" => Keyword::True,
+        "false" => Keyword::False,
+        "const" => Keyword::Const,
+        "where" => Keyword::Where,
+        _ => Keyword::Other,
+    }
+}
+
+/// The keyword that the text is, if it is one.
 pub(crate) fn keyword_of(text: &str) -> Option<Keyword>
     ensures { result ≡ keyword_of text.now }
 {
-    match text {
-        "pub" => Some(Keyword::Pub),
-        "struct" => Some(Keyword::Struct),
-        "enum" => Some(Keyword::Enum),
-        "use" => Some(Keyword::Use),
-        "mut" => Some(Keyword::Mut),
-        "dyn" => Some(Keyword::Dyn),
-        "in" => Some(Keyword::In),
-        "crate" => Some(Keyword::Crate),
-        "self" => Some(Keyword::SelfValue),
-        "super" => Some(Keyword::Super),
-        "Self" => Some(Keyword::SelfType),
-        "true" => Some(Keyword::True),
-        "false" => Some(Keyword::False),
-        "const" => Some(Keyword::Const),
-        "where" => Some(Keyword::Where),
-        text if is_reserved(text) => Some(Keyword::Other),
-        _ => None,
+    if is_reserved(text) {
+        Some(reserved_keyword(text))
+    } else {
+        None
+    }
+}
+
+/// The sign of one character that the byte is.
+#[tactic(auto, unfolding(crate::specs::Words::sign_of))]
+fn sign_of_byte(byte: u8) -> Sign
+    ensures { result ≡ sign_of (byte ∷ []) }
+{
+    match byte {
+        b'!' => Sign::Exclamation,
+        b'#' => Sign::Hash,
+        b'$' => Sign::Dollar,
+        b'%' => Sign::Percent,
+        b'&' => Sign::Ampersand,
+        b'*' => Sign::Star,
+        b'+' => Sign::Plus,
+        b',' => Sign::Comma,
+        b'-' => Sign::Minus,
+        b'.' => Sign::Dot,
+        b'/' => Sign::Slash,
+        b':' => Sign::Colon,
+        b';' => Sign::Semicolon,
+        b'<' => Sign::Less,
+        b'=' => Sign::Equals,
+        b'>' => Sign::Greater,
+        b'?' => Sign::Question,
+        b'@' => Sign::At,
+        b'^' => Sign::Caret,
+        b'|' => Sign::Bar,
+        b'~' => Sign::Tilde,
+        _ => Sign::Other,
     }
 }
 
@@ -119,29 +182,14 @@ pub(crate) fn keyword_of(text: &str) -> Option<Keyword>
 pub(crate) fn sign_of(text: &str) -> Sign
     ensures { result ≡ sign_of text.now }
 {
-    match text {
-        "::" => Sign::Colons,
-        "!" => Sign::Exclamation,
-        "#" => Sign::Hash,
-        "$" => Sign::Dollar,
-        "%" => Sign::Percent,
-        "&" => Sign::Ampersand,
-        "*" => Sign::Star,
-        "+" => Sign::Plus,
-        "," => Sign::Comma,
-        "-" => Sign::Minus,
-        "." => Sign::Dot,
-        "/" => Sign::Slash,
-        ":" => Sign::Colon,
-        ";" => Sign::Semicolon,
-        "<" => Sign::Less,
-        "=" => Sign::Equals,
-        ">" => Sign::Greater,
-        "?" => Sign::Question,
-        "@" => Sign::At,
-        "^" => Sign::Caret,
-        "|" => Sign::Bar,
-        "~" => Sign::Tilde,
-        _ => Sign::Other,
+    match text.as_bytes() {
+        [byte] => sign_of_byte(*byte),
+        _ => {
+            if text == "::" {
+                Sign::Colons
+            } else {
+                Sign::Other
+            }
+        }
     }
 }

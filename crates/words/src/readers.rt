@@ -1,15 +1,16 @@
 //! Readers of single words.
 
 ghost use Rattle.std.specs.Prelude.{◌≡◌, ◌<◌, length, IfOk, IfSome, MatchOption, Ok, Err};
-ghost use Rattle.tokens.specs.Trees.{trees_view};
-ghost use Rattle.words.specs.Words.{words_view, ident_of, lifetime_of};
-ghost use Rattle.words.specs.Reading.{Gives, wrong, word_view, as_sign, name_at, path_word_at, keyword_at, sign_at, lifetime_at, literal_at, group_at};
+ghost use Rattle.tokens.specs.Trees.{tree_view, trees_view};
+ghost use Rattle.words.specs.Words.{word_of, words_view, ident_of, lifetime_of};
+ghost use Rattle.words.specs.Reading.{Gives, wrong, as_sign, name_at, path_word_at, keyword_at, sign_at, lifetime_at, literal_at, group_at};
 
+use crate::keywords::sign_of;
 use crate::stopping::{Stop, stop_at};
 use crate::tree_word::{Word, word_of};
 use crate::vocabulary::{Keyword, Sign};
 use texts::Span;
-use tokens::{Bracket, Group, Token, TokenTree};
+use tokens::{Bracket, Group, Token, TokenKind, TokenTree};
 
 /// A name, and what follows it. It refuses trees that do not begin with one.
 pub fn name_at(trees: &[TokenTree]) -> Result<(&Token, &[TokenTree]), Stop>
@@ -73,14 +74,17 @@ pub fn keyword_at(trees: &[TokenTree], keyword: Keyword) -> Result<(Span, &[Toke
     }
 }
 
-/// Where the word stands, if it is the sign.
-#[tactic(auto, using(crate::proofs::Same::sign_is_itself))]
-fn as_sign(word: Word<'_>, sign: Sign) -> Option<Span>
-    ensures { result ≡ as_sign sign (word_view word.entry) }
+/// Where the tree stands, if it is the sign.
+#[tactic(auto, using(crate::proofs::Same::sign_is_itself, crate::proofs::Same::identifier_is_no_sign))]
+fn as_sign(tree: &TokenTree, sign: Sign) -> Option<Span>
+    ensures { result ≡ as_sign sign (word_of (tree_view tree.now)) }
 {
-    match word {
-        Word::Sign(found, span) if sign == found => Some(span),
-        _ => None,
+    match tree {
+        TokenTree::Token(token) => match token.kind {
+            TokenKind::Punct if sign == sign_of(token.text.as_str()) => Some(token.span),
+            _ => None,
+        },
+        TokenTree::Group(_) => None,
     }
 }
 
@@ -91,7 +95,7 @@ pub fn optional_sign(trees: &[TokenTree], sign: Sign) -> Option<(Span, &[TokenTr
     ensures shorter { IfSome result (λ p. length p.1.now < length trees.now) }
 {
     match trees {
-        [first, rest @ ..] => match as_sign(word_of(first), sign) {
+        [first, rest @ ..] => match as_sign(first, sign) {
             Some(span) => Some((span, rest)),
             None => None,
         },
@@ -118,10 +122,11 @@ pub fn optional_lifetime(trees: &[TokenTree]) -> Option<(&Token, &[TokenTree])>
     ensures shorter { IfSome result (λ p. length p.1.now < length trees.now) }
 {
     match trees {
-        [first, rest @ ..] => match word_of(first) {
-            Word::Lifetime(token) => Some((token, rest)),
+        [TokenTree::Token(token), rest @ ..] => match token.kind {
+            TokenKind::Lifetime => Some((token, rest)),
             _ => None,
         },
+        [TokenTree::Group(_), ..] => None,
         [] => None,
     }
 }

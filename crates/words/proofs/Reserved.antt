@@ -1,5 +1,5 @@
--- A text is among words only if its length is among theirs.
-use Rattle.std.proofs.Common.{◌≡◌, ℕ, ◌<◌, List, [], ◌∷◌, ◌++◌, length, refl, ap, ap₂, sym, ◌∙◌, arith, Bool, true, false, ◌&&◌, ◌||◌, ltb}
+-- A text is a keyword only if it has what all keywords have: a length, a small letter at its front.
+use Rattle.std.proofs.Common.{◌≡◌, ℕ, ◌<◌, List, [], ◌∷◌, ◌++◌, length, refl, ap, ap₂, sym, ◌∙◌, arith, Bool, true, false, ◌&&◌, ◌||◌, ltb, cond, codes, Some, None}
 use Rattle.std.proofs.lemmas.Bool.{and_parts, false_from_ne_true}
 use Rattle.std.specs.List.{list_all}
 use Rattle.std.specs.Str.{bytes_eq}
@@ -7,17 +7,21 @@ use Rattle.std.proofs.lemmas.Bool.Decides.{nat_tests}
 use Rattle.std.proofs.Math.Bool.{or-false}
 use Rattle.std.proofs.lemmas.Slice.Eq.{bytes_eq-Decides}
 use Rattle.std.proofs.lemmas.List.Folds.{list_any-append}
-use Rattle.words.specs.Words.{is_among, is_reserved, reserved_words, reserved_of_2, reserved_of_3, reserved_of_4, reserved_of_5, reserved_of_6, reserved_of_7, reserved_of_8}
+use Rattle.words.specs.declared.vocabulary.Keyword.TheVariants as keywords
+use Rattle.words.specs.Words.{begins_small, found_in, grammar_keywords, is_among, is_reserved, keyword_of, reserved_words, reserved_of_2, reserved_of_3, reserved_of_4, reserved_of_5, reserved_of_6, reserved_of_7, reserved_of_8}
 
-abbrev lengths_pass : (ℕ → Bool) → List (List ℕ) → Bool
-lengths_pass test words = list_all (λ word. test (length word)) words
-
-none_passes : (test : ℕ → Bool) (text : List ℕ) (words : List (List ℕ)) → lengths_pass test words ≡ true → test (length text) ≡ false → is_among text words ≡ false
+none_passes : (test : List ℕ → Bool) (text : List ℕ) (words : List (List ℕ)) → list_all test words ≡ true → test text ≡ false → is_among text words ≡ false
 none_passes test text [] e h = refl
 none_passes test text (word ∷ words) e h =
-    let parts = and_parts (test (length word)) (lengths_pass test words) e in
-    let other : bytes_eq text word ≡ false = false_from_ne_true (bytes_eq text word) (λ k. let same = ap (λ w. test (length w)) ((bytes_eq-Decides text word).0 k) in cc) in
+    let parts = and_parts (test word) (list_all test words) e in
+    let other : bytes_eq text word ≡ false = false_from_ne_true (bytes_eq text word) (λ k. let same = ap test ((bytes_eq-Decides text word).0 k) in cc) in
     ap₂ (λ a b. a || b) other (none_passes test text words parts.1 h)
+
+abbrev of_length : (ℕ → Bool) → List ℕ → Bool
+of_length test word = test (length word)
+
+abbrev lengths_pass : (ℕ → Bool) → List (List ℕ) → Bool
+lengths_pass test words = list_all (of_length test) words
 
 abbrev shorter : ℕ → ℕ → Bool
 shorter n m = ltb m n
@@ -37,9 +41,9 @@ at_length : (n : ℕ) (text : List ℕ) (front middle back : List (List ℕ)) �
 at_length n text front middle back e f b =
     let same = λ (w : List ℕ). bytes_eq text w in
     let before : is_among text (front ++ (middle ++ back)) ≡ is_among text (middle ++ back) =
-    list_any-append same front (middle ++ back) ∙ ap (λ v. v || is_among text (middle ++ back)) (none_passes (shorter n) text front f (not_shorter n (length text) e)) in
+    list_any-append same front (middle ++ back) ∙ ap (λ v. v || is_among text (middle ++ back)) (none_passes (of_length (shorter n)) text front f (not_shorter n (length text) e)) in
     let after : is_among text (middle ++ back) ≡ is_among text middle =
-    list_any-append same middle back ∙ ap (λ v. is_among text middle || v) (none_passes (longer n) text back b (not_longer n (length text) e)) ∙ or-false (is_among text middle) in
+    list_any-append same middle back ∙ ap (λ v. is_among text middle || v) (none_passes (of_length (longer n)) text back b (not_longer n (length text) e)) ∙ or-false (is_among text middle) in
     sym (before ∙ after)
 
 within : (n : ℕ) → (1 < n → n < 9 → ⊥) → (ltb 1 n && ltb n 9) ≡ false
@@ -75,7 +79,7 @@ from_3 = reserved_of_3 ++ from_4
 module _ (text : List ℕ) where
   pub reserved_outside : (1 < length text → length text < 9 → ⊥) → is_reserved text ≡ false
   unfolding is_reserved
-  reserved_outside h = none_passes (λ n. ltb 1 n && ltb n 9) text reserved_words refl (within (length text) h)
+  reserved_outside h = none_passes (of_length (λ n. ltb 1 n && ltb n 9)) text reserved_words refl (within (length text) h)
 
   pub reserved_at_2 : length text ≡ 2 → is_among text reserved_of_2 ≡ is_reserved text
   unfolding is_reserved
@@ -104,3 +108,27 @@ module _ (text : List ℕ) where
   pub reserved_at_8 : length text ≡ 8 → is_among text reserved_of_8 ≡ is_reserved text
   unfolding is_reserved
   reserved_at_8 e = at_length 8 text (to_6 ++ reserved_of_7) reserved_of_8 [] e refl refl
+
+-- the keywords begin with a small letter, but for one
+abbrev is_self_or_small : List ℕ → Bool
+is_self_or_small text = bytes_eq text (codes "Self") || begins_small text
+
+by_self : (text : List ℕ) (is_self : Bool) → begins_small text ≡ false → bytes_eq text (codes "Self") ≡ is_self → is_self ≡ is_reserved text
+unfolding is_reserved
+by_self text true h e = let is : text ≡ codes "Self" = (bytes_eq-Decides text (codes "Self")).0 e in rw is refl
+by_self text false h e = sym (none_passes is_self_or_small text reserved_words refl (rw (e, h) refl))
+
+pub reserved_unless_small : (text : List ℕ) → begins_small text ≡ false → bytes_eq text (codes "Self") ≡ is_reserved text
+reserved_unless_small text h = by_self text (bytes_eq text (codes "Self")) h refl
+
+not_found : {A : Type 0} → (text : List ℕ) (rows : List (List ℕ × A)) (other : A) → list_all (λ row. is_among row.0 reserved_words) rows ≡ true → is_among text reserved_words ≡ false
+    → found_in text rows other ≡ other
+not_found text [] other e h = refl
+not_found text (row ∷ rows) other e h =
+    let parts = and_parts (is_among row.0 reserved_words) (list_all (λ row. is_among row.0 reserved_words) rows) e in
+    let differs : bytes_eq text row.0 ≡ false = false_from_ne_true (bytes_eq text row.0) (λ k. let same = ap (λ w. is_among w reserved_words) ((bytes_eq-Decides text row.0).0 k) in cc) in
+    rw differs (not_found text rows other parts.1 h)
+
+pub no_keyword : (text : List ℕ) → is_reserved text ≡ false → None ≡ keyword_of text
+unfolding is_reserved keyword_of
+no_keyword text h = sym (not_found text grammar_keywords (cond (is_reserved text) (Some keywords.Other) None) refl h ∙ ap (λ b. cond b (Some keywords.Other) None) h)
