@@ -7,5 +7,6 @@ pub mod Refers
 pub mod Values
 pub mod WholeLaws
 mod Placed
+mod Plain
 mod Writes
 mod Written

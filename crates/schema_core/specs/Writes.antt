@@ -1,5 +1,5 @@
 -- The text of an object's members, one written after another.
-use Rattle.std.specs.Prelude.{◌≡◌, ℕ, suc, Bool, true, List, [], ◌∷◌, ◌++◌, Option, Some, None, option_map, codes}
+use Rattle.std.specs.Prelude.{◌≡◌, ◌≢◌, ◌≤◌, ℕ, suc, Bool, true, List, [], ◌∷◌, ◌++◌, Option, Some, None, option_map, codes}
 use Rattle.std.specs.BTreeMap.{insert_entry}
 use Rattle.std.specs.Cmp.Lexicographic.{slice_cmp}
 use Rattle.std.specs.Ordering.{nat_cmp}
@@ -9,6 +9,10 @@ use Rattle.acceptance.specs.Json.{Json, boolean, text}
 use Rattle.acceptance.specs.Data.{data_of}
 use Rattle.schema_core.specs.declared.notes.Annotations.{Annotations as Notes}
 use Rattle.schema_core.specs.Form.{values_form}
+
+-- the byte stands in a JSON string as it is: it is no quote, no backslash and no control character
+abbrev pub IsPlain : ℕ → Type 0
+IsPlain byte = (32 ≤ byte) × (byte ≢ 34) × (byte ≢ 92)
 
 -- a key in quotes, and its colon
 abbrev pub key_text : List ℕ → List ℕ

@@ -1,7 +1,8 @@
-ghost use Rattle.std.specs.Prelude.{◌≡◌, true, false, not, IfOk, MatchResult};
+ghost use Rattle.std.specs.Prelude.{◌≡◌, true, false, not, IfOk, MatchResult, string_bytes};
 ghost use Rattle.serde_json.specs.View.{view, number_view, items_view, members_view};
 ghost use Rattle.serde_json.specs.Find.{is_float};
 ghost use Rattle.serde_json.specs.Written.{has_float, items_have_float, members_have_float};
+ghost use Rattle.acceptance.specs.Json.{null as json_null, text as json_text};
 ghost use Rattle.acceptance.specs.Data.{data_of};
 ghost use Rattle.schema_core.specs.Whole.{is_whole_number, is_whole, are_items_whole, are_members_whole};
 
@@ -41,6 +42,22 @@ impl Json {
             return Err(value);
         }
         Ok(Json { value })
+    }
+
+    /// Null.
+    pub fn null() -> Json
+        ensures { result ≡ json_null }
+    {
+        Json { value: Value::Null }
+    }
+
+    /// The text.
+    pub fn text(text: String) -> Json
+        ensures { result ≡ json_text (string_bytes text) }
+    {
+        Json {
+            value: Value::String(text),
+        }
     }
 
     /// The value as `serde_json` holds it.

@@ -1,12 +1,12 @@
 //! Values and members as text.
 
-ghost use Rattle.std.specs.Prelude.{◌≡◌, ◌∷◌, [], ◌++◌, false, IfOk, OnOk, option_map, string_bytes};
+ghost use Rattle.std.specs.Prelude.{◌≡◌, ◌∷◌, [], ◌++◌, false, All, IfOk, IsTrue, OnOk, option_map, string_bytes};
 ghost use Rattle.serde_json.specs.View.{view};
 ghost use Rattle.serde_json.specs.Written.{comma_if, compact_text, items_text};
 ghost use Rattle.acceptance.specs.Json.{Json as Meant, boolean, number, text as json_text};
 ghost use Rattle.acceptance.specs.Data.{data_of, items_data};
 ghost use Rattle.schema_core.specs.Form.{true_form, texts_form, value_items, values_form};
-ghost use Rattle.schema_core.specs.Writes.{WritesAt};
+ghost use Rattle.schema_core.specs.Writes.{IsPlain, WritesAt};
 
 use crate::bound::Bound;
 use crate::json_value::Json;
@@ -45,12 +45,27 @@ pub(crate) fn push_value(alloc: Global, text: &mut String, value: &Value) -> Res
     Ok(())
 }
 
+/// Whether each byte stands in a JSON string as it is, since none is a quote, a backslash or a control character.
+fn is_plain(bytes: &[u8]) -> bool
+    ensures { IsTrue result → All IsPlain bytes.now }
+{
+    bytes
+        .iter()
+        .all(|&byte| byte >= 0x20 && byte != b'"' && byte != b'\\')
+}
+
 /// Adds the words in quotes.
 pub(crate) fn push_words(alloc: Global, text: &mut String, words: &str) -> Result<(), AllocError>
     ensures { OnOk result
         (string_bytes text.new
         ≡ string_bytes text.old ++ compact_text (data_of (json_text words.now))) }
 {
+    if is_plain(words.as_bytes()) {
+        text.push_str("\"")?;
+        text.push_str(words)?;
+        text.push_str("\"")?;
+        return Ok(());
+    }
     let value = text_value(alloc, words)?;
     push_value(alloc, text, &value)?;
     Ok(())
