@@ -14,7 +14,6 @@ use schema_core::{
     Additional, AllOfSchema, Annotations, Array, ArrayItems, Bound, Bounds, Json, Notes, Object,
     OneOfSchema, SchemaTypeInner, Tree, TypeWord,
 };
-use serde_json::Value;
 use std::alloc::{AllocError, Global};
 use texts::{List, Text};
 
@@ -122,10 +121,7 @@ pub fn noted_null(
         ≡ notes_of description.now (Some null) (where_true deprecated)) }
 {
     let mut said = said(alloc, deprecated, description)?;
-    said.default = match Json::new(Value::Null) {
-        Ok(null) => Some(null),
-        Err(_) => None,
-    };
+    said.default = Some(Json::null());
     Notes::of(alloc, said)
 }
 

@@ -11,7 +11,6 @@ use crate::named_struct::object_of;
 use component::{Term, TermLeaf, bounds_of, noted_null};
 use leaves::Leaf;
 use schema_core::{AllOfSchema, Json, Notes, Object, SchemaTypeInner, Tree, TypeWord};
-use serde_json::Value;
 use shapes::Remarks;
 use std::alloc::{AllocError, Global};
 use syntax::Ident;
@@ -21,11 +20,7 @@ use texts::{List, Text};
 fn text_value(alloc: Global, text: &Text) -> Result<Json, AllocError>
     ensures { IfOk result (λ json. json ≡ json_text text.now) }
 {
-    let text = String::from_str(alloc, text.as_str())?;
-    match Json::new(Value::String(text)) {
-        Ok(json) => Ok(json),
-        Err(_) => unreachable!(),
-    }
+    Ok(Json::text(String::from_str(alloc, text.as_str())?))
 }
 
 /// The names as JSON values.
