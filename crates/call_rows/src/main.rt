@@ -27,6 +27,7 @@ fn told(alloc: Global, row: &Row) -> anyhow::Result<String> {
         "token_tree" => single_words::count(alloc, given),
         "SerdeEnumRepr::copy" => single_words::representation(alloc, given),
         "Config::collect" => single_words::collected(alloc),
+        "to_value" => single_words::document(alloc, given),
         "tree" => trees::tree(alloc, given),
         "schema_type" => trees::tests(alloc, given),
         "format" => trees::format(alloc, given),

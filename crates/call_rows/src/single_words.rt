@@ -4,6 +4,7 @@ use anyhow::bail;
 use configuration::{Config, SchemaCollect};
 use lexing::lex;
 use rows::given::text_of;
+use schema_core::{Components, Notes, RefLeaf, Tree};
 use serde_json::Value;
 use serde_rules::SerdeEnumRepr;
 use std::alloc::{AllocError, Global};
@@ -73,4 +74,16 @@ pub(crate) fn collected(alloc: Global) -> anyhow::Result<String> {
         SchemaCollect::All => "All",
     };
     Ok(String::from_str(alloc, word)?)
+}
+
+/// The document of one component of the name, a reference to itself.
+pub(crate) fn document(alloc: Global, given: &Value) -> anyhow::Result<String> {
+    let name = text_of(given)?;
+    let reference = RefLeaf {
+        name: Text::new(alloc, name)?,
+        notes: Notes::new(),
+    };
+    let mut components = Components::new(alloc);
+    components.insert(Text::new(alloc, name)?, Tree::Leaf(reference))?;
+    Ok(components.to_value(alloc)?.to_string(alloc)?)
 }
