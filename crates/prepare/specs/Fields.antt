@@ -33,7 +33,7 @@ from_comma is_behind_minus opened (t ∷ ts) = cond (is_comma opened t) (t ∷ t
 
 -- ---- skipped
 
--- serde knows no field and no variant with one of these
+-- a schema has no member and no variant for what has one of these
 abbrev pub is_skip : Tree → Bool
 is_skip t = is_word (codes "skip") t || (is_word (codes "skip_serializing") t || is_word (codes "skip_deserializing") t)
 
