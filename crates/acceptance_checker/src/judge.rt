@@ -13,7 +13,7 @@ use crate::keyword::{Applicator, Keyword, keyword_named};
 use crate::layer::{Layer, layer_of, member_at};
 use crate::references::{component_schema, target_of};
 use crate::siblings::{is_named, rest_items};
-use schema_core::Json;
+use schema_trees::Json;
 use serde_json::{Map, Value};
 
 /// Whether the schema of the document accepts the value, where references are followed at most

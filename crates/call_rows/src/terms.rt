@@ -10,7 +10,7 @@ use diag::DeriveError;
 use place_schemas::{ComponentSchema, ComponentSchemaProps};
 use rows::given::{is_said, pair_of, text_of};
 use rows::refusal_text;
-use schema_core::Tree;
+use schema_trees::Tree;
 use scopes::{ComponentDescription, Container, Places, Scope};
 use serde_json::Value;
 use std::alloc::{AllocError, Global};

@@ -1,7 +1,7 @@
 //! Values that hold no float.
 
 use anyhow::bail;
-use schema_core::Json;
+use schema_trees::Json;
 use serde_json::Value;
 
 /// A copy of the value, which may hold no float.

@@ -8,13 +8,13 @@ use Rattle.acceptance.specs.Json.{Json}
 use Rattle.texts.specs.Names.{is_in, IsDistinct}
 use Rattle.acceptance.specs.Acceptance.{accepts_with, component_schema, component_accepts, if_component, accepts, Accepts}
 use Rattle.acceptance.specs.References.{EachReference}
-use Rattle.schema_core.specs.declared.tree.RefLeaf.{RefLeaf}
-use Rattle.schema_core.specs.Schema.{SchemaOf, EachLeaf}
-use Rattle.schema_core.specs.Schema as tree
+use Rattle.schema_trees.specs.declared.tree.RefLeaf.{RefLeaf}
+use Rattle.schema_trees.specs.Schema.{SchemaOf, EachLeaf}
+use Rattle.schema_trees.specs.Schema as tree
 use Rattle.schema_core.specs.Form.{form}
 use Rattle.schema_core.specs.Document.{Entry, document}
 use Rattle.schema_core.specs.Entries.{names_of, find, IsInOrder}
-use Rattle.schema_core.specs.declared.notes.Annotations.{Annotations as Notes}
+use Rattle.schema_trees.specs.declared.notes.Annotations.{Annotations as Notes}
 use Rattle.schema_core.specs.Meaning.{IsProper, tree_accepts, FormsAccept, FormsRefer, DocumentsHold}
 use Rattle.open_types.specs.Open.{Open, Opens, leaf, any_value, free_object, unit, tuple, items, set, map_of, option, through, no_types, more_types}
 use Rattle.open_types.specs.Open as types

@@ -1,9 +1,9 @@
 -- The terms of enums and of declarations: no object names a property twice, and what holds of each leaf.
 use Rattle.std.proofs.Common.{ℕ, List, [], ◌∷◌, ◌++◌, Bool, true, false, map, ◌≡◌, refl, ap, sym, subst, ◌∙◌, inl, inr}
-use Rattle.schema_core.specs.declared.notes.Annotations.{Annotations as Notes}
-use Rattle.schema_core.specs.Notes.{no_notes}
-use Rattle.schema_core.specs.Schema.{SchemaOf, schemas_of, PropertiesOf, property_names, EachLeaf, EachSchemaLeaf, EachPropertyLeaf}
-use Rattle.schema_core.specs.Schema as tree
+use Rattle.schema_trees.specs.declared.notes.Annotations.{Annotations as Notes}
+use Rattle.schema_trees.specs.Notes.{no_notes}
+use Rattle.schema_trees.specs.Schema.{SchemaOf, schemas_of, PropertiesOf, property_names, EachLeaf, EachSchemaLeaf, EachPropertyLeaf}
+use Rattle.schema_trees.specs.Schema as tree
 use Rattle.schema_core.specs.Meaning.{IsProper, AreProper, ArePropertiesProper}
 use Rattle.texts.specs.Names.{IsDistinct}
 use Rattle.open_types.specs.Open.{Open, Opens}

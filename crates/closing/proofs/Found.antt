@@ -1,10 +1,10 @@
 -- What is found in terms, one after another.
 use Rattle.std.proofs.Common.{ℕ, List, [], ◌∷◌, ◌++◌, cond, ◌≡◌, refl, ap, sym, ◌∙◌, rules}
 use Rattle.std.proofs.lemmas.List.{append_assoc}
-use Rattle.schema_core.specs.declared.tree.Tree.{Tree, the_lemmas}
-use Rattle.schema_core.specs.declared.tree.Object.{Object}
-use Rattle.schema_core.specs.declared.tree.Array.{Array}
-use Rattle.schema_core.specs.Schema.{object_facts, ArrayFacts, object, array, tree_views, named_views, object_view, additional_view, optional_view, array_view, array_items_view}
+use Rattle.schema_trees.specs.declared.tree.Tree.{Tree, the_lemmas}
+use Rattle.schema_trees.specs.declared.tree.Object.{Object}
+use Rattle.schema_trees.specs.declared.tree.Array.{Array}
+use Rattle.schema_trees.specs.Schema.{object_facts, ArrayFacts, object, array, tree_views, named_views, object_view, additional_view, optional_view, array_view, array_items_view}
 use Rattle.component.specs.declared.term.TermLeaf.{TermLeaf}
 use Rattle.component.specs.Leaves.{leaf_view, term_view}
 use Rattle.component.specs.References.{ReferenceOf, named_leaves, schema_leaves, property_leaves, part_leaves}

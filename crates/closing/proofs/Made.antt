@@ -1,9 +1,9 @@
 -- Schemas of declarations that are made one after another, each behind those that stand in it.
 use Rattle.std.proofs.Common.{ℕ, zero, suc, ◌+◌, ◌<◌, ◌≤◌, ◌⊎◌, List, [], ◌∷◌, ◌++◌, length, map, take, get_or, set, ◌≡◌, ◌≢◌, refl, ap, sym, subst, ◌∙◌, inl, inr, arith}
 use Rattle.std.proofs.lemmas.List.{take_more, length-map, length-set, get_or-set_other}
-use Rattle.schema_core.specs.declared.tree.RefLeaf.{RefLeaf}
-use Rattle.schema_core.specs.declared.tree.Tree.{Tree}
-use Rattle.schema_core.specs.Schema.{SchemaOf, schema_view, bind}
+use Rattle.schema_trees.specs.declared.tree.RefLeaf.{RefLeaf}
+use Rattle.schema_trees.specs.declared.tree.Tree.{Tree}
+use Rattle.schema_trees.specs.Schema.{SchemaOf, schema_view, bind}
 use Rattle.component.specs.Leaves.{term_view}
 use Rattle.component.specs.declared.term.TermLeaf.{TermLeaf}
 use Rattle.shapes.specs.Declarations.{DeclarationOf, declaration_at, body_types, AreWithin}

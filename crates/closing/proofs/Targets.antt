@@ -1,8 +1,8 @@
 -- The declarations that stand in terms themselves: inline paths that are short, and what holds of each leaf.
 use Rattle.std.proofs.Common.{ℕ, zero, suc, ◌<◌, List, [], ◌∷◌, length, true, false, Bool, ◌≡◌, refl, ap, sym, subst, inl, inr, arith}
-use Rattle.schema_core.specs.declared.notes.Annotations.{Annotations as Notes}
-use Rattle.schema_core.specs.declared.tree.RefLeaf.{RefLeaf}
-use Rattle.schema_core.specs.Schema.{SchemaOf, bind, EachLeaf}
+use Rattle.schema_trees.specs.declared.notes.Annotations.{Annotations as Notes}
+use Rattle.schema_trees.specs.declared.tree.RefLeaf.{RefLeaf}
+use Rattle.schema_trees.specs.Schema.{SchemaOf, bind, EachLeaf}
 use Rattle.open_types.specs.Open.{Opens}
 use Rattle.open_types.specs.Open as types
 use Rattle.component.specs.Leaves.{LeafOf, param, named}

@@ -1,9 +1,9 @@
 -- The terms of places and of fields: no object names a property twice, and what holds of each leaf.
 use Rattle.std.proofs.Common.{ℕ, List, [], ◌∷◌, length, Bool, true, false, cond, Option, Some, None, ◌≡◌, refl, ap, sym, subst, inl, inr}
-use Rattle.schema_core.specs.declared.notes.Annotations.{Annotations as Notes}
-use Rattle.schema_core.specs.Notes.{no_notes, described}
-use Rattle.schema_core.specs.Schema.{SchemaOf, property_names, EachLeaf, EachSchemaLeaf, EachPropertyLeaf}
-use Rattle.schema_core.specs.Schema as tree
+use Rattle.schema_trees.specs.declared.notes.Annotations.{Annotations as Notes}
+use Rattle.schema_trees.specs.Notes.{no_notes, described}
+use Rattle.schema_trees.specs.Schema.{SchemaOf, property_names, EachLeaf, EachSchemaLeaf, EachPropertyLeaf}
+use Rattle.schema_trees.specs.Schema as tree
 use Rattle.schema_core.specs.Meaning.{IsProper, AreProper, ArePropertiesProper}
 use Rattle.texts.specs.Names.{IsDistinct}
 use Rattle.open_types.specs.Open.{Open, Opens, leaf, any_value, free_object, unit, tuple, items, set, map_of, option, through, no_types, more_types}

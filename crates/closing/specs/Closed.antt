@@ -1,13 +1,13 @@
 -- The schemas of components: the terms of declarations, where each name is a reference or, where it is inline, the schema of its declaration.
 use Rattle.std.specs.Prelude.{ℕ, zero, suc, List, [], ◌∷◌, true, false}
-use Rattle.schema_core.specs.declared.tree.RefLeaf.{RefLeaf}
-use Rattle.schema_core.specs.declared.tree.TypeWord.TheVariants.{Any}
-use Rattle.schema_core.specs.Notes.{no_notes}
-use Rattle.schema_core.specs.Schema.{SchemaOf, leaf, bind}
+use Rattle.schema_trees.specs.declared.tree.RefLeaf.{RefLeaf}
+use Rattle.schema_trees.specs.declared.tree.TypeWord.TheVariants.{Any}
+use Rattle.schema_trees.specs.Notes.{no_notes}
+use Rattle.schema_trees.specs.Schema.{SchemaOf, leaf, bind}
 use Rattle.open_types.specs.Open.{Open}
 use Rattle.open_types.specs.Open as types
 use Rattle.component.specs.Leaves.{LeafOf, param, named}
-use Rattle.schema_core.specs.Objects.{only_word}
+use Rattle.schema_trees.specs.Objects.{only_word}
 use Rattle.shapes.specs.Declarations.{DeclarationOf, declaration_at}
 use Rattle.shapes.specs.Terms.{term}
 use Rattle.closing.specs.Targets.{most_inlined}

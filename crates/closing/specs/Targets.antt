@@ -1,6 +1,6 @@
 -- The declarations whose schemas stand in the schema of another itself, in place of a reference.
 use Rattle.std.specs.Prelude.{ℕ, List, [], ◌∷◌, ◌++◌, cond}
-use Rattle.schema_core.specs.Schema.{SchemaOf}
+use Rattle.schema_trees.specs.Schema.{SchemaOf}
 use Rattle.open_types.specs.Open.{Open, named}
 use Rattle.component.specs.Leaves.{LeafOf}
 use Rattle.component.specs.References.{ReferenceOf, named_leaves}

@@ -1,7 +1,7 @@
 //! The schemas of declarations, in which those of others stand.
 
 ghost use Rattle.std.specs.Prelude.{◌≡◌, ◌<◌, ℕ, length, map, get_or, IfOk};
-ghost use Rattle.schema_core.specs.Schema.{schema_view, leaf};
+ghost use Rattle.schema_trees.specs.Schema.{schema_view, leaf};
 ghost use Rattle.open_types.specs.Open.{open_view};
 ghost use Rattle.component.specs.Leaves.{term_view};
 ghost use Rattle.shapes.specs.Declarations.{DeclarationOf, declaration_at, AreWithin};
@@ -13,7 +13,7 @@ ghost use Rattle.closing.specs.Closed.{any_value, name_of, schema_of, schema_in,
 use component::{Term, TermLeaf};
 use filling::{Fill, copy_schema, filled};
 use open_types::OpenType;
-use schema_core::{Notes, Object, RefLeaf, Schema, Tree, TypeWord};
+use schema_trees::{Notes, Object, RefLeaf, Schema, Tree, TypeWord};
 use shapes::Declared;
 use std::alloc::{AllocError, Global};
 use texts::{List, Text};
@@ -102,8 +102,8 @@ fn reference_to<D: Declared>(
 
 impl<D: Declared> Fill for Closing<'_, D> {
     ghost use Rattle.std.specs.Prelude.{map};
-    ghost use Rattle.schema_core.specs.declared.tree.RefLeaf.{RefLeaf as AnyReference};
-    ghost use Rattle.schema_core.specs.Schema.{schema_view};
+    ghost use Rattle.schema_trees.specs.declared.tree.RefLeaf.{RefLeaf as AnyReference};
+    ghost use Rattle.schema_trees.specs.Schema.{schema_view};
     ghost use Rattle.component.specs.Leaves.{LeafOf, leaf_view};
     ghost use Rattle.closing.specs.Closed.{put, schema_in};
 

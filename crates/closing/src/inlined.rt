@@ -1,7 +1,7 @@
 //! The terms of declarations, and the declarations whose schemas stand in them.
 
 ghost use Rattle.std.specs.Prelude.{◌≡◌, ◌++◌, map, IfOk, OnOk};
-ghost use Rattle.schema_core.specs.Schema.{object_view, tree_views, named_views, additional_view, array_items_view, optional_view, array_view};
+ghost use Rattle.schema_trees.specs.Schema.{object_view, tree_views, named_views, additional_view, array_items_view, optional_view, array_view};
 ghost use Rattle.component.specs.Leaves.{leaf_view, term_view};
 ghost use Rattle.component.specs.References.{leaf_references, schema_leaves, property_leaves, part_leaves};
 ghost use Rattle.shapes.specs.Terms.{term};
@@ -9,7 +9,7 @@ ghost use Rattle.closing.specs.Targets.{inlined_among, targets_in};
 
 use component::{Term, TermLeaf};
 use open_types::OpenType;
-use schema_core::{Additional, Array, ArrayItems, Object, Tree};
+use schema_trees::{Additional, Array, ArrayItems, Object, Tree};
 use shapes::Declared;
 use std::alloc::{AllocError, Global};
 use texts::{List, Text};

@@ -2,7 +2,7 @@
 use Rattle.std.proofs.Common.{List, [], ◌∷◌, map, ◌≡◌, refl, ap, false, true, None}
 use Rattle.open_types.specs.declared.open_type.OpenType.{OpenType}
 use Rattle.open_types.specs.Open.{open_view, opens_view}
-use Rattle.schema_core.specs.Schema.{SchemaOf, schema, schemas_of}
+use Rattle.schema_trees.specs.Schema.{SchemaOf, schema, schemas_of}
 use Rattle.component.specs.Leaves.{LeafOf}
 use Rattle.component.specs.Places.{place, inline_places}
 

@@ -1,9 +1,9 @@
 -- What a term leaves open: parameters and declarations.
 use Rattle.std.specs.Prelude.{ℕ, Bool}
 use Rattle.open_types.specs.Open.{Open, open_view}
-use Rattle.schema_core.specs.declared.notes.Annotations.{Annotations as Notes}
-use Rattle.schema_core.specs.declared.tree.Tree.{Tree}
-use Rattle.schema_core.specs.Schema.{SchemaOf, tree_view}
+use Rattle.schema_trees.specs.declared.notes.Annotations.{Annotations as Notes}
+use Rattle.schema_trees.specs.declared.tree.Tree.{Tree}
+use Rattle.schema_trees.specs.Schema.{SchemaOf, tree_view}
 use Rattle.component.specs.declared.term.TermLeaf.{TermLeaf}
 
 -- the parameter at a place; a declaration with its arguments, whether its schema stands there itself, and the notes of a reference

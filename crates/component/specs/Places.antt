@@ -1,16 +1,16 @@
 -- The schema of a place by its type (JSON Schema 2020-12; OpenAPI 3.1, "Schema Object"), over parameters and declarations.
 use Rattle.std.specs.Prelude.{ℕ, List, Bool, true, false, cond, ℤ, pos, Option, Some, None}
-use Rattle.schema_core.specs.declared.tree.SchemaTypeInner.{SchemaTypeInner}
-use Rattle.schema_core.specs.declared.tree.SchemaTypeInner.TheVariants as word
-use Rattle.schema_core.specs.declared.tree.TypeWord.{TypeWord}
-use Rattle.schema_core.specs.declared.tree.TypeWord.TheVariants.{Any, One, Nullable}
-use Rattle.schema_core.specs.declared.notes.Annotations.{Annotations as Notes}
-use Rattle.schema_core.specs.declared.bounds.Bounds.{Bounds}
-use Rattle.schema_core.specs.Bounds.{at_least}
-use Rattle.schema_core.specs.Notes.{no_notes, noted, described, null_default}
-use Rattle.schema_core.specs.Objects.{word_facts, with_format, with_bounds, only_word}
-use Rattle.schema_core.specs.Schema.{SchemaOf, object, array, one_of, all_of, SchemasOf, no_schemas, schema, no_properties, no_part, truth, part}
-use Rattle.schema_core.specs.Schema as tree
+use Rattle.schema_trees.specs.declared.tree.SchemaTypeInner.{SchemaTypeInner}
+use Rattle.schema_trees.specs.declared.tree.SchemaTypeInner.TheVariants as word
+use Rattle.schema_trees.specs.declared.tree.TypeWord.{TypeWord}
+use Rattle.schema_trees.specs.declared.tree.TypeWord.TheVariants.{Any, One, Nullable}
+use Rattle.schema_trees.specs.declared.notes.Annotations.{Annotations as Notes}
+use Rattle.schema_trees.specs.declared.bounds.Bounds.{Bounds}
+use Rattle.schema_trees.specs.Bounds.{at_least}
+use Rattle.schema_trees.specs.Notes.{no_notes, noted, described, null_default}
+use Rattle.schema_trees.specs.Objects.{word_facts, with_format, with_bounds, only_word}
+use Rattle.schema_trees.specs.Schema.{SchemaOf, object, array, one_of, all_of, SchemasOf, no_schemas, schema, no_properties, no_part, truth, part}
+use Rattle.schema_trees.specs.Schema as tree
 use Rattle.leaves.specs.declared.leaf.Leaf.{Leaf}
 use Rattle.leaves.specs.declared.leaf.LeafKind.{LeafKind}
 use Rattle.leaves.specs.declared.leaf.LeafKind.TheVariants as kinds

@@ -1,7 +1,7 @@
 -- The declarations that the schema of a place names, in the order in which it is made.
 use Rattle.std.specs.Prelude.{◌≡◌, ℕ, List, [], ◌∷◌, ◌++◌, Bool, true, false, Option}
-use Rattle.schema_core.specs.Schema.{SchemaOf, SchemasOf, PropertiesOf, PartOf}
-use Rattle.schema_core.specs.Schema as tree
+use Rattle.schema_trees.specs.Schema.{SchemaOf, SchemasOf, PropertiesOf, PartOf}
+use Rattle.schema_trees.specs.Schema as tree
 use Rattle.open_types.specs.Open.{Open, Opens, leaf, any_value, free_object, unit, tuple, items, set, map_of, option, through, param, named, no_types, more_types, open_view}
 use Rattle.component.specs.declared.references.SchemaReference.{SchemaReference}
 use Rattle.component.specs.Leaves.{LeafOf}

@@ -1,11 +1,11 @@
 //! The schema of a place by its type.
 
 ghost use Rattle.std.specs.Prelude.{◌≡◌, IfOk, None, false};
-ghost use Rattle.schema_core.specs.Schema.{tree_views};
+ghost use Rattle.schema_trees.specs.Schema.{tree_views};
 ghost use Rattle.open_types.specs.Open.{open_view, opens_view};
 ghost use Rattle.component.specs.Leaves.{leaf_view, term_view};
-ghost use Rattle.schema_core.specs.Notes.{noted};
-ghost use Rattle.schema_core.specs.Objects.{only_word};
+ghost use Rattle.schema_trees.specs.Notes.{noted};
+ghost use Rattle.schema_trees.specs.Objects.{only_word};
 ghost use Rattle.component.specs.Places.{type_word, leaf_object, tuple_of, list_of, map_object, place, inline_places, declared, argument};
 
 use crate::schemas::{
@@ -15,7 +15,7 @@ use crate::schemas::{
 use crate::term::{Term, TermLeaf};
 use leaves::Leaf;
 use open_types::OpenType;
-use schema_core::{Notes, SchemaTypeInner, Tree, TypeWord};
+use schema_trees::{Notes, SchemaTypeInner, Tree, TypeWord};
 use std::alloc::{AllocError, Global};
 use texts::{List, Text};
 

@@ -2,15 +2,15 @@
 
 ghost use Rattle.std.specs.Prelude.{◌≡◌, IfOk, Some};
 ghost use Rattle.acceptance.specs.Json.{null};
-ghost use Rattle.schema_core.specs.Schema.{SchemaOf, tree_view, object_view, tree_views, named_views, no_schemas, schema};
+ghost use Rattle.schema_trees.specs.Schema.{SchemaOf, tree_view, object_view, tree_views, named_views, no_schemas, schema};
 ghost use Rattle.component.specs.Leaves.{leaf_view, term_view};
-ghost use Rattle.schema_core.specs.Notes.{notes_of, where_true, noted, null_default};
-ghost use Rattle.schema_core.specs.Objects.{only_word};
+ghost use Rattle.schema_trees.specs.Notes.{notes_of, where_true, noted, null_default};
+ghost use Rattle.schema_trees.specs.Objects.{only_word};
 ghost use Rattle.component.specs.Places.{word_of, minimum_of, bounds_of, type_word, one_of_null, or_null, beside, in_place, leaf_object, list_of, tuple_of, map_object};
 
 use crate::term::{Term, TermLeaf};
 use leaves::{Leaf, LeafKind};
-use schema_core::{
+use schema_trees::{
     Additional, AllOfSchema, Annotations, Array, ArrayItems, Bound, Bounds, Json, Notes, Object,
     OneOfSchema, SchemaTypeInner, Tree, TypeWord,
 };

@@ -1,13 +1,13 @@
 ghost use Rattle.std.specs.Prelude.{◌≡◌, IfOk};
 ghost use Rattle.diag.specs.Refusal.{Refuses};
-ghost use Rattle.schema_core.specs.Schema.{SchemaOf};
+ghost use Rattle.schema_trees.specs.Schema.{SchemaOf};
 ghost use Rattle.diag.specs.declared.error.DeriveError.{DeriveError as AnyError};
 ghost use Rattle.component.specs.Leaves.{LeafOf, term_view};
 
 use diag::DeriveError;
 use filling::{CopyLeaf, copied};
 use open_types::OpenType;
-use schema_core::{Notes, Tree};
+use schema_trees::{Notes, Tree};
 use std::alloc::{AllocError, Global};
 
 /// What a term leaves open.

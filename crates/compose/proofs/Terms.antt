@@ -2,7 +2,7 @@
 use Rattle.std.proofs.Common.{List, [], ◌∷◌, map, ◌≡◌, refl, ap, ◌∙◌}
 use Rattle.component.specs.Leaves.{term_view}
 use Rattle.component.specs.declared.term.TermLeaf.{TermLeaf}
-use Rattle.schema_core.specs.declared.tree.Tree.{Tree}
+use Rattle.schema_trees.specs.declared.tree.Tree.{Tree}
 use Rattle.derive_decl.specs.declared.resolved.Resolved.{Resolved}
 use Rattle.shapes.specs.Terms.{term}
 use Rattle.derive_decl.specs.Views.{resolved_view}

@@ -2,8 +2,8 @@
 use Rattle.std.proofs.Common.{ℕ, ◌+◌, ◌<◌, List, [], ◌∷◌, ◌++◌, Bool, true, false, cond, length, take, get_or, map, ◌≡◌, refl, ap, sym, ◌∙◌}
 use Rattle.std.proofs.lemmas.List.{take_more, map_push}
 use Rattle.open_types.specs.Open.{Open, open_view}
-use Rattle.schema_core.specs.Schema.{SchemaOf}
-use Rattle.schema_core.specs.Schema as tree
+use Rattle.schema_trees.specs.Schema.{SchemaOf}
+use Rattle.schema_trees.specs.Schema as tree
 use Rattle.component.specs.Leaves.{LeafOf}
 use Rattle.derive_decl.specs.declared.member.Member.{Member}
 use Rattle.shapes.specs.Declarations.{MemberOf, member_types}

@@ -6,8 +6,8 @@ use Rattle.std.proofs.lemmas.List.{map_push}
 use Rattle.std.proofs.lemmas.Slice.Eq.{bytes_eq-Decides}
 use Rattle.diag.specs.Refusal.{RefusesNone}
 use Rattle.texts.specs.Names.{is_in, IsDistinct}
-use Rattle.schema_core.specs.declared.tree.Tree.{Tree}
-use Rattle.schema_core.specs.Schema.{SchemaOf, named_view, named_views, properties_of}
+use Rattle.schema_trees.specs.declared.tree.Tree.{Tree}
+use Rattle.schema_trees.specs.Schema.{SchemaOf, named_view, named_views, properties_of}
 use Rattle.component.specs.declared.term.TermLeaf.{TermLeaf}
 use Rattle.component.specs.Leaves.{LeafOf, leaf_view, term_view}
 use Rattle.syntax.specs.Items.{VariantItem}
@@ -86,7 +86,7 @@ alone-tag Untagged v = free_tag Untagged v no_fields refl tt
 
 with-pushed : (ps : List (List ℕ × SchemaOf LeafOf)) (k : List ℕ) (s : SchemaOf LeafOf) → properties_of (ps ++ (k, s) ∷ []) ≡ with_property (properties_of ps) k s
 with-pushed [] k s = refl
-with-pushed (p ∷ ps) k s = ap (Rattle.schema_core.specs.Schema.property p.0 p.1) (with-pushed ps k s)
+with-pushed (p ∷ ps) k s = ap (Rattle.schema_trees.specs.Schema.property p.0 p.1) (with-pushed ps k s)
 
 -- the properties so far, and one behind them
 pub with-last : (ps : List (List ℕ × Tree TermLeaf)) (k : List ℕ) (t : Tree TermLeaf) → named_views leaf_view (ps ++ (k, t) ∷ []) ≡ with_property (named_views leaf_view ps) k (term_view t)

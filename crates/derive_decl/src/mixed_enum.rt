@@ -25,7 +25,7 @@ use crate::variant_term::variant_terms;
 use crate::variants::{kept_name, told_apart};
 use component::{Term, ToTerm, noted};
 use diag::{DeriveError, RenameRule};
-use schema_core::{OneOfSchema, Tree};
+use schema_trees::{OneOfSchema, Tree};
 use scopes::Named;
 use serde_rules::{SerdeValue, parse_value};
 use shapes::{Remarks, Tagging};

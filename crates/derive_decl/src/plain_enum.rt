@@ -2,8 +2,8 @@
 
 ghost use Rattle.std.specs.Prelude.{◌≡◌, map, IfOk, Some};
 ghost use Rattle.diag.specs.Refusal.{Refuses, RefusesNone};
-ghost use Rattle.schema_core.specs.Notes.{no_notes};
-ghost use Rattle.schema_core.specs.Schema.{tree_views, schemas_of};
+ghost use Rattle.schema_trees.specs.Notes.{no_notes};
+ghost use Rattle.schema_trees.specs.Schema.{tree_views, schemas_of};
 ghost use Rattle.syntax.specs.Items.{variant_view};
 ghost use Rattle.component.specs.Leaves.{leaf_view, term_view};
 ghost use Rattle.scopes.specs.Names.{texts};
@@ -19,7 +19,7 @@ use crate::tagged::{null_term, tag_alone, texts_schema};
 use crate::variants::distinct_names;
 use component::{Term, ToTerm, noted};
 use diag::{DeriveError, RenameRule};
-use schema_core::{Notes, OneOfSchema, Tree};
+use schema_trees::{Notes, OneOfSchema, Tree};
 use shapes::{Remarks, Tagging};
 use std::alloc::{AllocError, Global};
 use syntax::{Ident, Variant};

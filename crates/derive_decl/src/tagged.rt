@@ -2,7 +2,7 @@
 
 ghost use Rattle.std.specs.Prelude.{◌≡◌, ◌∷◌, ◌++◌, [], map, IfOk, OnOk};
 ghost use Rattle.acceptance.specs.Json.{text as json_text};
-ghost use Rattle.schema_core.specs.Schema.{object, object_view, named_views, no_part, no_properties, property};
+ghost use Rattle.schema_trees.specs.Schema.{object, object_view, named_views, no_part, no_properties, property};
 ghost use Rattle.component.specs.Leaves.{leaf_view, term_view};
 ghost use Rattle.scopes.specs.Names.{texts};
 ghost use Rattle.shapes.specs.Terms.{texts_facts, texts_schema, requiring, tag_schema, tag_alone, null_term, with_property, beside_tag, tagged_leaf, adjacent_term};
@@ -10,7 +10,7 @@ ghost use Rattle.shapes.specs.Terms.{texts_facts, texts_schema, requiring, tag_s
 use crate::named_struct::object_of;
 use component::{Term, TermLeaf, bounds_of, noted_null};
 use leaves::Leaf;
-use schema_core::{AllOfSchema, Json, Notes, Object, SchemaTypeInner, Tree, TypeWord};
+use schema_trees::{AllOfSchema, Json, Notes, Object, SchemaTypeInner, Tree, TypeWord};
 use shapes::Remarks;
 use std::alloc::{AllocError, Global};
 use syntax::Ident;

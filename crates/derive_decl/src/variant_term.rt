@@ -1,7 +1,7 @@
 //! The schemas of variants, by how they are told.
 
 ghost use Rattle.std.specs.Prelude.{◌≡◌, map, IfOk};
-ghost use Rattle.schema_core.specs.Schema.{tree_views, schemas_of};
+ghost use Rattle.schema_trees.specs.Schema.{tree_views, schemas_of};
 ghost use Rattle.component.specs.Leaves.{leaf_view, term_view};
 ghost use Rattle.open_types.specs.Open.{open_view};
 ghost use Rattle.shapes.specs.Terms.{remarked, variant_term, tagged_content, internal_term};
@@ -16,7 +16,7 @@ use crate::tagged::{
 use crate::unnamed_struct::UnnamedStructSchema;
 use component::{Term, noted};
 use open_types::OpenType;
-use schema_core::Notes;
+use schema_trees::Notes;
 use shapes::{Remarks, Tagging};
 use std::alloc::{AllocError, Global};
 use texts::{List, Text};

@@ -1,9 +1,9 @@
 -- A schema with others put at its leaves, part by part.
 use Rattle.std.proofs.Common.{ℕ, ◌+◌, ◌<◌, List, [], ◌∷◌, ◌++◌, length, get_or, take, map, ◌≡◌, refl, ap, sym, ◌∙◌, rules}
 use Rattle.std.proofs.lemmas.List.{take_more, map_push}
-use Rattle.schema_core.specs.declared.tree.Tree.{Tree, the_lemmas}
-use Rattle.schema_core.specs.declared.tree.Object.{Object}
-use Rattle.schema_core.specs.Schema.{object_facts, SchemaOf, object, property, schema, bind, bind_schemas, bind_properties, tree_view, tree_views, named_views, object_view, additional_view, optional_view, schemas_of, properties_of}
+use Rattle.schema_trees.specs.declared.tree.Tree.{Tree, the_lemmas}
+use Rattle.schema_trees.specs.declared.tree.Object.{Object}
+use Rattle.schema_trees.specs.Schema.{object_facts, SchemaOf, object, property, schema, bind, bind_schemas, bind_properties, tree_view, tree_views, named_views, object_view, additional_view, optional_view, schemas_of, properties_of}
 
 module _ {L X : Type 0} (m : L → X) where
   -- an object by its fields

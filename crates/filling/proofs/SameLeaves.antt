@@ -1,6 +1,6 @@
 -- A schema with each leaf put at its own place is that schema.
 use Rattle.std.proofs.Common.{◌≡◌, refl}
-use Rattle.schema_core.specs.Schema.{SchemaOf, leaf, object, array, one_of, all_of, SchemasOf, no_schemas, schema, PropertiesOf, no_properties, property, PartOf, no_part, truth, part, bind, bind_schemas, bind_properties, bind_part}
+use Rattle.schema_trees.specs.Schema.{SchemaOf, leaf, object, array, one_of, all_of, SchemasOf, no_schemas, schema, PropertiesOf, no_properties, property, PartOf, no_part, truth, part, bind, bind_schemas, bind_properties, bind_part}
 
 module _ {X : Type 0} where
   mutual

@@ -1,10 +1,10 @@
 //! Copies of schemas.
 
 ghost use Rattle.std.specs.Prelude.{◌≡◌, IfOk};
-ghost use Rattle.schema_core.specs.Schema.{tree_view, schema_view};
+ghost use Rattle.schema_trees.specs.Schema.{tree_view, schema_view};
 
 use crate::fill::{Fill, filled};
-use schema_core::{RefLeaf, Schema, Tree};
+use schema_trees::{RefLeaf, Schema, Tree};
 use std::alloc::{AllocError, Global};
 use std::marker::PhantomData;
 
@@ -27,7 +27,7 @@ struct Copies<L> {
 }
 
 impl<L: CopyLeaf> Fill for Copies<L> {
-    ghost use Rattle.schema_core.specs.Schema as tree;
+    ghost use Rattle.schema_trees.specs.Schema as tree;
 
     type Hole = L;
 
@@ -56,7 +56,7 @@ pub fn copied<L: CopyLeaf>(alloc: Global, tree: &Tree<L>) -> Result<Tree<L>, All
 }
 
 impl CopyLeaf for RefLeaf {
-    ghost use Rattle.schema_core.specs.declared.tree.RefLeaf.{RefLeaf as Reference};
+    ghost use Rattle.schema_trees.specs.declared.tree.RefLeaf.{RefLeaf as Reference};
 
     ghost Meaning = { Reference };
 

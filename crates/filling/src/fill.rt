@@ -1,9 +1,9 @@
 //! Schemas put at the leaves of a schema.
 
 ghost use Rattle.std.specs.Prelude.{◌≡◌, IfOk};
-ghost use Rattle.schema_core.specs.Schema.{SchemaOf, bind, bind_schemas, bind_properties, bind_part, tree_view, object_view, array_view, one_of_view, all_of_view, additional_view, array_items_view, optional_view, tree_views, named_views};
+ghost use Rattle.schema_trees.specs.Schema.{SchemaOf, bind, bind_schemas, bind_properties, bind_part, tree_view, object_view, array_view, one_of_view, all_of_view, additional_view, array_items_view, optional_view, tree_views, named_views};
 
-use schema_core::{Additional, AllOfSchema, Array, ArrayItems, Object, OneOfSchema, Tree};
+use schema_trees::{Additional, AllOfSchema, Array, ArrayItems, Object, OneOfSchema, Tree};
 use std::alloc::{AllocError, Global};
 use texts::{List, Text};
 

@@ -10,7 +10,7 @@ use Rattle.acceptance.specs.Json.{Json, Members, no_members, member, put, put_gi
 use Rattle.texts.specs.Names.{is_in}
 use Rattle.acceptance.specs.Keyword.{keyword_of, other}
 use Rattle.acceptance.specs.Acceptance.{keyword_holds, accepts_with, members_hold, properties_accept, prefix_accepts, all_accept, one_accepts, reference_holds, each_property}
-use Rattle.schema_core.specs.declared.notes.Annotations.{Annotations as Notes}
+use Rattle.schema_trees.specs.declared.notes.Annotations.{Annotations as Notes}
 use Rattle.schema_core.specs.Form.{put_fields, note_fields}
 
 or-swap : (a b c : Bool) → (a || (b || c)) ≡ (b || (a || c))

@@ -8,11 +8,11 @@ use Rattle.texts.specs.Names.{is_in, IsDistinct}
 use Rattle.acceptance.specs.Acceptance.{kinds_of, texts_of, if_texts, keyword_holds, names_of, named, count_of, prefix_count, others_pass, names_pass, in_order, each_accepts, accepts_with, readings_of}
 use Rattle.acceptance.specs.Keyword.{keyword_of, other}
 use Rattle.acceptance.specs.Acceptance.{some_accepts as some_json_accepts}
-use Rattle.schema_core.specs.declared.notes.Annotations.{Annotations as Notes}
-use Rattle.schema_core.specs.declared.tree.TypeWord.{TypeWord}
-use Rattle.schema_core.specs.declared.tree.TypeWord.TheVariants.{Any, One, Nullable}
-use Rattle.schema_core.specs.declared.tree.RefLeaf.{RefLeaf}
-use Rattle.schema_core.specs.Schema.{SchemaOf, leaf, object, array, one_of, all_of, SchemasOf, no_schemas, schema, schema_count, PropertiesOf, no_properties, property, property_names, PartOf, no_part, truth, part}
+use Rattle.schema_trees.specs.declared.notes.Annotations.{Annotations as Notes}
+use Rattle.schema_trees.specs.declared.tree.TypeWord.{TypeWord}
+use Rattle.schema_trees.specs.declared.tree.TypeWord.TheVariants.{Any, One, Nullable}
+use Rattle.schema_trees.specs.declared.tree.RefLeaf.{RefLeaf}
+use Rattle.schema_trees.specs.Schema.{SchemaOf, leaf, object, array, one_of, all_of, SchemasOf, no_schemas, schema, schema_count, PropertiesOf, no_properties, property, property_names, PartOf, no_part, truth, part}
 use Rattle.schema_core.specs.Form.{word_text, type_form, texts_form, required_form, entries_form, value_items, values_form, true_form, schemas_form, array_word, put_fields, note_fields, object_fields, array_fields, one_of_fields, all_of_fields, reference_fields, form, part_form, schema_forms, property_forms}
 use Rattle.schema_core.specs.Meaning.{word_accepts, enum_accepts, unique_accepts, max_items_accepts, min_items_accepts, minimum_accepts, bounds_accept, required_accepts, tree_accepts, where_given, each_in_order, all_accept, some_accepts, properties_accept, IsProper, IsPartProper, AreProper, ArePropertiesProper}
 use Rattle.std.proofs.lemmas.Slice.Eq.{bytes_eq-Decides}

@@ -5,7 +5,6 @@ pub mod Found
 pub mod Puts
 pub mod Refers
 pub mod Values
-pub mod WholeLaws
 mod Placed
 mod Plain
 mod Writes

@@ -9,10 +9,10 @@ use Rattle.json.specs.Print.{quoted}
 use Rattle.serde_json.specs.Written.{compact_text, members_text, comma_if}
 use Rattle.acceptance.specs.Json.{Json, null, Members, no_members, member, put, put_all}
 use Rattle.acceptance.specs.Data.{data_of, members_data}
-use Rattle.schema_core.specs.declared.tree.Tree.{Tree}
-use Rattle.schema_core.specs.declared.tree.RefLeaf.{RefLeaf}
+use Rattle.schema_trees.specs.declared.tree.Tree.{Tree}
+use Rattle.schema_trees.specs.declared.tree.RefLeaf.{RefLeaf}
 use Rattle.schema_core.specs.Form.{form, property_forms}
-use Rattle.schema_core.specs.Schema.{named_views, schema_view}
+use Rattle.schema_trees.specs.Schema.{named_views, schema_view}
 use Rattle.schema_core.specs.Writes.{places_from}
 
 abbrev Place : Type 0

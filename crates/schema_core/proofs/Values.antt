@@ -5,15 +5,15 @@ use Rattle.serde_json.specs.Data.{Data, string, item as data_item, put as put_da
 use Rattle.serde_json.specs.View.{items_of}
 use Rattle.acceptance.specs.Json.{Json, list, Members, put, put_all, no_members, map_of}
 use Rattle.acceptance.specs.Data.{data_of, items_data, members_data}
-use Rattle.schema_core.specs.declared.tree.Tree.{Tree, the_lemmas}
-use Rattle.schema_core.specs.declared.tree.Additional.TheVariants.{Truth, Of}
-use Rattle.schema_core.specs.declared.tree.ArrayItems.TheVariants.{False, Each}
-use Rattle.schema_core.specs.declared.tree.OneOfSchema.{OneOfSchema}
-use Rattle.schema_core.specs.declared.tree.AllOfSchema.{AllOfSchema}
-use Rattle.schema_core.specs.declared.tree.Array.{Array}
-use Rattle.schema_core.specs.declared.tree.Object.{Object}
-use Rattle.schema_core.specs.declared.tree.RefLeaf.{RefLeaf}
-use Rattle.schema_core.specs.Schema.{object_facts, ArrayFacts, object, array, one_of, all_of, truth, part, one_of_view, all_of_view, object_view, array_view, additional_view, array_items_view, optional_view, schema_view, tree_views, named_views}
+use Rattle.schema_trees.specs.declared.tree.Tree.{Tree, the_lemmas}
+use Rattle.schema_trees.specs.declared.tree.Additional.TheVariants.{Truth, Of}
+use Rattle.schema_trees.specs.declared.tree.ArrayItems.TheVariants.{False, Each}
+use Rattle.schema_trees.specs.declared.tree.OneOfSchema.{OneOfSchema}
+use Rattle.schema_trees.specs.declared.tree.AllOfSchema.{AllOfSchema}
+use Rattle.schema_trees.specs.declared.tree.Array.{Array}
+use Rattle.schema_trees.specs.declared.tree.Object.{Object}
+use Rattle.schema_trees.specs.declared.tree.RefLeaf.{RefLeaf}
+use Rattle.schema_trees.specs.Schema.{object_facts, ArrayFacts, object, array, one_of, all_of, truth, part, one_of_view, all_of_view, object_view, array_view, additional_view, array_items_view, optional_view, schema_view, tree_views, named_views}
 use Rattle.schema_core.specs.Form.{form, schema_forms, property_forms, required_form, texts_form, value_items, schemas_form, entries_form}
 use Rattle.schema_core.proofs.Puts.{data_put}
 

@@ -8,8 +8,8 @@ use Rattle.serde_json.specs.Written.{compact_text, members_text, comma_if}
 use Rattle.acceptance.specs.Json.{Json, text, list, no_items, item, Members, no_members, member, put, put_given}
 use Rattle.acceptance.specs.Data.{data_of, members_data}
 use Rattle.schema_core.specs.Form.{put_fields, fields_form, word_text}
-use Rattle.schema_core.specs.declared.tree.SchemaTypeInner.{SchemaTypeInner}
-use Rattle.schema_core.specs.declared.tree.SchemaTypeInner.TheVariants as word
+use Rattle.schema_trees.specs.declared.tree.SchemaTypeInner.{SchemaTypeInner}
+use Rattle.schema_trees.specs.declared.tree.SchemaTypeInner.TheVariants as word
 use Rattle.schema_core.specs.Writes.{key_text, field_text, goes_on, fields_text, is_later, Writes}
 use Rattle.schema_core.proofs.EntryLaws.{compare}
 

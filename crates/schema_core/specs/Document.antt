@@ -4,8 +4,8 @@ use Rattle.serde_json.specs.Data.{string}
 use Rattle.serde_json.specs.Written.{compact_text, comma_if}
 use Rattle.acceptance.specs.Json.{Json, map_of}
 use Rattle.acceptance.specs.Data.{data_of}
-use Rattle.schema_core.specs.declared.tree.RefLeaf.{RefLeaf}
-use Rattle.schema_core.specs.Schema.{SchemaOf}
+use Rattle.schema_trees.specs.declared.tree.RefLeaf.{RefLeaf}
+use Rattle.schema_trees.specs.Schema.{SchemaOf}
 use Rattle.schema_core.specs.Form.{form}
 
 -- a name and the schema of its component

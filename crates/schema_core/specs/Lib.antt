@@ -1,13 +1,6 @@
-pub mod Bound
-pub mod Bounds
 pub mod Document
 pub mod Entries
 pub mod Form
 pub mod Meaning
 pub mod Members
-pub mod Notes
-pub mod Objects
-pub mod Schema
-pub mod Whole
 pub mod Writes
-pub mod proved

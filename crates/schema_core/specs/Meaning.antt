@@ -5,11 +5,11 @@ use Rattle.acceptance.specs.Json.{Json, names, look, same, distinct, on_map, on_
 use Rattle.texts.specs.Names.{is_in, IsDistinct}
 use Rattle.acceptance.specs.Acceptance.{kinds_of, others_pass, names_pass, accepts_with, component_schema}
 use Rattle.acceptance.specs.References.{EachReference}
-use Rattle.schema_core.specs.declared.bounds.Bounds.{Bounds}
-use Rattle.schema_core.specs.declared.tree.TypeWord.{TypeWord}
-use Rattle.schema_core.specs.declared.tree.TypeWord.TheVariants.{Any, One, Nullable}
-use Rattle.schema_core.specs.declared.tree.RefLeaf.{RefLeaf}
-use Rattle.schema_core.specs.Schema.{SchemaOf, leaf, object, array, one_of, all_of, SchemasOf, no_schemas, schema, schema_count, PropertiesOf, no_properties, property, property_names, PartOf, no_part, truth, part, EachLeaf}
+use Rattle.schema_trees.specs.declared.bounds.Bounds.{Bounds}
+use Rattle.schema_trees.specs.declared.tree.TypeWord.{TypeWord}
+use Rattle.schema_trees.specs.declared.tree.TypeWord.TheVariants.{Any, One, Nullable}
+use Rattle.schema_trees.specs.declared.tree.RefLeaf.{RefLeaf}
+use Rattle.schema_trees.specs.Schema.{SchemaOf, leaf, object, array, one_of, all_of, SchemasOf, no_schemas, schema, schema_count, PropertiesOf, no_properties, property, property_names, PartOf, no_part, truth, part, EachLeaf}
 use Rattle.schema_core.specs.Form.{word_text, array_word, form}
 use Rattle.schema_core.specs.Document.{Entry, document}
 use Rattle.schema_core.specs.Entries.{names_of, find}

@@ -7,7 +7,7 @@ use Rattle.json.specs.Print.{quoted}
 use Rattle.serde_json.specs.Written.{compact_text, comma_if}
 use Rattle.acceptance.specs.Json.{Json, boolean, text}
 use Rattle.acceptance.specs.Data.{data_of}
-use Rattle.schema_core.specs.declared.notes.Annotations.{Annotations as Notes}
+use Rattle.schema_trees.specs.declared.notes.Annotations.{Annotations as Notes}
 use Rattle.schema_core.specs.Form.{values_form}
 
 -- the byte stands in a JSON string as it is: it is no quote, no backslash and no control character

@@ -9,13 +9,13 @@ ghost use Rattle.acceptance.specs.Json.{put_all, no_members};
 ghost use Rattle.acceptance.specs.Data.{data_of, members_data};
 ghost use Rattle.schema_core.specs.Document.{document, entry_form, entry_text, entries_text, text_of};
 ghost use Rattle.schema_core.specs.Entries.{entries_of, names_of, find, with_entry, IsInOrder};
-ghost use Rattle.schema_core.specs.Schema.{schema_view};
+ghost use Rattle.schema_trees.specs.Schema.{schema_view};
 
 use crate::form::schema_value;
 use crate::members::{object_of, put};
 use crate::pushes::{push_comma, push_words};
 use crate::schema_text::push_schema;
-use crate::tree::Schema;
+use schema_trees::Schema;
 use serde_json::{Map, Value};
 use std::alloc::{AllocError, Global};
 use std::cmp::Ordering;
@@ -32,11 +32,11 @@ pub struct Components {
 impl Model for Components {
     ghost use Rattle.std.specs.Prelude.{◌≡◌, ℕ, List as Items, length, map};
     ghost use Rattle.std.specs.Coded.{coded_list, coded×, coded_ℕ};
-    ghost use Rattle.schema_core.specs.proved.Code.{coded_schema};
+    ghost use Rattle.schema_trees.specs.proved.Code.{coded_schema};
     ghost use Rattle.schema_core.specs.Entries.{entries_of, IsInOrder};
-    ghost use Rattle.schema_core.specs.Schema.{SchemaOf, schema_view};
-    ghost use Rattle.schema_core.specs.contracts.tree.RefLeaf as reference;
-    ghost use Rattle.schema_core.specs.declared.tree.RefLeaf.{RefLeaf};
+    ghost use Rattle.schema_trees.specs.Schema.{SchemaOf, schema_view};
+    ghost use Rattle.schema_trees.specs.contracts.tree.RefLeaf as reference;
+    ghost use Rattle.schema_trees.specs.declared.tree.RefLeaf.{RefLeaf};
 
     ghost Value = { Items (Items ℕ × SchemaOf RefLeaf) };
 

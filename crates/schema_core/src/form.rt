@@ -5,19 +5,16 @@ ghost use Rattle.serde_json.specs.View.{view, members_view, items_view};
 ghost use Rattle.serde_json.specs.Data.{put as put_data};
 ghost use Rattle.acceptance.specs.Json.{Json, text as json_text, number, list as json_list, put_given, put_all, no_members, map_of};
 ghost use Rattle.acceptance.specs.Data.{data_of, members_data, items_data};
-ghost use Rattle.schema_core.specs.Schema.{leaf, schema_view, object_view, array_view, one_of_view, all_of_view, additional_view, array_items_view, optional_view, tree_views, named_views};
+ghost use Rattle.schema_trees.specs.Schema.{leaf, schema_view, object_view, array_view, one_of_view, all_of_view, additional_view, array_items_view, optional_view, tree_views, named_views};
 ghost use Rattle.schema_core.specs.Form.{form, note_fields, bound_fields, schema_forms, part_form, value_items, values_form, schemas_form, property_forms, word_text, type_form, texts_form, required_form, entries_form, reference_text, array_word};
 ghost use Rattle.schema_core.specs.Members.{Puts};
 
-use crate::bounds::Bounds;
-use crate::json_value::Json;
 use crate::members::{
     put, put_bound, put_given, put_json, put_text, put_true, put_truth, text_value,
 };
-use crate::notes::{Annotations, Notes};
-use crate::tree::{
-    Additional, AllOfSchema, Array, ArrayItems, Object, OneOfSchema, RefLeaf, Schema,
-    SchemaTypeInner, Tree, TypeWord,
+use schema_trees::{
+    Additional, AllOfSchema, Annotations, Array, ArrayItems, Bounds, Json, Notes, Object,
+    OneOfSchema, RefLeaf, Schema, SchemaTypeInner, Tree, TypeWord,
 };
 use serde_json::{Map, Value};
 use std::alloc::{AllocError, Global};

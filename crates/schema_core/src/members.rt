@@ -8,8 +8,7 @@ ghost use Rattle.acceptance.specs.Data.{data_of};
 ghost use Rattle.schema_core.specs.Form.{true_form};
 ghost use Rattle.schema_core.specs.Members.{Puts};
 
-use crate::bound::Bound;
-use crate::json_value::Json;
+use schema_trees::{Bound, Json};
 use serde_json::{Map, Value};
 use std::alloc::{AllocError, Global};
 use texts::Text;

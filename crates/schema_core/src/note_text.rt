@@ -4,8 +4,8 @@ ghost use Rattle.std.specs.Prelude.{◌≡◌, ◌∷◌, [], codes, IfOk, optio
 ghost use Rattle.acceptance.specs.Json.{boolean, text as json_text};
 ghost use Rattle.schema_core.specs.Writes.{Writes, first_notes, example_notes};
 
-use crate::notes::{Annotations, Notes};
 use crate::pushes::{push_json, push_jsons, push_text, push_truth};
+use schema_trees::{Annotations, Notes};
 use std::alloc::{AllocError, Global};
 
 /// Adds the annotations whose names stand first.

@@ -8,9 +8,8 @@ ghost use Rattle.acceptance.specs.Data.{data_of, items_data};
 ghost use Rattle.schema_core.specs.Form.{true_form, texts_form, value_items, values_form};
 ghost use Rattle.schema_core.specs.Writes.{IsPlain, WritesAt};
 
-use crate::bound::Bound;
-use crate::json_value::Json;
 use crate::members::text_value;
+use schema_trees::{Bound, Json};
 use serde_json::Value;
 use std::alloc::{AllocError, Global};
 use texts::{List, Text};

@@ -5,7 +5,7 @@ ghost use Rattle.serde_json.specs.Written.{compact_text, items_text};
 ghost use Rattle.acceptance.specs.Json.{map_of};
 ghost use Rattle.acceptance.specs.Data.{data_of, items_data};
 ghost use Rattle.schema_core.specs.Form.{entries_form, form, part_form, property_forms, required_form, schema_forms, schemas_form, type_form};
-ghost use Rattle.schema_core.specs.Schema.{leaf, schema_view, object_view, array_view, one_of_view, all_of_view, additional_view, array_items_view, optional_view, tree_views, named_views};
+ghost use Rattle.schema_trees.specs.Schema.{leaf, schema_view, object_view, array_view, one_of_view, all_of_view, additional_view, array_items_view, optional_view, tree_views, named_views};
 ghost use Rattle.schema_core.specs.Writes.{Writes, places_from};
 
 use crate::form::{array_word, word_of};
@@ -16,7 +16,7 @@ use crate::pushes::{
     push_bound, push_comma, push_jsons, push_key, push_text, push_texts, push_true, push_truth,
     push_words,
 };
-use crate::tree::{
+use schema_trees::{
     Additional, AllOfSchema, Array, ArrayItems, Object, OneOfSchema, RefLeaf, Schema, Tree,
     TypeWord,
 };

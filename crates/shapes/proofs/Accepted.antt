@@ -5,12 +5,12 @@ use Rattle.std.proofs.Math.Dec.{leb-zero, leb-suc-zero, leb-suc-suc}
 use Rattle.acceptance.specs.Acceptance.{others_pass, names_pass}
 use Rattle.acceptance.specs.Json.{Json, Members, null, boolean, number, text, list, map, entries, names, look, distinct, on_map, on_list, if_there}
 use Rattle.texts.specs.Names.{is_in}
-use Rattle.schema_core.specs.declared.tree.SchemaTypeInner.TheVariants as word
-use Rattle.schema_core.specs.declared.tree.TypeWord.TheVariants.{Any, One}
-use Rattle.schema_core.specs.declared.notes.Annotations.{Annotations as Notes}
-use Rattle.schema_core.specs.Notes.{no_notes, noted, described}
-use Rattle.schema_core.specs.Schema.{SchemaOf, schema_count, property_names}
-use Rattle.schema_core.specs.Schema as tree
+use Rattle.schema_trees.specs.declared.tree.SchemaTypeInner.TheVariants as word
+use Rattle.schema_trees.specs.declared.tree.TypeWord.TheVariants.{Any, One}
+use Rattle.schema_trees.specs.declared.notes.Annotations.{Annotations as Notes}
+use Rattle.schema_trees.specs.Notes.{no_notes, noted, described}
+use Rattle.schema_trees.specs.Schema.{SchemaOf, schema_count, property_names}
+use Rattle.schema_trees.specs.Schema as tree
 use Rattle.schema_core.specs.Form.{array_word}
 use Rattle.schema_core.specs.Meaning.{each_in_order, word_accepts, minimum_accepts, required_accepts, tree_accepts, properties_accept}
 use Rattle.leaves.specs.declared.leaf.LeafKind.{LeafKind}
@@ -20,7 +20,7 @@ use Rattle.open_types.specs.Open.{Open, Opens, leaf, any_value, free_object, uni
 use Rattle.open_types.specs.Same.{same_type}
 use Rattle.open_types.specs.Laws.{SameIsEqual}
 use Rattle.component.specs.Leaves as named_leaf
-use Rattle.schema_core.specs.Objects.{only_word}
+use Rattle.schema_trees.specs.Objects.{only_word}
 use Rattle.component.specs.Places.{word_of, minimum_of, type_word, one_of_null, or_null, beside, in_place, declared, place, inline_places}
 use Rattle.shapes.specs.declared.remarks.Remarks.{Remarks}
 use Rattle.shapes.specs.Declarations.{MemberOf, FormOf, named_fields, unnamed_fields, no_fields, DeclarationOf, member_types, member_names}

@@ -4,10 +4,10 @@ use Rattle.std.specs.List.{list_all, list_any}
 use Rattle.acceptance.specs.Acceptance.{others_pass}
 use Rattle.acceptance.specs.Json.{Json, Members, null, boolean, number, text, list, map, entries, names, look, same, there, if_there}
 use Rattle.texts.specs.Names.{is_in}
-use Rattle.schema_core.specs.declared.notes.Annotations.{Annotations as Notes}
-use Rattle.schema_core.specs.Notes.{notes_of, no_notes, where_true}
-use Rattle.schema_core.specs.Schema.{SchemaOf, schemas_of, PropertiesOf, property_names}
-use Rattle.schema_core.specs.Schema as tree
+use Rattle.schema_trees.specs.declared.notes.Annotations.{Annotations as Notes}
+use Rattle.schema_trees.specs.Notes.{notes_of, no_notes, where_true}
+use Rattle.schema_trees.specs.Schema.{SchemaOf, schemas_of, PropertiesOf, property_names}
+use Rattle.schema_trees.specs.Schema as tree
 use Rattle.schema_core.specs.Meaning.{tree_accepts, some_accepts, properties_accept}
 use Rattle.open_types.specs.Laws.{SameIsEqual}
 use Rattle.component.specs.Leaves.{LeafOf}

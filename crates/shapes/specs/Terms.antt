@@ -1,19 +1,19 @@
 -- The schemas of declarations, over the declarations that their types name.
 use Rattle.std.specs.Prelude.{ℕ, List, [], ◌∷◌, ◌++◌, Bool, true, false, ◌&&◌, cond, pos, length, map, Some, None}
 use Rattle.acceptance.specs.Json.{Json, null, text}
-use Rattle.schema_core.specs.declared.tree.SchemaTypeInner.TheVariants as word
-use Rattle.schema_core.specs.declared.tree.TypeWord.TheVariants.{Any, One}
-use Rattle.schema_core.specs.declared.notes.Annotations.{Annotations as Notes}
-use Rattle.schema_core.specs.Schema.{Facts, SchemaOf, object, array, one_of, all_of, SchemasOf, no_schemas, schema, schemas_of, PropertiesOf, no_properties, property, PartOf, no_part, truth, part}
+use Rattle.schema_trees.specs.declared.tree.SchemaTypeInner.TheVariants as word
+use Rattle.schema_trees.specs.declared.tree.TypeWord.TheVariants.{Any, One}
+use Rattle.schema_trees.specs.declared.notes.Annotations.{Annotations as Notes}
+use Rattle.schema_trees.specs.Schema.{Facts, SchemaOf, object, array, one_of, all_of, SchemasOf, no_schemas, schema, schemas_of, PropertiesOf, no_properties, property, PartOf, no_part, truth, part}
 use Rattle.leaves.specs.declared.leaf.Leaf.{Leaf}
 use Rattle.leaves.specs.Leaves.{kind_of, format_of}
 use Rattle.open_types.specs.Open.{Open}
 use Rattle.open_types.specs.Open as types
 use Rattle.open_types.specs.Same.{same_type}
 use Rattle.component.specs.Leaves.{LeafOf}
-use Rattle.schema_core.specs.Bounds.{no_bounds}
-use Rattle.schema_core.specs.Notes.{notes_of, no_notes, where_true, noted, described, null_default}
-use Rattle.schema_core.specs.Objects.{word_facts, with_format, with_required, with_bounds, only_word}
+use Rattle.schema_trees.specs.Bounds.{no_bounds}
+use Rattle.schema_trees.specs.Notes.{notes_of, no_notes, where_true, noted, described, null_default}
+use Rattle.schema_trees.specs.Objects.{word_facts, with_format, with_required, with_bounds, only_word}
 use Rattle.component.specs.Places.{bounds_of, place}
 use Rattle.shapes.specs.declared.remarks.Remarks.{Remarks}
 use Rattle.shapes.specs.declared.tagging.Tagging.{Tagging}

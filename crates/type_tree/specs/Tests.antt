@@ -1,9 +1,9 @@
 -- What the name of a type says of its values (The Rust Reference, "Primitive types"; OpenAPI 3.1, "Data Types").
 use Rattle.std.specs.Prelude.{ℕ, Bool, true, false, List, Option, Some, None, cond}
-use Rattle.schema_core.specs.declared.tree.SchemaTypeInner.{SchemaTypeInner}
-use Rattle.schema_core.specs.declared.tree.SchemaTypeInner.TheVariants as word
-use Rattle.schema_core.specs.declared.tree.TypeWord.{TypeWord}
-use Rattle.schema_core.specs.declared.tree.TypeWord.TheVariants.{One, Nullable}
+use Rattle.schema_trees.specs.declared.tree.SchemaTypeInner.{SchemaTypeInner}
+use Rattle.schema_trees.specs.declared.tree.SchemaTypeInner.TheVariants as word
+use Rattle.schema_trees.specs.declared.tree.TypeWord.{TypeWord}
+use Rattle.schema_trees.specs.declared.tree.TypeWord.TheVariants.{One, Nullable}
 use Rattle.leaves.specs.Leaves.{leaf_of, kind_of}
 use Rattle.leaves.specs.declared.leaf.Leaf.{Leaf}
 use Rattle.leaves.specs.declared.leaf.LeafKind.{LeafKind}

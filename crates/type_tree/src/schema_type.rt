@@ -4,7 +4,7 @@ ghost use Rattle.type_tree.specs.Tests.{kind_named, is_leaf, is_whole, is_unsign
 
 use crate::path::SchemaPath;
 use leaves::{Leaf, LeafKind};
-use schema_core::{SchemaTypeInner, TypeWord};
+use schema_trees::{SchemaTypeInner, TypeWord};
 
 /// The path of a type, whose last identifier says what the type's values are, and whether null is one of them.
 #[derive(Clone, Copy, Debug)]

@@ -1,6 +1,6 @@
 use Rattle.std.proofs.Common.{◌≡◌, ◌<◌, ◌∙◌, length, map, take, get_or, ap, sym, subst, arith, rules}
 use Rattle.std.proofs.lemmas.List.{take_all, length-set}
-use Rattle.schema_core.specs.Schema.{schema_view}
+use Rattle.schema_trees.specs.Schema.{schema_view}
 use Rattle.inlining.specs.Inlining.{targets_of}
 use Rattle.closing.specs.Targets.{inlining_of}
 use Rattle.closing.specs.Closed.{declared_schema}

@@ -1,5 +1,5 @@
 use Rattle.std.proofs.Common.{◌<◌, ◌≤◌, length, ap, sym, arith}
-use Rattle.schema_core.specs.Schema.{schema_view}
+use Rattle.schema_trees.specs.Schema.{schema_view}
 use Rattle.closing.proofs.Made.{schema_at, schema_past}
 use Rattle.closing.proofs.closed.schema_at.Goals as goal
 

@@ -1,5 +1,5 @@
 use Rattle.std.proofs.Common.{ℕ, ◌≡◌, ◌<◌, ◌≤◌, length, map}
-use Rattle.schema_core.specs.Schema.{schema_view}
+use Rattle.schema_trees.specs.Schema.{schema_view}
 use Rattle.closing.specs.Closed.{schema_in, declared_schema}
 use Rattle.closing.proofs.Entered.{AreKnown, AreThere}
 use Rattle.closing.proofs.components.components_of.Given as goal

@@ -1,6 +1,6 @@
 use Rattle.std.proofs.Common.{◌≡◌, ap, ◌∙◌, map, take, arith}
 use Rattle.std.proofs.lemmas.Grind.{common_steps}
-use Rattle.schema_core.specs.Schema.{schemas_of}
+use Rattle.schema_trees.specs.Schema.{schemas_of}
 use Rattle.component.proofs.Places.{item_place, items_are}
 use Rattle.component.proofs.place.+place.Goals as goal
 

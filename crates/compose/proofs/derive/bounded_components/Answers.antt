@@ -1,5 +1,5 @@
 use Rattle.std.proofs.Common.{◌≡◌, ◌∙◌, List, map, ap, sym, subst}
-use Rattle.schema_core.specs.declared.tree.Tree.{Tree}
+use Rattle.schema_trees.specs.declared.tree.Tree.{Tree}
 use Rattle.component.specs.Leaves.{term_view}
 use Rattle.component.specs.declared.term.TermLeaf.{TermLeaf}
 use Rattle.derive_decl.specs.Views.{resolved_view}

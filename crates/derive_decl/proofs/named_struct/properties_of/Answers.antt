@@ -1,6 +1,6 @@
 use Rattle.std.proofs.Common.{◌≡◌, map, take, ap, ◌∙◌, arith}
 use Rattle.std.proofs.lemmas.Grind.{common_steps}
-use Rattle.schema_core.specs.Schema as tree
+use Rattle.schema_trees.specs.Schema as tree
 use Rattle.derive_decl.proofs.Members.{property_of, properties_are}
 use Rattle.derive_decl.proofs.named_struct.properties_of.Goals as goal
 

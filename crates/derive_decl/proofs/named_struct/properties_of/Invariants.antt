@@ -1,5 +1,5 @@
 use Rattle.std.proofs.Common.{◌≡◌, map, take}
-use Rattle.schema_core.specs.Schema.{named_view}
+use Rattle.schema_trees.specs.Schema.{named_view}
 use Rattle.component.specs.Leaves.{leaf_view}
 use Rattle.derive_decl.proofs.Members.{property_of}
 use Rattle.derive_decl.proofs.named_struct.properties_of.Given as goal

@@ -1,7 +1,7 @@
 use Rattle.std.proofs.Common.{◌≡◌, map, take, ap, ◌∙◌, arith}
 use Rattle.std.proofs.lemmas.Grind.{common_steps}
-use Rattle.schema_core.specs.Notes.{no_notes}
-use Rattle.schema_core.specs.Schema.{schemas_of}
+use Rattle.schema_trees.specs.Notes.{no_notes}
+use Rattle.schema_trees.specs.Schema.{schemas_of}
 use Rattle.written_types.specs.declared.written.Ident.{Ident}
 use Rattle.shapes.specs.Terms.{tag_alone}
 use Rattle.derive_decl.proofs.Texts.{map-texts}

@@ -1,5 +1,5 @@
 use Rattle.std.proofs.Common.{◌≡◌, map, take}
-use Rattle.schema_core.specs.Notes.{no_notes}
+use Rattle.schema_trees.specs.Notes.{no_notes}
 use Rattle.component.specs.Leaves.{term_view}
 use Rattle.written_types.specs.declared.written.Ident.{Ident}
 use Rattle.shapes.specs.Terms.{tag_alone}

@@ -1,5 +1,5 @@
 use Rattle.std.proofs.Common.{◌≡◌, ◌∙◌, [], ◌∷◌, ap}
-use Rattle.schema_core.specs.Schema.{named_views}
+use Rattle.schema_trees.specs.Schema.{named_views}
 use Rattle.component.specs.Leaves.{leaf_view, term_view}
 use Rattle.shapes.specs.Terms.{texts_schema, tag_schema, with_property}
 use Rattle.derive_decl.proofs.TagLaws.{with-last}

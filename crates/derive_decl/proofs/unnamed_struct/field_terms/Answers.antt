@@ -2,7 +2,7 @@ use Rattle.std.proofs.Common.{◌≡◌, ap, sym, ◌∙◌, map, take, arith}
 use Rattle.std.proofs.lemmas.Grind.{common_steps}
 use Rattle.std.proofs.lemmas.Simd.{map-map}
 use Rattle.open_types.specs.Open.{open_view}
-use Rattle.schema_core.specs.Schema.{schemas_of}
+use Rattle.schema_trees.specs.Schema.{schemas_of}
 use Rattle.shapes.specs.Declarations.{no_remarks}
 use Rattle.shapes.specs.Terms.{field_term}
 use Rattle.derive_decl.proofs.unnamed_struct.field_terms.Goals as goal

@@ -1,7 +1,7 @@
 use Rattle.std.proofs.Common.{◌≡◌, ap, sym, ◌∙◌, map, take, arith}
 use Rattle.std.proofs.lemmas.Grind.{common_steps}
 use Rattle.std.proofs.lemmas.Simd.{map-map}
-use Rattle.schema_core.specs.Schema.{schemas_of}
+use Rattle.schema_trees.specs.Schema.{schemas_of}
 use Rattle.shapes.specs.Terms.{variant_term}
 use Rattle.derive_decl.specs.Views.{variant_schema_view}
 use Rattle.derive_decl.proofs.variant_term.variant_terms.Goals as goal

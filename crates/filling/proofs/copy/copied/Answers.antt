@@ -1,5 +1,5 @@
 use Rattle.std.proofs.Common.{◌≡◌, IfOk, subst}
-use Rattle.schema_core.specs.Schema.{tree_view}
+use Rattle.schema_trees.specs.Schema.{tree_view}
 use Rattle.filling.proofs.SameLeaves.{bind-leaf}
 use Rattle.filling.proofs.copy.copied.Goals as goal
 

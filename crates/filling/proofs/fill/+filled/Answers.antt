@@ -1,6 +1,6 @@
 use Rattle.std.proofs.Common.{◌≡◌, ◌<◌, ap, sym, ◌∙◌, length, map, take, arith}
 use Rattle.std.proofs.lemmas.Grind.{common_steps}
-use Rattle.schema_core.specs.Schema.{bind, named_view, schemas_of, properties_of}
+use Rattle.schema_trees.specs.Schema.{bind, named_view, schemas_of, properties_of}
 use Rattle.filling.proofs.Filling.{object_view-is, filled_of, property_of, schemas_are, properties_are, one_more}
 use Rattle.filling.proofs.fill.+filled.Goals as goal
 

@@ -1,5 +1,5 @@
 use Rattle.std.proofs.Common.{◌≡◌, map, take}
-use Rattle.schema_core.specs.Schema.{tree_view, named_view}
+use Rattle.schema_trees.specs.Schema.{tree_view, named_view}
 use Rattle.filling.proofs.Filling.{filled_of, property_of}
 use Rattle.filling.proofs.fill.+filled.Given as goal
 

@@ -2,7 +2,7 @@ use Rattle.std.proofs.Common.{◌≡◌, ◌<◌, ◌++◌, ap, ap₂, sym, ◌�
 use Rattle.std.proofs.lemmas.List.{length-map, get_or-map}
 use Rattle.schema_core.specs.Document.{entry_text, entries_text}
 use Rattle.schema_core.specs.Entries.{entries_of}
-use Rattle.schema_core.specs.Schema.{schema_view}
+use Rattle.schema_trees.specs.Schema.{schema_view}
 use Rattle.schema_core.proofs.EntryLaws.{entry_at, length-entries, take_all_past}
 use Rattle.schema_core.proofs.Written.{one_more}
 use Rattle.schema_core.proofs.components.push_entries.Goals as goal

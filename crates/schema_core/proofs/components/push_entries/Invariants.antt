@@ -1,7 +1,7 @@
 use Rattle.std.proofs.Common.{◌≡◌, ◌++◌, false, take, map, string_bytes}
 use Rattle.schema_core.specs.Document.{entries_text}
 use Rattle.schema_core.specs.Entries.{entries_of}
-use Rattle.schema_core.specs.Schema.{schema_view}
+use Rattle.schema_trees.specs.Schema.{schema_view}
 use Rattle.schema_core.proofs.components.push_entries.Given as goal
 
 -- the text so far has the entries so far

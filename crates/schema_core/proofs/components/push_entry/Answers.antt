@@ -4,7 +4,7 @@ use Rattle.serde_json.specs.Data.{string}
 use Rattle.serde_json.specs.Written.{compact_text}
 use Rattle.acceptance.specs.Data.{data_of}
 use Rattle.schema_core.specs.Form.{form}
-use Rattle.schema_core.specs.Schema.{schema_view}
+use Rattle.schema_trees.specs.Schema.{schema_view}
 use Rattle.schema_core.proofs.components.push_entry.Goals as goal
 
 pub returns : goal.returns

@@ -4,7 +4,7 @@ use Rattle.acceptance.specs.Json.{put_all, no_members}
 use Rattle.acceptance.specs.Data.{members_data}
 use Rattle.schema_core.specs.Document.{entry_form}
 use Rattle.schema_core.specs.Entries.{entries_of}
-use Rattle.schema_core.specs.Schema.{schema_view}
+use Rattle.schema_trees.specs.Schema.{schema_view}
 use Rattle.schema_core.proofs.components.schema_values.Given as goal
 
 -- the members so far are those of the entries so far

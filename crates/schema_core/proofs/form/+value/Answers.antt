@@ -4,7 +4,7 @@ use Rattle.serde_json.specs.Data.{object as data_object, array as data_array}
 use Rattle.serde_json.specs.View.{view, members_view, items_of}
 use Rattle.acceptance.specs.Json.{put_all, no_members}
 use Rattle.acceptance.specs.Data.{data_of, members_data}
-use Rattle.schema_core.specs.Schema.{named_views, tree_views, additional_view, optional_view, array_items_view}
+use Rattle.schema_trees.specs.Schema.{named_views, tree_views, additional_view, optional_view, array_items_view}
 use Rattle.schema_core.specs.Form.{form, type_form, required_form, entries_form, values_form, schemas_form, array_word, part_form, schema_forms, property_forms}
 use Rattle.serde_json.proofs.Views.{view-Array}
 use Rattle.schema_core.proofs.Puts.{object_is}

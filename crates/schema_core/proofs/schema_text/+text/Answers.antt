@@ -7,7 +7,7 @@ use Rattle.serde_json.specs.Written.{compact_text, items_text, members_text}
 use Rattle.acceptance.specs.Json.{boolean, list, map_of, put_all, no_members}
 use Rattle.acceptance.specs.Data.{data_of, items_data, members_data}
 use Rattle.schema_core.specs.Form.{form, type_form, array_word, required_form, entries_form, schemas_form, part_form, schema_forms, property_forms, object_fields, array_fields, one_of_fields, all_of_fields}
-use Rattle.schema_core.specs.Schema.{object_facts, schema_view, named_views, tree_views, additional_view, optional_view, array_items_view}
+use Rattle.schema_trees.specs.Schema.{object_facts, schema_view, named_views, tree_views, additional_view, optional_view, array_items_view}
 use Rattle.schema_core.specs.Writes.{Writes, places_from}
 use Rattle.schema_core.proofs.Values.{additional-truth, additional-of, items-false, items-each, one_of_view-is, all_of_view-is, object_view-is, array_view-is, array_facts_of, some_schemas, some_entries, length-properties}
 use Rattle.schema_core.proofs.Placed.{place_of, placed_text, placed_step, places_text, places_below, property_names_are, value_at-property}

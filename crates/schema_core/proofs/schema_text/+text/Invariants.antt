@@ -3,7 +3,7 @@ use Rattle.std.specs.List.{AllByRecursion}
 use Rattle.serde_json.specs.Written.{items_text}
 use Rattle.acceptance.specs.Data.{items_data}
 use Rattle.schema_core.specs.Form.{schema_forms, property_forms}
-use Rattle.schema_core.specs.Schema.{tree_views, named_views}
+use Rattle.schema_trees.specs.Schema.{tree_views, named_views}
 use Rattle.schema_core.proofs.Placed.{placed_text, place_of}
 use Rattle.schema_core.proofs.schema_text.+text.Given as goal
 

@@ -1,6 +1,6 @@
 use Rattle.std.proofs.Common.{◌≡◌, [], ◌<◌, ap, sym, ◌∙◌, subst, length, get_or}
 use Rattle.schema_core.specs.Entries.{find}
-use Rattle.schema_core.specs.Schema.{schema_view}
+use Rattle.schema_trees.specs.Schema.{schema_view}
 use Rattle.schema_core.proofs.EntryLaws.{found_at, absent_at, splits, Splits}
 use Rattle.schema_core.proofs.components.Components.get.Goals as goal
 

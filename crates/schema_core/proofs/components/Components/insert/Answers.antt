@@ -1,7 +1,7 @@
 use Rattle.std.proofs.Common.{◌≡◌, ◌<◌, [], ap, sym, ◌∙◌, subst, length, get_or, insert, map, refl, suc, rules}
 use Rattle.std.proofs.lemmas.Bool.{false≢true}
 use Rattle.schema_core.specs.Entries.{find, entries_of, with_entry, IsInOrder}
-use Rattle.schema_core.specs.Schema.{schema_view}
+use Rattle.schema_trees.specs.Schema.{schema_view}
 use Rattle.schema_core.proofs.EntryLaws.{still_present_at, absent_at, inserted_at, splits, Splits, in_order-insert, length-insert}
 use Rattle.schema_core.proofs.components.Components.insert.Goals as goal
 use Rattle.schema_core.proofs.components.Components.insert.Goals.{In_ok-insert_both-in-Err}

@@ -1,7 +1,7 @@
 use Rattle.std.proofs.Common.{sym, ap, ◌∙◌}
 use Rattle.std.proofs.lemmas.List.{length-map}
 use Rattle.schema_core.specs.Entries.{names_of}
-use Rattle.schema_core.specs.Schema.{schema_view}
+use Rattle.schema_trees.specs.Schema.{schema_view}
 use Rattle.schema_core.proofs.EntryLaws.{names_of-entries_of}
 use Rattle.schema_core.proofs.components.Components.names.Goals as goal
 

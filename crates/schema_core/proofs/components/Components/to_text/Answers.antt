@@ -2,7 +2,7 @@ use Rattle.std.proofs.Common.{◌≡◌, ◌++◌, ap, ap₂, sym, subst, string
 use Rattle.std.proofs.lemmas.List.{length-map}
 use Rattle.schema_core.specs.Document.{entries_text, document, text_of}
 use Rattle.schema_core.specs.Entries.{entries_of, names_of, IsInOrder}
-use Rattle.schema_core.specs.Schema.{schema_view}
+use Rattle.schema_trees.specs.Schema.{schema_view}
 use Rattle.schema_core.proofs.EntryLaws.{names_of-entries_of}
 use Rattle.schema_core.proofs.Written.{head, document_text}
 use Rattle.schema_core.proofs.components.Components.to_text.Goals as goal

@@ -1,9 +1,9 @@
 //! Objects by what they say without a schema.
 
 ghost use Rattle.std.specs.Prelude.{◌≡◌, [], IfOk, None};
-ghost use Rattle.schema_core.specs.Schema.{object_facts};
-ghost use Rattle.schema_core.specs.Objects.{word_facts};
-ghost use Rattle.schema_core.specs.declared.tree.Additional.TheVariants.{Absent};
+ghost use Rattle.schema_trees.specs.Schema.{object_facts};
+ghost use Rattle.schema_trees.specs.Objects.{word_facts};
+ghost use Rattle.schema_trees.specs.declared.tree.Additional.TheVariants.{Absent};
 
 use crate::bounds::Bounds;
 use crate::copies::{copy_jsons, copy_text, copy_texts};

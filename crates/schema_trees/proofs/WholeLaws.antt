@@ -7,7 +7,7 @@ use Rattle.serde_json.specs.Number.{num_of, is_valid}
 use Rattle.serde_json.specs.declared.number.N.{N}
 use Rattle.serde_json.specs.declared.number.N.TheVariants.{PosInt, NegInt, Float}
 use Rattle.acceptance.specs.Data.{number_of, data_of, json_of, items_data, json_items, members_data, json_members}
-use Rattle.schema_core.specs.Whole.{is_whole_number, is_whole, are_items_whole, are_members_whole}
+use Rattle.schema_trees.specs.Whole.{is_whole_number, is_whole, are_items_whole, are_members_whole}
 
 pub float_or_whole : (n : N) → is_valid n ≡ true → not (is_float (num_of n)) ≡ is_whole_number (num_of n)
 float_or_whole (PosInt n) h = refl

@@ -1,18 +1,18 @@
 -- Schemas as trees with leaves of any type, without where they lie in memory.
 use Rattle.std.specs.Prelude.{ℕ, zero, suc, ℤ, Bool, false, List, [], ◌∷◌, map, Option, Some, None, option_map}
 use Rattle.acceptance.specs.Json.{Json}
-use Rattle.schema_core.specs.declared.bounds.Bounds.{Bounds}
-use Rattle.schema_core.specs.declared.notes.Annotations.{Annotations as Notes}
-use Rattle.schema_core.specs.declared.tree.TypeWord.{TypeWord}
-use Rattle.schema_core.specs.declared.tree.RefLeaf.{RefLeaf}
-use Rattle.schema_core.specs.declared.tree.Tree.{Tree, fold-Tree}
-use Rattle.schema_core.specs.declared.tree.Object.{Object, fold-Object}
-use Rattle.schema_core.specs.declared.tree.Array.{Array, fold-Array}
-use Rattle.schema_core.specs.declared.tree.OneOfSchema.{OneOfSchema, fold-OneOfSchema}
-use Rattle.schema_core.specs.declared.tree.AllOfSchema.{AllOfSchema, fold-AllOfSchema}
-use Rattle.schema_core.specs.declared.tree.Additional.{Additional, fold-Additional}
-use Rattle.schema_core.specs.declared.tree.ArrayItems.{ArrayItems, fold-ArrayItems}
-use Rattle.schema_core.specs.declared.tree.Additional.TheOpen.{Additional-F, ArrayItems-F, Tree-F, AllOfSchema-F, Array-F, Object-F, OneOfSchema-F}
+use Rattle.schema_trees.specs.declared.bounds.Bounds.{Bounds}
+use Rattle.schema_trees.specs.declared.notes.Annotations.{Annotations as Notes}
+use Rattle.schema_trees.specs.declared.tree.TypeWord.{TypeWord}
+use Rattle.schema_trees.specs.declared.tree.RefLeaf.{RefLeaf}
+use Rattle.schema_trees.specs.declared.tree.Tree.{Tree, fold-Tree}
+use Rattle.schema_trees.specs.declared.tree.Object.{Object, fold-Object}
+use Rattle.schema_trees.specs.declared.tree.Array.{Array, fold-Array}
+use Rattle.schema_trees.specs.declared.tree.OneOfSchema.{OneOfSchema, fold-OneOfSchema}
+use Rattle.schema_trees.specs.declared.tree.AllOfSchema.{AllOfSchema, fold-AllOfSchema}
+use Rattle.schema_trees.specs.declared.tree.Additional.{Additional, fold-Additional}
+use Rattle.schema_trees.specs.declared.tree.ArrayItems.{ArrayItems, fold-ArrayItems}
+use Rattle.schema_trees.specs.declared.tree.Additional.TheOpen.{Additional-F, ArrayItems-F, Tree-F, AllOfSchema-F, Array-F, Object-F, OneOfSchema-F}
 
 -- what an object says without a schema
 pub record Facts : Type 0 where

@@ -1,10 +1,10 @@
 -- What objects say without a schema, and objects that say nothing else.
 use Rattle.std.specs.Prelude.{ℕ, List, [], Option, None}
-use Rattle.schema_core.specs.declared.bounds.Bounds.{Bounds}
-use Rattle.schema_core.specs.declared.notes.Annotations.{Annotations as Notes}
-use Rattle.schema_core.specs.declared.tree.TypeWord.{TypeWord}
-use Rattle.schema_core.specs.Bounds.{no_bounds}
-use Rattle.schema_core.specs.Schema.{Facts, SchemaOf, object, no_properties, no_part}
+use Rattle.schema_trees.specs.declared.bounds.Bounds.{Bounds}
+use Rattle.schema_trees.specs.declared.notes.Annotations.{Annotations as Notes}
+use Rattle.schema_trees.specs.declared.tree.TypeWord.{TypeWord}
+use Rattle.schema_trees.specs.Bounds.{no_bounds}
+use Rattle.schema_trees.specs.Schema.{Facts, SchemaOf, object, no_properties, no_part}
 
 -- a word of `type`, and notes
 abbrev pub word_facts : TypeWord → Notes → Facts

@@ -1,7 +1,7 @@
 -- What schemas say of themselves (JSON Schema 2020-12, Validation, 8 and 9). It binds no value.
 use Rattle.std.specs.Prelude.{ℕ, List, Bool, true, false, Option, Some, None}
 use Rattle.acceptance.specs.Json.{Json, null}
-use Rattle.schema_core.specs.declared.notes.Annotations.{Annotations as Notes}
+use Rattle.schema_trees.specs.declared.notes.Annotations.{Annotations as Notes}
 
 -- a description, a default, and whether what stands there is deprecated
 abbrev pub notes_of : Option (List ℕ) → Option Json → Option Bool → Notes

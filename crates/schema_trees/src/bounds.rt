@@ -1,5 +1,5 @@
 ghost use Rattle.std.specs.Prelude.{◌≡◌};
-ghost use Rattle.schema_core.specs.Bounds.{no_bounds};
+ghost use Rattle.schema_trees.specs.Bounds.{no_bounds};
 
 use crate::bound::Bound;
 

@@ -1,8 +1,8 @@
 use Rattle.std.proofs.Common.{◌≡◌, true, not, ap, sym, ◌∙◌}
 use Rattle.serde_json.specs.View.{view}
-use Rattle.schema_core.specs.Whole.{is_whole}
-use Rattle.schema_core.proofs.WholeLaws.{held-data}
-use Rattle.schema_core.proofs.json_value.Json.new.Goals as goal
+use Rattle.schema_trees.specs.Whole.{is_whole}
+use Rattle.schema_trees.proofs.WholeLaws.{held-data}
+use Rattle.schema_trees.proofs.json_value.Json.new.Goals as goal
 
 pub invariant_of-result : goal.invariant_of-result
 invariant_of-result c =

@@ -1,7 +1,7 @@
 ghost use Rattle.std.specs.Prelude.{◌≡◌, ℤ, pos, MatchOption};
 ghost use Rattle.serde_json.specs.View.{number_view};
 ghost use Rattle.acceptance.specs.Data.{num_of};
-ghost use Rattle.schema_core.specs.Bound.{IsShort};
+ghost use Rattle.schema_trees.specs.Bound.{IsShort};
 
 use serde_json::Number;
 use std::marker::Model;
@@ -50,7 +50,7 @@ impl Bound {
     }
 
     /// The number as `serde_json` holds it.
-    pub(crate) fn number(&self) -> Number
+    pub fn number(&self) -> Number
         ensures { number_view result ≡ num_of self.now }
     {
         match Number::from_i128(self.value) {

@@ -4,7 +4,7 @@ ghost use Rattle.serde_json.specs.Find.{is_float};
 ghost use Rattle.serde_json.specs.Written.{has_float, items_have_float, members_have_float};
 ghost use Rattle.acceptance.specs.Json.{null as json_null, text as json_text};
 ghost use Rattle.acceptance.specs.Data.{data_of};
-ghost use Rattle.schema_core.specs.Whole.{is_whole_number, is_whole, are_items_whole, are_members_whole};
+ghost use Rattle.schema_trees.specs.Whole.{is_whole_number, is_whole, are_items_whole, are_members_whole};
 
 use serde_json::{Map, Number, Value};
 use std::alloc::{AllocError, Global};
@@ -21,7 +21,7 @@ impl Model for Json {
     ghost use Rattle.serde_json.specs.View.{view as view_of};
     ghost use Rattle.acceptance.specs.Json.{Json as Meant};
     ghost use Rattle.acceptance.specs.Data.{data_of, json_of};
-    ghost use Rattle.schema_core.specs.proved.JsonCode.{coded_json};
+    ghost use Rattle.schema_trees.specs.proved.JsonCode.{coded_json};
 
     ghost Value = { Meant };
 

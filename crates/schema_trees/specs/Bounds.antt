@@ -1,6 +1,6 @@
 -- What binds the values of one type (JSON Schema 2020-12, Validation, 6.2).
 use Rattle.std.specs.Prelude.{ℤ, Option, None}
-use Rattle.schema_core.specs.declared.bounds.Bounds.{Bounds}
+use Rattle.schema_trees.specs.declared.bounds.Bounds.{Bounds}
 
 -- a least number, where there is one
 abbrev pub at_least : Option ℤ → Bounds

@@ -3,14 +3,14 @@ use Rattle.std.proofs.Common.{◌≡◌, ℕ, ℤ, Bool, List, Option, refl, ap,
 use Rattle.std.specs.Coded.{Coded, code_by, coded×, coded_ℕ, coded_ℤ, coded_bool, coded_list, coded_option}
 use base.Stored.{Gv, gnil, gnum, gcons}
 use Rattle.acceptance.specs.Json.{Json}
-use Rattle.schema_core.specs.contracts.bounds.Bounds as bounds
-use Rattle.schema_core.specs.contracts.notes.Annotations as notes
-use Rattle.schema_core.specs.contracts.tree.TypeWord as word
-use Rattle.schema_core.specs.declared.bounds.Bounds.{Bounds}
-use Rattle.schema_core.specs.declared.notes.Annotations.{Annotations as Notes}
-use Rattle.schema_core.specs.declared.tree.TypeWord.{TypeWord}
-use Rattle.schema_core.specs.proved.JsonCode.{head, tail, apart, coded_json}
-use Rattle.schema_core.specs.Schema.{Facts, ArrayFacts, SchemaOf, leaf, object, array, one_of, all_of, SchemasOf, no_schemas, schema, PropertiesOf, no_properties, property, PartOf, no_part, truth, part}
+use Rattle.schema_trees.specs.contracts.bounds.Bounds as bounds
+use Rattle.schema_trees.specs.contracts.notes.Annotations as notes
+use Rattle.schema_trees.specs.contracts.tree.TypeWord as word
+use Rattle.schema_trees.specs.declared.bounds.Bounds.{Bounds}
+use Rattle.schema_trees.specs.declared.notes.Annotations.{Annotations as Notes}
+use Rattle.schema_trees.specs.declared.tree.TypeWord.{TypeWord}
+use Rattle.schema_trees.specs.proved.JsonCode.{head, tail, apart, coded_json}
+use Rattle.schema_trees.specs.Schema.{Facts, ArrayFacts, SchemaOf, leaf, object, array, one_of, all_of, SchemasOf, no_schemas, schema, PropertiesOf, no_properties, property, PartOf, no_part, truth, part}
 
 abbrev pub coded_facts : Coded Facts
 coded_facts = code_by (TypeWord × (Option (List ℕ) × (Option (List Json) × (List (List ℕ) × (Bounds × Notes)))))

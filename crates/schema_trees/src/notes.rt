@@ -1,5 +1,5 @@
 ghost use Rattle.std.specs.Prelude.{◌≡◌, IfOk, option_map};
-ghost use Rattle.schema_core.specs.Notes.{no_notes, said_by};
+ghost use Rattle.schema_trees.specs.Notes.{no_notes, said_by};
 
 use crate::copies::{copy_json, copy_jsons, copy_text};
 use crate::json_value::Json;
@@ -86,9 +86,9 @@ pub struct Notes {
 
 impl Model for Notes {
     ghost use Rattle.std.specs.Prelude.{option_map};
-    ghost use Rattle.schema_core.specs.contracts.notes.Annotations as annotations;
-    ghost use Rattle.schema_core.specs.declared.notes.Annotations.{Annotations as Said};
-    ghost use Rattle.schema_core.specs.Notes.{said_by};
+    ghost use Rattle.schema_trees.specs.contracts.notes.Annotations as annotations;
+    ghost use Rattle.schema_trees.specs.declared.notes.Annotations.{Annotations as Said};
+    ghost use Rattle.schema_trees.specs.Notes.{said_by};
 
     ghost Value = { Said };
 

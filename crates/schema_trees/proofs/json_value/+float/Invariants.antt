@@ -1,8 +1,8 @@
 use Rattle.std.proofs.Common.{◌≡◌, drop}
 use Rattle.serde_json.specs.View.{items_view, members_view}
 use Rattle.serde_json.specs.Written.{items_have_float, members_have_float}
-use Rattle.schema_core.specs.Whole.{are_items_whole, are_members_whole}
-use Rattle.schema_core.proofs.json_value.+float.Given as goal
+use Rattle.schema_trees.specs.Whole.{are_items_whole, are_members_whole}
+use Rattle.schema_trees.proofs.json_value.+float.Given as goal
 
 -- what is left holds a float exactly if the whole does
 abbrev pub invariant-items_hold_float-loop-item : goal.invariant-items_hold_float-loop-item
