@@ -57,7 +57,7 @@ fn parts(alloc: Global, trees: &[TokenTree]) -> Result<Vec<&[TokenTree]>, AllocE
     Ok(found)
 }
 
-/// Whether serde knows no field and no variant with the word.
+/// Whether a schema has no member and no variant for what has the word.
 fn is_skip(tree: &TokenTree) -> bool
     ensures { result ≡ is_skip (tree_view tree.now) }
 {
