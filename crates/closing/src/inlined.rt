@@ -14,18 +14,6 @@ use shapes::Declared;
 use std::alloc::{AllocError, Global};
 use texts::{List, Text};
 
-/// The terms of the declarations, in their order.
-pub fn terms_of<D: Declared>(alloc: Global, declared: &[D]) -> Result<Vec<Term>, AllocError>
-    ensures { IfOk result
-        (λ terms. map term_view terms.items ≡ map (λ s. term (D.declaration s)) declared.now) }
-{
-    let mut terms = Vec::new(alloc);
-    for of in declared {
-        terms.push(of.term(alloc)?)?;
-    }
-    Ok(terms)
-}
-
 /// The declaration of the leaf, where its schema stands there itself.
 fn push_leaf(found: &mut List<usize>, leaf: &TermLeaf) -> Result<(), AllocError>
     ensures { OnOk result
@@ -137,13 +125,22 @@ fn targets_in(alloc: Global, term: &Term) -> Result<List<usize>, AllocError>
     Ok(found)
 }
 
-/// For each term the declarations whose schemas stand in it, as often as they stand there.
-pub fn inlining_of(alloc: Global, terms: &[Term]) -> Result<List<List<usize>>, AllocError>
-    ensures { IfOk result (λ targets. targets ≡ map (λ t. targets_in (term_view t)) terms.now) }
+/// The terms of the declarations, in their order, and for each of them the declarations whose schemas stand in it, as often
+/// as they stand there.
+pub fn terms_of<D: Declared>(
+    alloc: Global,
+    declared: &[D],
+) -> Result<(Vec<Term>, List<List<usize>>), AllocError>
+    ensures terms { IfOk result
+        (λ p. map term_view p.0.items ≡ map (λ s. term (D.declaration s)) declared.now) }
+    ensures targets { IfOk result (λ p. p.1 ≡ map (λ t. targets_in (term_view t)) p.0.items) }
 {
+    let mut terms = Vec::new(alloc);
     let mut targets = List::new(alloc);
-    for term in terms {
-        targets.push(targets_in(alloc, term)?)?;
+    for of in declared {
+        let term = of.term(alloc)?;
+        targets.push(targets_in(alloc, &term)?)?;
+        terms.push(term)?;
     }
-    Ok(targets)
+    Ok((terms, targets))
 }

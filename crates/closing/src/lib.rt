@@ -9,5 +9,5 @@ mod inlined;
 mod law;
 
 pub use components::components_of;
-pub use inlined::{inlining_of, terms_of};
+pub use inlined::terms_of;
 pub use law::{components_describe, inlined_accept, references_accept, targets_are_declared};

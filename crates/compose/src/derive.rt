@@ -19,7 +19,7 @@ ghost use Rattle.compose.specs.Types.{AreTypesOf};
 
 use crate::bounds::inline_order_of;
 use crate::types::types_of;
-use closing::{components_of, inlining_of, terms_of};
+use closing::{components_of, terms_of};
 use configuration::Config;
 use derive_decl::{Resolved, only_derivable, resolved_declarations};
 use diag::DeriveError;
@@ -106,8 +106,7 @@ fn bounded_components(
         (IsUnbounded config.now idents.now (map resolved_view resolved.now)) }
 {
     closing::targets_are_declared();
-    let terms = terms_of(alloc, resolved)?;
-    let targets = inlining_of(alloc, terms.as_slice())?;
+    let (terms, targets) = terms_of(alloc, resolved)?;
     let order = inline_order_of(alloc, idents, resolved, targets.as_slice(), config)?;
     Ok(components_of(alloc, resolved, terms, order.as_slice())?)
 }
