@@ -1,17 +1,18 @@
-//! Types without parameters, and how they read.
+//! Types without parameters: how they read, and their numbers in a table.
 
 ghost use Rattle.std.specs.Prelude.{◌≡◌, IfOk};
-ghost use Rattle.open_types.specs.Open.{open_view, items, named, no_types, more_types, param};
+ghost use Rattle.open_types.specs.Open.{open_view, items, leaf, named, no_types, more_types, param};
 ghost use Rattle.open_types.specs.declared.open_type.ListHead.TheVariants.{Vec as AnyVec};
 
 use anyhow::ensure;
-use open_types::{ClosedType, ListHead, OpenType, substitute};
+use open_types::{ClosedType, Leaf, ListHead, OpenType, substitute};
 use rows::given::text_of;
 use scopes::type_text;
 use serde_json::Value;
 use std::alloc::{AllocError, Global};
 use syntax::parse_declarations;
 use texts::{List, Text};
+use type_tree::Types;
 
 /// The first declaration with a `Vec` of the first parameter as its argument.
 fn first_of_parameter(alloc: Global) -> Result<OpenType, AllocError>
@@ -42,4 +43,34 @@ pub(crate) fn text(alloc: Global, given: &Value) -> anyhow::Result<String> {
     ensure!(ty.as_open().is_same(ty.as_open()), "not the same");
     let text: Text = type_text(alloc, &declarations, &ty)?;
     Ok(String::from_str(alloc, text.as_str())?)
+}
+
+/// A `Vec` of the type.
+fn list_of(alloc: Global, item: OpenType) -> Result<OpenType, AllocError>
+    ensures { IfOk result (λ t. open_view t ≡ items AnyVec (open_view item)) }
+{
+    Ok(OpenType::Items(ListHead::Vec, Box::new(alloc, item)?))
+}
+
+/// The `Vec` of a built-in name.
+fn leaves(alloc: Global, of: Leaf) -> Result<ClosedType, AllocError>
+    ensures { IfOk result (λ t. open_view t ≡ items AnyVec (leaf of)) }
+{
+    Ok(ClosedType::new(list_of(alloc, OpenType::Leaf(of))?))
+}
+
+/// The numbers of `Vec<bool>`, of it again, of `Vec<u8>` and of `Vec<T>` at `bool`, of how many types, and whether the last
+/// is the first again.
+pub(crate) fn numbers(alloc: Global) -> anyhow::Result<String> {
+    let mut types = Types::new(alloc);
+    let list = leaves(alloc, Leaf::Bool)?;
+    let first = types.intern(&list)?;
+    let again = types.intern(&leaves(alloc, Leaf::Bool)?)?;
+    let other = types.intern(&leaves(alloc, Leaf::U8)?)?;
+    let item = types.intern(&ClosedType::new(OpenType::Leaf(Leaf::Bool)))?;
+    let open = list_of(alloc, OpenType::Param(0))?;
+    let put = types.substitute(&open, [item].as_slice())?;
+    let back = types.type_of(alloc, put)?.as_open().is_same(list.as_open());
+    let (first, again, other, put) = (first.number(), again.number(), other.number(), put.number());
+    Ok(format!(in alloc; "{first} {again} {other} {put} of {}, {back}", types.len())?)
 }

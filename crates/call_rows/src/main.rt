@@ -33,6 +33,7 @@ fn told(alloc: Global, row: &Row) -> anyhow::Result<String> {
         "format" => trees::format(alloc, given),
         "parse_format" => trees::format_value(alloc, given),
         "type_text" => arguments::text(alloc, given),
+        "numbers" => arguments::numbers(alloc),
         "terms" | "place" => terms::of_source(alloc, row.call.as_str(), given),
         other => bail!("no call {other}"),
     }

@@ -1,2 +1,3 @@
--- Proofs that implementations of equality cite, so they stand among the definitions.
+-- Proofs that types cite, for equality and for models, so they stand among the definitions.
+pub mod OpenCode
 pub mod SameLaws

@@ -29,6 +29,14 @@ impl Model for ClosedType {
 }
 
 impl ClosedType {
+    /// The type, which has no parameters. It takes no memory.
+    pub fn new(ty: OpenType) -> ClosedType
+        requires { IsClosed (open_view ty) }
+        ensures { result ≡ ty }
+    {
+        ClosedType { ty }
+    }
+
     /// The declaration at a place of the source, without arguments. It takes no memory.
     pub fn declared(alloc: Global, place: usize) -> ClosedType
         ensures { open_view result ≡ named place no_types }

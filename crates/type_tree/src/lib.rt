@@ -24,3 +24,4 @@ pub use primitive::PrimitiveType;
 pub use schema_type::SchemaType;
 pub use scopes::{Scope, resolve, type_text};
 pub use tree::{GenericType, TypeTree, ValueType};
+pub use type_table::{TypeId, Types};

@@ -1,0 +1,10 @@
+pub mod Chains
+pub mod Finds
+pub mod Fronts
+pub mod Grown
+pub mod KeyLaws
+pub mod Listed
+pub mod Parts
+pub mod Sizes
+pub mod Tables
+pub mod Views
