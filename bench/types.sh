@@ -1,7 +1,7 @@
 #!/usr/bin/env bash
-# A table of types: how long it takes to give numbers to types of 1 to 256 names, some 25,000, 50,000 and 100,000 of them. In one form
-# the parts of types are shared, each type being a list of the one before; in the other nothing but names is. By hand; no test
-# rests on it. The program is proved and built in a copy of the crates that it stands on, which takes a minute or two.
+# A table of types: how long it takes to give numbers to types of 1 to 256 names. In one form each type is a list of the one before,
+# some 25,000, 50,000 and 100,000 of them; in the other, with a tenth as many, types have no part in common but names. By hand; no
+# test rests on it. The program is proved and built in a copy of the crates that it stands on, which takes a minute.
 #
 #     bench/types.sh
 set -euo pipefail
@@ -52,7 +52,7 @@ fn made(alloc: Global, number: u64, names: u64, shared: bool) -> Result<OpenType
     ensures { IfOk result (λ t. IsClosed (open_view t)) }
 {
     let mut ty = OpenType::Named((number % 1000) as usize, List::new(alloc));
-    let mut row = number;
+    let mut row = number.wrapping_mul(257).wrapping_add(names);
     for _ in 1..names {
         row = row.wrapping_mul(6364136223846793005).wrapping_add(1442695040888963407);
         ty = wrapped(alloc, ty, if shared { 0 } else { row >> 33 })?;
@@ -85,9 +85,9 @@ fn main(rt: HostRuntime) -> anyhow::Result<()> {
     run(&rt, 100, true)?;
     run(&rt, 200, true)?;
     run(&rt, 400, true)?;
-    run(&rt, 100, false)?;
-    run(&rt, 200, false)?;
-    run(&rt, 400, false)?;
+    run(&rt, 10, false)?;
+    run(&rt, 20, false)?;
+    run(&rt, 40, false)?;
     Ok(())
 }
 PROGRAM
