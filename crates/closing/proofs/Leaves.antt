@@ -2,10 +2,11 @@
 use Rattle.std.proofs.Common.{ℕ, List, [], ◌∷◌, ◌++◌, ◌≡◌, refl, sym, subst, ◌⊎◌, inl, inr}
 use Rattle.schema_trees.specs.Schema.{SchemaOf, leaf, object, array, one_of, all_of, SchemasOf, no_schemas, schema, PropertiesOf, no_properties, property, PartOf, no_part, truth, part, bind, bind_schemas, bind_properties, bind_part, EachLeaf, EachSchemaLeaf, EachPropertyLeaf, EachPartLeaf}
 use Rattle.component.specs.Leaves.{LeafOf}
-use Rattle.component.specs.References.{ReferenceOf, leaf_references, named_leaves, schema_leaves, property_leaves, part_leaves}
+use Rattle.component.specs.References.{ReferenceOf, leaf_references, named_leaves}
 use Rattle.inlining.specs.Inlining.{IsAmong}
 use Rattle.closing.specs.Targets.{inlined_among}
 use Rattle.closing.proofs.Found.{among-append}
+use Rattle.closing.proofs.LeafNames as names
 
 -- ---- two facts at once
 
@@ -85,55 +86,14 @@ module _ (P : ℕ → Type 0) where
   in_back : (front behind : List ReferenceOf) → AtInlined (front ++ behind) → AtInlined behind
   in_back front behind h e a = h e (subst (IsAmong e) (sym (among-append front behind)) (among-right e (inlined_among front) (inlined_among behind) a))
 
-  mutual
-    pub at-leaves : (s : SchemaOf LeafOf) → AtInlined (named_leaves s) → EachLeaf (λ x. AtInlined (leaf_references x)) s
-    at-leaves (leaf x) h = h
-    at-leaves (object facts ps additional names) h =
-        let rest = in_back (property_leaves ps) (part_leaves names ++ part_leaves additional) h in (
-          at-properties ps (in_front (property_leaves ps) (part_leaves names ++ part_leaves additional) h),
-          (at-part additional (in_back (part_leaves names) (part_leaves additional) rest), at-part names (in_front (part_leaves names) (part_leaves additional) rest)),
-        )
-    at-leaves (array facts front rest) h = (at-schemas front (in_front (schema_leaves front) (part_leaves rest) h), at-part rest (in_back (schema_leaves front) (part_leaves rest) h))
-    at-leaves (one_of notes ss) h = at-schemas ss h
-    at-leaves (all_of notes ss) h = at-schemas ss h
-
-    at-schemas : (ss : SchemasOf LeafOf) → AtInlined (schema_leaves ss) → EachSchemaLeaf (λ x. AtInlined (leaf_references x)) ss
-    at-schemas no_schemas h = tt
-    at-schemas (schema s ss) h = (at-leaves s (in_front (named_leaves s) (schema_leaves ss) h), at-schemas ss (in_back (named_leaves s) (schema_leaves ss) h))
-
-    at-properties : (ps : PropertiesOf LeafOf) → AtInlined (property_leaves ps) → EachPropertyLeaf (λ x. AtInlined (leaf_references x)) ps
-    at-properties no_properties h = tt
-    at-properties (property k s ps) h = (at-leaves s (in_front (named_leaves s) (property_leaves ps) h), at-properties ps (in_back (named_leaves s) (property_leaves ps) h))
-
-    at-part : (p : PartOf LeafOf) → AtInlined (part_leaves p) → EachPartLeaf (λ x. AtInlined (leaf_references x)) p
-    at-part no_part h = tt
-    at-part (truth b) h = tt
-    at-part (part s) h = at-leaves s h
-
-  together : (front behind : List ReferenceOf) → AtInlined front → AtInlined behind → AtInlined (front ++ behind)
-  together front behind f g e a = elim (among_cases e (inlined_among front) (inlined_among behind) (subst (IsAmong e) (among-append front behind) a)) [
+  in_both : (front behind : List ReferenceOf) → AtInlined front → AtInlined behind → AtInlined (front ++ behind)
+  in_both front behind f g e a = elim (among_cases e (inlined_among front) (inlined_among behind) (subst (IsAmong e) (among-append front behind) a)) [
     | inl h ↦ f e h
     | inr h ↦ g e h
   ]
 
-  mutual
-    pub from-leaves : (s : SchemaOf LeafOf) → EachLeaf (λ x. AtInlined (leaf_references x)) s → AtInlined (named_leaves s)
-    from-leaves (leaf x) h = h
-    from-leaves (object facts ps additional names) h =
-        together (property_leaves ps) (part_leaves names ++ part_leaves additional) (from-properties ps h.0) (together (part_leaves names) (part_leaves additional) (from-part names h.1.1) (from-part additional h.1.0))
-    from-leaves (array facts front rest) h = together (schema_leaves front) (part_leaves rest) (from-schemas front h.0) (from-part rest h.1)
-    from-leaves (one_of notes ss) h = from-schemas ss h
-    from-leaves (all_of notes ss) h = from-schemas ss h
+  pub at-leaves : (s : SchemaOf LeafOf) → AtInlined (named_leaves s) → EachLeaf (λ x. AtInlined (leaf_references x)) s
+  at-leaves = names.at-leaves AtInlined in_front in_back
 
-    from-schemas : (ss : SchemasOf LeafOf) → EachSchemaLeaf (λ x. AtInlined (leaf_references x)) ss → AtInlined (schema_leaves ss)
-    from-schemas no_schemas h = λ e a. absurd a
-    from-schemas (schema s ss) h = together (named_leaves s) (schema_leaves ss) (from-leaves s h.0) (from-schemas ss h.1)
-
-    from-properties : (ps : PropertiesOf LeafOf) → EachPropertyLeaf (λ x. AtInlined (leaf_references x)) ps → AtInlined (property_leaves ps)
-    from-properties no_properties h = λ e a. absurd a
-    from-properties (property k s ps) h = together (named_leaves s) (property_leaves ps) (from-leaves s h.0) (from-properties ps h.1)
-
-    from-part : (p : PartOf LeafOf) → EachPartLeaf (λ x. AtInlined (leaf_references x)) p → AtInlined (part_leaves p)
-    from-part no_part h = λ e a. absurd a
-    from-part (truth b) h = λ e a. absurd a
-    from-part (part s) h = from-leaves s h
+  pub from-leaves : (s : SchemaOf LeafOf) → EachLeaf (λ x. AtInlined (leaf_references x)) s → AtInlined (named_leaves s)
+  from-leaves = names.from-leaves AtInlined (λ e a. absurd a) in_both
