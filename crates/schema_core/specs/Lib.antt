@@ -3,4 +3,5 @@ pub mod Entries
 pub mod Form
 pub mod Meaning
 pub mod Members
+pub mod proved
 pub mod Writes

@@ -1,0 +1,62 @@
+-- What holds of the document of any components: names in order are distinct, what a reference accepts, and that references have components.
+use Rattle.std.proofs.Common.{ℕ, zero, suc, List, [], ◌∷◌, false, ◌||◌, Option, Some, None, option_map, is_some, IsTrue, nat_cmp, Less, is_eq, ◌≡◌, refl, ap, sym, subst, ◌∙◌, ◌↔◌}
+use Rattle.std.specs.Cmp.Lexicographic.{slice_cmp}
+use Rattle.std.specs.List.{AllByRecursion}
+use Rattle.std.specs.List.Sorted.{IsStrictlySortedBy}
+use Rattle.std.proofs.lemmas.Map.Text.{is_eq-slice_cmp}
+use Rattle.std.proofs.lemmas.Option.{none-some, same_Some}
+use Rattle.acceptance.specs.Json.{Json}
+use Rattle.acceptance.specs.Acceptance.{accepts_with, component_schema, component_accepts, if_component, accepts, Accepts}
+use Rattle.acceptance.specs.References.{EachReference}
+use Rattle.texts.specs.Names.{is_in, IsDistinct}
+use Rattle.schema_trees.specs.declared.tree.RefLeaf.{RefLeaf}
+use Rattle.schema_trees.specs.declared.notes.Annotations.{Annotations as Notes}
+use Rattle.schema_trees.specs.Schema.{SchemaOf, leaf, EachLeaf}
+use Rattle.schema_core.specs.Form.{form}
+use Rattle.schema_core.specs.Document.{Entry, document}
+use Rattle.schema_core.specs.Entries.{names_of, find, IsInOrder}
+use Rattle.schema_core.specs.Meaning.{FormsAccept, FormsRefer, DocumentsHold}
+use Rattle.closing.specs.Described.{HasComponent}
+
+-- ---- names in order are distinct
+absent : (n : List ℕ) (ns : List (List ℕ)) → AllByRecursion (λ m. slice_cmp nat_cmp n m ≡ Less) ns → is_in n ns ≡ false
+absent n [] h = refl
+absent n (m ∷ ns) h = (λ i. (sym (is_eq-slice_cmp n m) ∙ ap is_eq h.0) i || is_in n ns) ∙ absent n ns h.1
+
+distinct : (ns : List (List ℕ)) → IsInOrder ns → IsDistinct ns
+unfolding IsStrictlySortedBy
+distinct [] o = tt
+distinct (n ∷ ns) o = (absent n ns o.0, distinct ns o.1)
+
+-- the document has under each name the form of its component
+pub schema_under : DocumentsHold → (cs : List Entry) → IsInOrder (names_of cs) → (name : List ℕ) → component_schema (document cs) name ≡ option_map form (find name cs)
+schema_under holds cs order = holds cs (distinct (names_of cs) order)
+
+-- ---- references
+
+-- a reference is followed with one step more than what it leads to
+pub reference-accepts : FormsAccept → (doc : Json) (name : List ℕ) (notes : Notes) (s v : Json) → component_schema doc name ≡ Some s → Accepts doc (form (leaf (record { name = name; notes = notes }))) v ↔ Accepts doc s v
+reference-accepts forms doc name notes s v e = (there, back)
+  where
+    reference : SchemaOf RefLeaf
+    reference = leaf (record { name = name; notes = notes })
+
+    at : (depth : ℕ) → accepts doc (form reference) v depth ≡ component_accepts doc depth name v
+    at depth = forms (component_accepts doc depth) reference tt v
+
+    there : Accepts doc (form reference) v → Accepts doc s v
+    there (zero, h) = let never : IsTrue false = subst IsTrue (at zero) h in cc
+    there (suc depth, h) = (depth, subst IsTrue (at (suc depth) ∙ (λ i. if_component (e i) (λ t. accepts_with (component_accepts doc depth) t v))) h)
+
+    back : Accepts doc s v → Accepts doc (form reference) v
+    back a = (suc a.0, subst IsTrue (sym (at (suc a.0) ∙ (λ i. if_component (e i) (λ t. accepts_with (component_accepts doc a.0) t v)))) a.1)
+
+-- each reference has its component where the leaves of each component's schema name components
+pub references-found : FormsRefer → DocumentsHold → (cs : List Entry) → IsInOrder (names_of cs) →
+    ((name : List ℕ) (t : SchemaOf RefLeaf) → find name cs ≡ Some t → EachLeaf (λ r. HasComponent (document cs) r.name) t) →
+    (name : List ℕ) (s : Json) → component_schema (document cs) name ≡ Some s → EachReference (HasComponent (document cs)) s
+references-found refer holds cs order found name s e = by (find name cs) refl (sym (schema_under holds cs order name) ∙ e)
+  where
+    by : (o : Option (SchemaOf RefLeaf)) → find name cs ≡ o → option_map form o ≡ Some s → EachReference (HasComponent (document cs)) s
+    by None f is = absurd (none-some s is)
+    by (Some t) f is = subst (EachReference (HasComponent (document cs))) (same_Some (form t) s is) (refer (λ n. is_some (component_schema (document cs) n)) t (found name t f))
