@@ -7,7 +7,7 @@ use Rattle.shapes.specs.Declarations.{FormOf, named_fields, unnamed_fields, no_f
 use Rattle.shapes.specs.declared.tagging.Tagging.{Tagging}
 use Rattle.shapes.specs.declared.tagging.Tagging.TheVariants.{External, Internal, Untagged}
 
--- the declaration stands in the type
+-- the declaration stands in the type, of a source without type parameters
 abbrev mutual
   pub StandsIn : ℕ → Open → Type 0
   StandsIn e (leaf x) = ⊥
@@ -113,6 +113,8 @@ abbrev pub IsPlainBody : List DeclarationOf → BodyOf → Type 0
 IsPlainBody ss (fields form) = IsPlainForm ss form
 IsPlainBody ss (units tagging names) = KeepsVariant tagging names
 IsPlainBody ss (variants tagging xs) = KeepsVariant tagging xs × ArePlainVariants ss tagging xs
+
+-- ---- declarations of a source without type parameters
 
 -- places lead from one declaration to another, or to itself
 pub data Reaches (ss : List DeclarationOf) : ℕ → ℕ → Type 0 where
