@@ -1,2 +1,3 @@
+mod Examples
 pub mod OpenLists
 pub mod SameLists
