@@ -1,4 +1,5 @@
 pub mod Chains
+pub mod Examples
 pub mod Finds
 pub mod Fronts
 pub mod Grown
