@@ -11,11 +11,11 @@ use Rattle.words.specs.Words.{Word, name, underscore, keyword, sign, lifetime, l
 use Rattle.words.specs.Reading.{Read, Fault, deep, wrong, ◌>>=◌, taken, as_path_word, as_sign, as_keyword, as_lifetime, sign_at}
 use Rattle.type_grammar.specs.declared.starts.Bounds.{Bounds}
 use Rattle.type_grammar.specs.declared.starts.Bounds.TheVariants.{One, Any}
-use Rattle.type_grammar.specs.Starts.{starts_path, type_start, begins_type, is_type_start, Stops, StopsPath, span_of}
-use Rattle.type_grammar.specs.Grammar.{MayBeLifetime, no_lifetime, a_lifetime, MayBeMut, no_mut, a_mut, MayBeQuestion, no_question, a_question, LifetimesFirst, no_more_lifetimes, a_lifetime_first, MayBeBinding, no_binding, a_binding, a_literal, a_negative, a_true, a_false, a_block, IsTypeOf, pathed, referred, wrapped, unit, several, sliced, arrayed, object, MoreBounds, no_more_bounds, one_more_bound, IsBound, a_lifetime_bound, a_path_bound, IsPath, from_here, from_root, IsSegments, last_segment, more_segments, IsSegment, without_arguments, with_arguments, with_colons, IsArgument, of_lifetime, of_constant, of_type, IsArguments, no_argument, last_argument, another_argument, IsTypes, no_type, last_type, another_type}
-use Rattle.type_grammar.specs.Reading.{TypeReader, after_sign, unless, without, is_end, all, ends_list, list_after, list_of, after_binding, after_lifetimes, first_bound, plain_argument, argument_or, argument_at, first_of_two, then_less, arguments_after, segment_after, segment_at, segments_after, segments_in, path_from, path_at, bound_from, bound_at, bounds_in, more_bounds, object_at, reference_at, tuple_after, round_at, array_after, square_at, type_from, type_step, too_deep, type_in}
+use Rattle.type_grammar.specs.Starts.{starts_path, type_start, begins_type, is_type_start, begins_path, begins_bound, Stops, StopsPath, span_of}
+use Rattle.type_grammar.specs.Grammar.{MayBeLifetime, no_lifetime, a_lifetime, MayBeMut, no_mut, a_mut, MayBeQuestion, no_question, a_question, LifetimesFirst, no_more_lifetimes, a_lifetime_first, MayBeBinding, no_binding, a_binding, a_literal, a_negative, a_true, a_false, a_block, IsTypeOf, pathed, referred, wrapped, unit, several, sliced, arrayed, object, MoreBounds, no_more_bounds, one_more_bound, IsBound, a_lifetime_bound, a_path_bound, IsPath, from_here, from_root, IsSegments, last_segment, more_segments, IsSegment, without_arguments, with_arguments, with_colons, IsArgument, of_lifetime, of_constant, of_type, IsArguments, no_argument, last_argument, another_argument, IsTypes, no_type, last_type, another_type, IsBounds, no_bounds, some_bounds}
+use Rattle.type_grammar.specs.Reading.{TypeReader, after_sign, unless, without, is_end, all, ends_list, list_after, list_until, list_of, after_binding, after_lifetimes, first_bound, plain_argument, argument_or, argument_at, first_of_two, then_less, arguments_after, segment_after, segment_at, segments_after, segments_in, path_from, path_at, bound_from, bound_at, bounds_in, after_bounds, more_bounds, object_at, reference_at, tuple_after, round_at, array_after, square_at, type_from, type_step, too_deep, type_in}
 use Rattle.words.proofs.Many.{Shortens}
-use Rattle.type_grammar.proofs.Lists.{list_of_step, list_ends}
+use Rattle.type_grammar.proofs.Lists.{list_until_step, list_ends}
 use Rattle.type_grammar.proofs.Chains.{segments_in_step, bounds_done, bounds_turn}
 use Rattle.type_grammar.proofs.Sound.{type_shortens, argument_shortens, segment_shortens, bound_shortens}
 
@@ -208,6 +208,24 @@ pub question_first : {ws us : List Word} → MayBeQuestion ws us → Starts us �
 question_first no_question h = (h.0, h.1, h.2, (starts_no_kind h.0 h.3).1)
 question_first (a_question {at = at} {rest = rest}) h = (sign Question at, rest, refl, refl)
 
+-- a bound begins with a lifetime, `?` or a path
+starts_bound : (w : Word) → type_start w ≡ starts_path → begins_bound w ≡ true
+starts_bound (lifetime x) e = refl
+starts_bound (sign Question s) e = refl
+starts_bound (sign _ s) e = ap begins_path e
+starts_bound _ e = ap begins_path e
+
+abbrev pub BeginsBound : List Word → Type 0
+BeginsBound ws = (w : Word) × (us : List Word) × (ws ≡ w ∷ us) × (begins_bound w ≡ true)
+
+pub question_begins : {ws us : List Word} → MayBeQuestion ws us → Starts us → BeginsBound ws
+question_begins no_question h = (h.0, h.1, h.2, starts_bound h.0 h.3)
+question_begins (a_question {at = at} {rest = rest}) h = (sign Question at, rest, refl, refl)
+
+pub bound_begins : {ws rest : List Word} {at : Span} → IsBound ws at rest → BeginsBound ws
+bound_begins (a_lifetime_bound {x = x} {rest = rest}) = (lifetime x, rest, refl, refl)
+bound_begins (a_path_bound q r) = question_begins q (path_starts r)
+
 skips_none : (w : Word) (ws : List Word) → as_lifetime w ≡ None → after_lifetimes (w ∷ ws) ≡ w ∷ ws
 skips_none (lifetime x) ws e = cc
 skips_none _ ws e = refl
@@ -286,8 +304,15 @@ pub by_bound : (inner : TypeReader) (ws : List Word) (w : Word) (us : List Word)
 unfolding bound_at
 by_bound inner ws w us e h = ap (bound_at inner) e ∙ ap (λ o. bound_from inner (w ∷ us) o w us) h ∙ ap (λ v. path_at true inner (without (as_sign Question) v) >>= λ p. Ok (span_of p.0, p.1)) (sym e)
 
-pub list_goes_on : {A : Type 0} (item : List Word → Read A) → Shortens item → (ws : List Word) → ends_list ws ≡ false → list_of item ws ≡ (item ws >>= λ p. list_after (list_of item) p.0 p.1 (after_sign Comma p.1))
-list_goes_on item shortens ws e = list_of_step item shortens ws ∙ ap (λ b. cond b (Ok ([], ws)) (item ws >>= λ p. list_after (list_of item) p.0 p.1 (after_sign Comma p.1))) e
+abbrev pub bounded : TypeReader → Read Span → Result (List Word) Fault
+bounded inner r = r >>= λ b. bounds_in inner b.0 b.1 >>= λ e. Ok e.1
+
+pub by_bounds : (inner : TypeReader) {ws : List Word} → BeginsBound ws → after_bounds inner ws ≡ bounded inner (bound_at inner ws)
+unfolding after_bounds
+by_bounds inner h = ap (after_bounds inner) h.2 ∙ ap (λ b. cond b (bounded inner (bound_at inner (h.0 ∷ h.1))) (Ok (h.0 ∷ h.1))) h.3 ∙ ap (λ v. bounded inner (bound_at inner v)) (sym h.2)
+
+pub list_goes_on : {A : Type 0} (ends : List Word → Bool) (item : List Word → Read A) → Shortens item → (ws : List Word) → ends ws ≡ false → list_until ends item ws ≡ (item ws >>= λ p. list_after (list_until ends item) p.0 p.1 (after_sign Comma p.1))
+list_goes_on ends item shortens ws e = list_until_step ends item shortens ws ∙ ap (λ b. cond b (Ok ([], ws)) (item ws >>= λ p. list_after (list_until ends item) p.0 p.1 (after_sign Comma p.1))) e
 
 pub round_goes_on : (inner : TypeReader) (s : Span) (ws : List Word) → is_end ws ≡ false → round_at inner s ws ≡ (inner Any ws >>= λ t. cond (is_end t.1) (Ok t.0) (tuple_after inner s t.0 t.1))
 unfolding round_at
@@ -303,6 +328,19 @@ segments_bare at h = ap (after_sign Less) h.3 ∙ (word_no_sign h.0 h.2 h.4 h.1)
 pub more_bare : {b : Bounds} {before last : Span} {ws rest : List Word} → MoreBounds b before ws last rest → Stops rest → PathStops ws
 more_bare (no_more_bounds {rest = rest}) stops = stops_path rest stops
 more_bare (one_more_bound r s) stops = (refl, refl)
+
+-- what follows bounds begins with none and is no more of one
+abbrev pub begin_bounds : List Word → Bool
+begin_bounds [] = false
+begin_bounds (w ∷ ws) = begins_bound w
+
+abbrev pub BoundsStop : List Word → Type 0
+BoundsStop ws = Stops ws × (begin_bounds ws ≡ false)
+
+no_bound_begins : (inner : TypeReader) (ws : List Word) → begin_bounds ws ≡ false → after_bounds inner ws ≡ Ok ws
+unfolding after_bounds
+no_bound_begins inner [] e = refl
+no_bound_begins inner (w ∷ ws) e = ap (λ b. cond b (bounded inner (bound_at inner (w ∷ ws))) (Ok (w ∷ ws))) e
 
 too_deep_there : (ws : List Word) → Begins ws → (at : Span) × (too_deep ws ≡ Err (deep at))
 too_deep_there ws h = (start_of h.0, ap too_deep h.2 ∙ ap (λ b. cond b (Err (deep (start_of h.0))) (Err wrong)) h.3)
@@ -410,27 +448,34 @@ mutual
       (reach (type_in n Any us) (t, rest) (λ q. Ok (type_argument q.0, q.1)) (type_argument t, rest) (type_complete r (closes_stops rest e) n) (inl refl))
 
   pub arguments_complete : {b : Bool} {ws rest : List Word} {xs : List Argument} → IsArguments b ws xs rest → ends_list rest ≡ true → (n : ℕ) → Reaches (list_of (argument_at b (type_in n)) ws) (xs, rest)
-  arguments_complete {b = b} (no_argument {rest = rest}) ends n = inl (list_ends (argument_at b (type_in n)) rest ends)
+  arguments_complete {b = b} (no_argument {rest = rest}) ends n = inl (list_ends ends_list (argument_at b (type_in n)) rest ends)
   arguments_complete {b = b} (last_argument {ws = ws} {rest = rest} {x = x} r) ends n =
       let item = argument_at b (type_in n) in
-      reach_as (list_of item ws) (item ws >>= λ p. list_after (list_of item) p.0 p.1 (after_sign Comma p.1)) (x ∷ [], rest) (list_goes_on item (argument_shortens n b) ws (argument_list r))
+      reach_as (list_of item ws) (item ws >>= λ p. list_after (list_of item) p.0 p.1 (after_sign Comma p.1)) (x ∷ [], rest) (list_goes_on ends_list item (argument_shortens n b) ws (argument_list r))
       (reach (item ws) (x, rest) (λ p. list_after (list_of item) p.0 p.1 (after_sign Comma p.1)) (x ∷ [], rest) (argument_complete r (ends_closes rest ends) n)
       (inl (ap (list_after (list_of item) x rest) (ends_no_comma rest ends))))
   arguments_complete {b = b} (another_argument {ws = ws} {mid = mid} {rest = rest} {at = at} {x = x} {xs = xs} r s) ends n =
       let item = argument_at b (type_in n) in
-      reach_as (list_of item ws) (item ws >>= λ p. list_after (list_of item) p.0 p.1 (after_sign Comma p.1)) (x ∷ xs, rest) (list_goes_on item (argument_shortens n b) ws (argument_list r))
+      reach_as (list_of item ws) (item ws >>= λ p. list_after (list_of item) p.0 p.1 (after_sign Comma p.1)) (x ∷ xs, rest) (list_goes_on ends_list item (argument_shortens n b) ws (argument_list r))
       (reach (item ws) (x, sign Comma at ∷ mid) (λ p. list_after (list_of item) p.0 p.1 (after_sign Comma p.1)) (x ∷ xs, rest) (argument_complete r refl n)
       (reach (list_of item mid) (xs, rest) (λ p. Ok (x ∷ p.0, p.1)) (x ∷ xs, rest) (arguments_complete s ends n) (inl refl)))
 
   pub types_complete : {ws rest : List Word} {us : List Written} → IsTypes ws us rest → ends_list rest ≡ true → (n : ℕ) → Reaches (list_of (type_in n Any) ws) (us, rest)
-  types_complete (no_type {rest = rest}) ends n = inl (list_ends (type_in n Any) rest ends)
+  types_complete (no_type {rest = rest}) ends n = inl (list_ends ends_list (type_in n Any) rest ends)
   types_complete (last_type {ws = ws} {rest = rest} {t = t} r) ends n =
       let item = type_in n Any in
-      reach_as (list_of item ws) (item ws >>= λ p. list_after (list_of item) p.0 p.1 (after_sign Comma p.1)) (t ∷ [], rest) (list_goes_on item (type_shortens n Any) ws (begins_list (type_begins r)))
+      reach_as (list_of item ws) (item ws >>= λ p. list_after (list_of item) p.0 p.1 (after_sign Comma p.1)) (t ∷ [], rest) (list_goes_on ends_list item (type_shortens n Any) ws (begins_list (type_begins r)))
       (reach (item ws) (t, rest) (λ p. list_after (list_of item) p.0 p.1 (after_sign Comma p.1)) (t ∷ [], rest) (type_complete r (closes_stops rest (ends_closes rest ends)) n)
       (inl (ap (list_after (list_of item) t rest) (ends_no_comma rest ends))))
   types_complete (another_type {ws = ws} {mid = mid} {rest = rest} {at = at} {t = t} {us = us} r s) ends n =
       let item = type_in n Any in
-      reach_as (list_of item ws) (item ws >>= λ p. list_after (list_of item) p.0 p.1 (after_sign Comma p.1)) (t ∷ us, rest) (list_goes_on item (type_shortens n Any) ws (begins_list (type_begins r)))
+      reach_as (list_of item ws) (item ws >>= λ p. list_after (list_of item) p.0 p.1 (after_sign Comma p.1)) (t ∷ us, rest) (list_goes_on ends_list item (type_shortens n Any) ws (begins_list (type_begins r)))
       (reach (item ws) (t, sign Comma at ∷ mid) (λ p. list_after (list_of item) p.0 p.1 (after_sign Comma p.1)) (t ∷ us, rest) (type_complete r refl n)
       (reach (list_of item mid) (us, rest) (λ p. Ok (t ∷ p.0, p.1)) (t ∷ us, rest) (types_complete s ends n) (inl refl)))
+
+pub bounds_complete : {ws rest : List Word} → IsBounds ws rest → BoundsStop rest → (n : ℕ) → Reaches (after_bounds (type_in n) ws) rest
+bounds_complete (no_bounds {rest = rest}) stops n = inl (no_bound_begins (type_in n) rest stops.1)
+bounds_complete (some_bounds {ws = ws} {mid = mid} {rest = rest} {first = first} {last = last} r s) stops n =
+    reach_as (after_bounds (type_in n) ws) (bounded (type_in n) (bound_at (type_in n) ws)) rest (by_bounds (type_in n) (bound_begins r))
+    (reach (bound_at (type_in n) ws) (first, mid) (λ b. bounds_in (type_in n) b.0 b.1 >>= λ e. Ok e.1) rest (bound_complete r (more_bare s stops.0) n)
+    (reach (bounds_in (type_in n) first mid) (last, rest) (λ e. Ok e.1) rest (more_complete s stops.0 n) (inl refl)))

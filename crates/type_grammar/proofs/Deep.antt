@@ -11,10 +11,10 @@ use Rattle.words.specs.Words.{Word, keyword, sign, group, words_of, cover, start
 use Rattle.words.specs.Reading.{Read, Fault, deep, wrong, ◌>>=◌, taken, as_path_word, as_sign, as_keyword, as_lifetime, path_word_at, sign_at}
 use Rattle.type_grammar.specs.declared.starts.Bounds.{Bounds}
 use Rattle.type_grammar.specs.declared.starts.Bounds.TheVariants.{One, Any}
-use Rattle.type_grammar.specs.Starts.{TypeStart, starts_path, starts_reference, starts_object, starts_round, starts_square, starts_no_type, type_start, begins_type, span_of}
+use Rattle.type_grammar.specs.Starts.{TypeStart, starts_path, starts_reference, starts_object, starts_round, starts_square, starts_no_type, type_start, begins_type, begins_bound, span_of}
 use Rattle.type_grammar.specs.Grammar.{IsTypeOf, IsSegment, IsArgument}
-use Rattle.type_grammar.specs.Opening.{Passes, OpensList, in_first, behind, OpensTypes, OpensArgument, OpensArguments, OpensSegment, in_arguments, in_colon_arguments, OpensSegments, in_segment, behind_segment, OpensPath, in_segments, in_rooted, OpensBound, in_bound_path, OpensBounds, in_bound, behind_bound, OpensWithin, in_path, in_reference, in_round, in_several, in_square, in_first_bound, in_later_bound, BeginsAt, here, OpensTypeOf}
-use Rattle.type_grammar.specs.Reading.{after_sign, without, is_end, all, ends_list, list_after, list_at, list_of, after_binding, first_bound, plain_argument, argument_or, argument_at, arguments_after, segment_after, segment_at, Chain, segments_after, segments_at, segments_in, path_from, path_at, bound_from, bound_at, bounds_after, bounds_at, bounds_in, more_bounds, object_at, reference_at, tuple_after, round_at, array_after, square_at, type_from, type_step, too_deep, type_in}
+use Rattle.type_grammar.specs.Opening.{Passes, OpensList, in_first, behind, OpensTypes, OpensArgument, OpensArguments, OpensSegment, in_arguments, in_colon_arguments, OpensSegments, in_segment, behind_segment, OpensPath, in_segments, in_rooted, OpensBound, in_bound_path, OpensBounds, in_bound, behind_bound, OpensInBounds, in_the_first, in_the_others, OpensWithin, in_path, in_reference, in_round, in_several, in_square, in_first_bound, in_later_bound, BeginsAt, here, OpensTypeOf}
+use Rattle.type_grammar.specs.Reading.{after_sign, without, is_end, all, ends_list, list_after, list_at, list_until, list_of, after_binding, first_bound, plain_argument, argument_or, argument_at, arguments_after, segment_after, segment_at, Chain, segments_after, segments_at, segments_in, path_from, path_at, bound_from, bound_at, bounds_after, bounds_at, bounds_in, after_bounds, more_bounds, object_at, reference_at, tuple_after, round_at, array_after, square_at, type_from, type_step, too_deep, type_in}
 use Rattle.type_grammar.proofs.Firsts.{first_as-is, as_sign-is, sign_at-is, after_sign-is}
 use Rattle.words.proofs.Many.{Shortens}
 use Rattle.words.proofs.Read.{bind_err, first_shallow}
@@ -22,7 +22,7 @@ use Rattle.type_grammar.proofs.Found.{either}
 use Rattle.type_grammar.proofs.Optional.{is_lifetime, is_mut, is_question, is_first, is_binding}
 use Rattle.type_grammar.proofs.Chains.{segments_in_step, bounds_turn}
 use Rattle.type_grammar.proofs.Sound.{opened_by, type_sound, argument_sound, segment_sound, path_sound, bound_sound, type_shortens, argument_shortens, segment_shortens, bound_shortens, reference_begins, object_begins, round_begins, square_begins}
-use Rattle.type_grammar.proofs.Complete.{Reaches, PathStops, Starts, WordFirst, Begins, starts_begins, word_starts, word_no_sign, segment_first, path_starts, type_begins, begins_list, begins_no_end, argument_list, binding_list, binding_plain, both_are, first_are, question_first, path_behind_question, by_path, by_bound, list_goes_on, round_goes_on, segments_bare, type_complete, path_complete, segment_complete, bound_complete, argument_complete}
+use Rattle.type_grammar.proofs.Complete.{Reaches, BeginsBound, question_begins, bound_begins, bounded, by_bounds, PathStops, Starts, WordFirst, Begins, starts_begins, word_starts, word_no_sign, segment_first, path_starts, type_begins, begins_list, begins_no_end, argument_list, binding_list, binding_plain, both_are, first_are, question_first, path_behind_question, by_path, by_bound, list_goes_on, round_goes_on, segments_bare, type_complete, path_complete, segment_complete, bound_complete, argument_complete}
 
 -- ---- how words begin in which a part begins too deep
 module _ {Inner : Bounds → List Word → Span → Type 0} where
@@ -41,6 +41,9 @@ module _ {Inner : Bounds → List Word → Span → Type 0} where
   opens_bare : {ws : List Word} {at : Span} → OpensBounds Inner ws at → PathStops ws
   opens_bare (in_bound r) = (refl, refl)
   opens_bare (behind_bound r passes s) = (refl, refl)
+
+  opens_bound_begins : {ws : List Word} {at : Span} → OpensBound Inner ws at → BeginsBound ws
+  opens_bound_begins (in_bound_path q r) = question_begins q (opens_path_starts r)
 
   within_begins : {b : Bounds} {ws : List Word} {at : Span} → OpensWithin Inner b ws at → Begins ws
   within_begins (in_path r) = starts_begins (opens_path_starts r)
@@ -79,9 +82,9 @@ module _ {A : Type 0} {read : List Word → Result A Fault} {Opens : List Word �
   one_place a b o p = let both : ◌≡◌ {A = Result A Fault} (Err (deep a)) (Err (deep b)) = sym ((agrees ws a).1 o) ∙ (agrees ws b).1 p in cc
 
 -- ---- lists
-module _ {A : Type 0} (IsItem : List Word → A → List Word → Type 0) (Opens : List Word → Span → Type 0) (item : List Word → Read A) (agrees : Agrees item Opens) (shortens : Shortens item)
+module _ {A : Type 0} (ends : List Word → Bool) (IsItem : List Word → A → List Word → Type 0) (Opens : List Word → Span → Type 0) (item : List Word → Read A) (agrees : Agrees item Opens) (shortens : Shortens item)
     (sound : (ws : List Word) (x : A) (rest : List Word) → item ws ≡ Ok (x, rest) → IsItem ws x rest) (complete : (ws mid : List Word) (x : A) (s : Span) → IsItem ws x (sign Comma s ∷ mid) → Reaches (item ws) (x, sign Comma s ∷ mid))
-    (item_list : (ws rest : List Word) (x : A) → IsItem ws x rest → ends_list ws ≡ false) (opens_list : (ws : List Word) (at : Span) → Opens ws at → ends_list ws ≡ false) where
+    (item_list : (ws rest : List Word) (x : A) → IsItem ws x rest → ends ws ≡ false) (opens_list : (ws : List Word) (at : Span) → Opens ws at → ends ws ≡ false) where
   deep_after : (again : List Word → Read (List A)) → ((mid : List Word) (at : Span) → again mid ≡ Err (deep at) → OpensList IsItem Opens mid at) → (ws : List Word) (x : A) (us : List Word) (at : Span) → item ws ≡ Ok (x, us)
       → (o : Option (List Word)) → after_sign Comma us ≡ o → list_after again x us o ≡ Err (deep at) → OpensList IsItem Opens ws at
   deep_after again h ws x us at r None f e = cc
@@ -91,28 +94,28 @@ module _ {A : Type 0} (IsItem : List Word → A → List Word → Type 0) (Opens
         | inr k ↦ cc (k.2)
       ]
 
-  list_deep : (n : ℕ) (ws : List Word) (at : Span) → list_at item n ws ≡ Err (deep at) → OpensList IsItem Opens ws at
+  list_deep : (n : ℕ) (ws : List Word) (at : Span) → list_at ends item n ws ≡ Err (deep at) → OpensList IsItem Opens ws at
   unfolding list_at
   list_deep zero ws at e = cc
   list_deep (suc n) ws at e =
-      elim (either (ends_list ws) e) [
+      elim (either (ends ws) e) [
         | inl h ↦ cc
         | inr h ↦ elim (bind_err (item ws) h.1) [
           | inl k ↦ in_first ((agrees ws at).0 k)
-          | inr k ↦ deep_after (list_at item n) (list_deep n) ws k.0.0 k.0.1 at k.1 (after_sign Comma k.0.1) refl k.2
+          | inr k ↦ deep_after (list_at ends item n) (list_deep n) ws k.0.0 k.0.1 at k.1 (after_sign Comma k.0.1) refl k.2
         ]
       ]
 
   abbrev turn : Read A → Read (List A)
-  turn r = r >>= λ p. list_after (list_of item) p.0 p.1 (after_sign Comma p.1)
+  turn r = r >>= λ p. list_after (list_until ends item) p.0 p.1 (after_sign Comma p.1)
 
-  list_opens : {ws : List Word} {at : Span} → OpensList IsItem Opens ws at → list_of item ws ≡ Err (deep at)
-  list_opens (in_first {at = at} {ws = ws} o) = list_goes_on item shortens ws (opens_list ws at o) ∙ ap turn ((agrees ws at).1 o)
+  list_opens : {ws : List Word} {at : Span} → OpensList IsItem Opens ws at → list_until ends item ws ≡ Err (deep at)
+  list_opens (in_first {at = at} {ws = ws} o) = list_goes_on ends item shortens ws (opens_list ws at o) ∙ ap turn ((agrees ws at).1 o)
   list_opens (behind {s = s} {ws = ws} {mid = mid} {x = x} r passes o) =
-      list_goes_on item shortens ws (item_list ws (sign Comma s ∷ mid) x r) ∙ ap turn (passed_reads agrees ws (x, sign Comma s ∷ mid) (complete ws mid x s r) passes) ∙ ap (λ v. v >>= λ p. Ok (x ∷ p.0, p.1)) (list_opens o)
+      list_goes_on ends item shortens ws (item_list ws (sign Comma s ∷ mid) x r) ∙ ap turn (passed_reads agrees ws (x, sign Comma s ∷ mid) (complete ws mid x s r) passes) ∙ ap (λ v. v >>= λ p. Ok (x ∷ p.0, p.1)) (list_opens o)
 
-  list_agrees : Agrees (list_of item) (OpensList IsItem Opens)
-  unfolding list_of
+  pub list_agrees : Agrees (list_until ends item) (OpensList IsItem Opens)
+  unfolding list_until
   list_agrees ws at = (λ e. list_deep (suc (length ws)) ws at e, λ o. list_opens o)
 
 pub all_deep : {A : Type 0} (r : Read A) (at : Span) → all r ≡ Err (deep at) → r ≡ Err (deep at)
@@ -123,7 +126,7 @@ all_deep (Ok p) at e = elim (either (is_end p.1) e) [ inl h ↦ cc | inr h ↦ c
 module _ (m : ℕ) (inner : (b : Bounds) → Agrees (type_in m b) (OpensTypeOf m b)) where
   types_agree : Agrees (list_of (type_in m Any)) (OpensTypes (OpensTypeOf m))
   types_agree =
-      list_agrees (IsTypeOf Any) (OpensTypeOf m Any) (type_in m Any) (inner Any) (type_shortens m Any) (type_sound m Any) (λ ws mid t s r. type_complete r refl m) (λ ws rest t r. begins_list (type_begins r)) (λ ws at o. begins_list (opens_begins m Any ws at o))
+      list_agrees ends_list (IsTypeOf Any) (OpensTypeOf m Any) (type_in m Any) (inner Any) (type_shortens m Any) (type_sound m Any) (λ ws mid t s r. type_complete r refl m) (λ ws rest t r. begins_list (type_begins r)) (λ ws at o. begins_list (opens_begins m Any ws at o))
 
   -- ---- arguments
   argument_deep : (b : Bool) (ws : List Word) (at : Span) (o : Option (Argument × List Word)) → argument_or (type_in m) (after_binding b ws) o ≡ Err (deep at) → OpensArgument (OpensTypeOf m) b ws at
@@ -141,7 +144,7 @@ module _ (m : ℕ) (inner : (b : Bounds) → Agrees (type_in m b) (OpensTypeOf m
 
   arguments_agree : (b : Bool) → Agrees (list_of (argument_at b (type_in m))) (OpensArguments (OpensTypeOf m) b)
   arguments_agree b =
-      list_agrees (IsArgument b) (OpensArgument (OpensTypeOf m) b) (argument_at b (type_in m)) (argument_agrees b) (argument_shortens m b) (argument_sound (type_in m) (type_sound m) b) (λ ws mid x s r. argument_complete r refl m)
+      list_agrees ends_list (IsArgument b) (OpensArgument (OpensTypeOf m) b) (argument_at b (type_in m)) (argument_agrees b) (argument_shortens m b) (argument_sound (type_in m) (type_sound m) b) (λ ws mid x s r. argument_complete r refl m)
       (λ ws rest x r. argument_list r) (λ ws at o. binding_list (is_binding b ws) (opens_begins m Any (after_binding b ws) at o))
 
   -- ---- segments
@@ -278,6 +281,30 @@ module _ (m : ℕ) (inner : (b : Bounds) → Agrees (type_in m b) (OpensTypeOf m
   unfolding bounds_in
   bounds_agree last ws at = (λ e. bounds_deep (suc (length ws)) last ws at e, λ o. bounds_open o last)
 
+  in_bounds_deep : (w : Word) (ws : List Word) (at : Span) (b : Bool) → cond b (bounded (type_in m) (bound_at (type_in m) (w ∷ ws))) (Ok (w ∷ ws)) ≡ Err (deep at) → OpensInBounds (OpensTypeOf m) (w ∷ ws) at
+  in_bounds_deep w ws at false e = cc
+  in_bounds_deep w ws at true e =
+      elim (bind_err (bound_at (type_in m) (w ∷ ws)) e) [
+        | inl k ↦ in_the_first (bound_deep (w ∷ ws) at k)
+        | inr k ↦ elim (bind_err (bounds_in (type_in m) k.0.0 k.0.1) k.2) [
+          | inl j ↦ in_the_others (bound_sound (type_in m) (type_sound m) (w ∷ ws) k.0.0 k.0.1 k.1) (read_passes bound_agrees (w ∷ ws) k.0 k.1) ((bounds_agree k.0.0 k.0.1 at).0 j)
+          | inr j ↦ cc (j.2)
+        ]
+      ]
+
+  after_bounds_deep : (ws : List Word) (at : Span) → after_bounds (type_in m) ws ≡ Err (deep at) → OpensInBounds (OpensTypeOf m) ws at
+  unfolding after_bounds
+  after_bounds_deep [] at e = cc
+  after_bounds_deep (w ∷ ws) at e = in_bounds_deep w ws at (begins_bound w) e
+
+  in_bounds_open : {ws : List Word} {at : Span} → OpensInBounds (OpensTypeOf m) ws at → after_bounds (type_in m) ws ≡ Err (deep at)
+  in_bounds_open (in_the_first r) = by_bounds (type_in m) (opens_bound_begins r) ∙ ap (bounded (type_in m)) (bound_opens r)
+  in_bounds_open (in_the_others {b = b} {ws = ws} {mid = mid} r passes s) =
+      by_bounds (type_in m) (bound_begins r) ∙ ap (bounded (type_in m)) (passed_reads bound_agrees ws (b, mid) (bound_complete r (opens_bare s) m) passes) ∙ ap (λ v. v >>= λ e. Ok e.1) (bounds_open s b)
+
+  pub in_bounds_agree : Agrees (after_bounds (type_in m)) (OpensInBounds (OpensTypeOf m))
+  in_bounds_agree ws at = (λ e. after_bounds_deep ws at e, λ o. in_bounds_open o)
+
   -- ---- a type
   later_deep : (b : Bounds) (x : Ident) (ws : List Word) (p : WrittenPath) (mid : List Word) (at : Span) → path_at false (type_in m) (first_bound b ws) ≡ Ok (p, mid) → more_bounds b (type_in m) (span_of p) mid ≡ Err (deep at)
       → OpensWithin (OpensTypeOf m) b (keyword Dyn x ∷ ws) at
@@ -364,8 +391,8 @@ module _ (m : ℕ) (inner : (b : Bounds) → Agrees (type_in m b) (OpensTypeOf m
   abbrev before_rest : List Word → Result Written Fault → Read Written
   before_rest rest r = r >>= λ v. Ok (v, rest)
 
-  abbrev bounded : Bounds → Span → Read WrittenPath → Read Written
-  bounded b s r = r >>= λ q. more_bounds b (type_in m) (span_of q.0) q.1 >>= λ e. Ok (trait_object q.0 (cover s e.0), e.1)
+  abbrev with_bounds : Bounds → Span → Read WrittenPath → Read Written
+  with_bounds b s r = r >>= λ q. more_bounds b (type_in m) (span_of q.0) q.1 >>= λ e. Ok (trait_object q.0 (cover s e.0), e.1)
 
   step_opens : {b : Bounds} {ws : List Word} {at : Span} → OpensWithin (OpensTypeOf m) b ws at → type_step b (type_in m) ws ≡ Err (deep at)
   unfolding type_step reference_at round_at square_at object_at
@@ -378,9 +405,9 @@ module _ (m : ℕ) (inner : (b : Bounds) → Agrees (type_in m b) (OpensTypeOf m
       (round_goes_on (type_in m) s (words_of g) (begins_no_end (type_begins r)) ∙ ap (rounded s) (passed_reads (inner Any) (words_of g) (t, sign Comma c ∷ mid) (type_complete r refl m) passes)
       ∙ ap (λ v. all v >>= λ us. Ok (tuple (more_types t (writtens_of us)) s)) ((types_agree mid at).1 q))
   step_opens (in_square {g = g} {s = s} {at = at} {rest = rest} r) = ap (λ v. before_rest rest (squared s v)) ((inner Any (words_of g) at).1 r)
-  step_opens {b = b} (in_first_bound {x = x} l q r) = ap (λ v. bounded b x.span (path_at false (type_in m) v)) (first_are l q (opens_path_starts r)) ∙ ap (bounded b x.span) (path_opens r)
+  step_opens {b = b} (in_first_bound {x = x} l q r) = ap (λ v. with_bounds b x.span (path_at false (type_in m) v)) (first_are l q (opens_path_starts r)) ∙ ap (with_bounds b x.span) (path_opens r)
   step_opens (in_later_bound {x = x} {vs = vs} {mid = mid} {p = p} l q r passes s) =
-      ap (λ v. bounded Any x.span (path_at false (type_in m) v)) (first_are l q (path_starts r)) ∙ ap (bounded Any x.span) (passed_reads (path_agrees false) vs (p, mid) (path_complete r (opens_bare s) m) passes)
+      ap (λ v. with_bounds Any x.span (path_at false (type_in m) v)) (first_are l q (path_starts r)) ∙ ap (with_bounds Any x.span) (passed_reads (path_agrees false) vs (p, mid) (path_complete r (opens_bare s) m) passes)
       ∙ ap (λ v. v >>= λ e. Ok (trait_object p (cover x.span e.0), e.1)) (bounds_open s (span_of p))
 
 none_left : (ws : List Word) (at : Span) → too_deep ws ≡ Err (deep at) → BeginsAt ws at

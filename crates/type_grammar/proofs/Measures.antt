@@ -5,7 +5,7 @@ use Rattle.tokens.specs.Trees.{Trees}
 use Rattle.written_types.specs.Written.{Written, WrittenPath, Segment, Argument}
 use Rattle.words.specs.Words.{Word}
 use Rattle.type_grammar.specs.declared.starts.Bounds.{Bounds}
-use Rattle.type_grammar.specs.Grammar.{MayBeLifetime, no_lifetime, a_lifetime, MayBeMut, no_mut, a_mut, MayBeQuestion, no_question, a_question, LifetimesFirst, no_more_lifetimes, a_lifetime_first, MayBeBinding, no_binding, a_binding, IsConstant, a_literal, a_negative, a_true, a_false, a_block, IsTypeOf, pathed, referred, wrapped, unit, several, sliced, arrayed, object, MoreBounds, no_more_bounds, one_more_bound, IsBound, a_lifetime_bound, a_path_bound, IsPath, from_here, from_root, IsSegments, last_segment, more_segments, IsSegment, without_arguments, with_arguments, with_colons, IsArgument, of_lifetime, of_constant, of_type, IsArguments, no_argument, last_argument, another_argument, IsTypes, no_type, last_type, another_type}
+use Rattle.type_grammar.specs.Grammar.{MayBeLifetime, no_lifetime, a_lifetime, MayBeMut, no_mut, a_mut, MayBeQuestion, no_question, a_question, LifetimesFirst, no_more_lifetimes, a_lifetime_first, MayBeBinding, no_binding, a_binding, IsConstant, a_literal, a_negative, a_true, a_false, a_block, IsTypeOf, pathed, referred, wrapped, unit, several, sliced, arrayed, object, MoreBounds, no_more_bounds, one_more_bound, IsBound, a_lifetime_bound, a_path_bound, IsPath, from_here, from_root, IsSegments, last_segment, more_segments, IsSegment, without_arguments, with_arguments, with_colons, IsArgument, of_lifetime, of_constant, of_type, IsArguments, no_argument, last_argument, another_argument, IsTypes, no_type, last_type, another_type, IsBounds, no_bounds, some_bounds}
 
 -- one for each word, and more by what it measures
 abbrev pub total : (Word → ℕ) → List Word → ℕ
@@ -90,6 +90,10 @@ module _ (m : Word → ℕ) where
     types_lighter no_type = omega arith
     types_lighter (last_type r) = let h = type_lighter r in omega arith
     types_lighter (another_type r s) = let h = type_lighter r in let k = types_lighter s in omega arith
+
+  pub bounds_lighter : {ws rest : List Word} → IsBounds ws rest → total m rest ≤ total m ws
+  bounds_lighter no_bounds = omega arith
+  bounds_lighter (some_bounds r s) = let h = bound_lighter r in let k = more_lighter s in omega arith
 
 -- in numbers of words
 pub fewer_words : (ws rest : List Word) → total (λ w. 0) rest < total (λ w. 0) ws → length rest < length ws

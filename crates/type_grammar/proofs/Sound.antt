@@ -1,5 +1,5 @@
 -- What is read is in the grammar.
-use Rattle.std.proofs.Common.{◌≡◌, ℕ, zero, suc, ◌⊎◌, inl, inr, List, [], ◌∷◌, length, refl, ap, sym, subst, ◌∙◌, Bool, true, false, Option, Some, None, Ok}
+use Rattle.std.proofs.Common.{◌≡◌, ℕ, zero, suc, ◌⊎◌, inl, inr, List, [], ◌∷◌, length, refl, ap, sym, subst, ◌∙◌, cond, Bool, true, false, Option, Some, None, Ok}
 use Rattle.texts.specs.declared.span.Span.{Span}
 use Rattle.tokens.specs.declared.token.Bracket.TheVariants.{Round, Square, Curly}
 use Rattle.tokens.specs.Trees.{Trees, end, ◌▸◌}
@@ -8,52 +8,47 @@ use Rattle.written_types.specs.Written.{Written, path, reference, tuple, slice, 
 use Rattle.words.specs.declared.vocabulary.Keyword.TheVariants.{Mut, Dyn, True, False, Crate, SelfValue, Super, SelfType}
 use Rattle.words.specs.declared.vocabulary.Sign.TheVariants.{Less, Greater, Comma, Colons, Semicolon, Ampersand, Plus, Minus, Question}
 use Rattle.words.specs.Words.{Word, name, underscore, keyword, sign, lifetime, literal, doc, group, words_of, cover, start_of}
-use Rattle.words.specs.Reading.{Read, as_path_word, as_sign, as_keyword, as_lifetime, path_word_at, sign_at}
+use Rattle.words.specs.Reading.{Read, ◌>>=◌, as_path_word, as_sign, as_keyword, as_lifetime, path_word_at, sign_at}
 use Rattle.type_grammar.specs.declared.starts.Bounds.{Bounds}
 use Rattle.type_grammar.specs.declared.starts.Bounds.TheVariants.{One, Any}
-use Rattle.type_grammar.specs.Starts.{TypeStart, starts_path, starts_reference, starts_object, starts_round, starts_square, starts_no_type, type_start, begins_type, span_of}
-use Rattle.type_grammar.specs.Grammar.{a_literal, a_negative, a_true, a_false, a_block, IsTypeOf, pathed, referred, wrapped, unit, several, sliced, arrayed, object, MoreBounds, no_more_bounds, one_more_bound, IsBound, a_lifetime_bound, a_path_bound, IsPath, from_here, from_root, IsSegments, last_segment, more_segments, IsSegment, without_arguments, with_arguments, with_colons, IsArgument, of_lifetime, of_constant, of_type, IsArguments, no_argument, last_argument, another_argument, IsTypes, no_type, last_type, another_type}
-use Rattle.type_grammar.specs.Reading.{TypeReader, after_sign, without, is_end, all, ends_list, list_after, list_at, list_of, after_binding, first_bound, plain_argument, argument_or, argument_at, first_of_two, then_less, arguments_after, segment_after, segment_at, Chain, segments_after, segments_at, segments_in, path_from, path_at, bound_from, bound_at, bounds_after, bounds_at, bounds_in, more_bounds, object_at, reference_at, round_at, square_at, type_from, type_step, too_deep, type_in}
+use Rattle.type_grammar.specs.Starts.{TypeStart, starts_path, starts_reference, starts_object, starts_round, starts_square, starts_no_type, type_start, begins_type, begins_bound, span_of}
+use Rattle.type_grammar.specs.Grammar.{a_literal, a_negative, a_true, a_false, a_block, IsTypeOf, pathed, referred, wrapped, unit, several, sliced, arrayed, object, MoreBounds, no_more_bounds, one_more_bound, IsBound, a_lifetime_bound, a_path_bound, IsPath, from_here, from_root, IsSegments, last_segment, more_segments, IsSegment, without_arguments, with_arguments, with_colons, IsArgument, of_lifetime, of_constant, of_type, IsArguments, no_argument, last_argument, another_argument, IsTypes, no_type, last_type, another_type, IsBounds, no_bounds, some_bounds, IsListOf, no_items, last_item, more_items}
+use Rattle.type_grammar.specs.Reading.{TypeReader, after_sign, without, is_end, all, ends_list, list_after, list_at, list_until, list_of, after_binding, first_bound, plain_argument, argument_or, argument_at, first_of_two, then_less, arguments_after, segment_after, segment_at, Chain, segments_after, segments_at, segments_in, path_from, path_at, bound_from, bound_at, bounds_after, bounds_at, bounds_in, after_bounds, more_bounds, object_at, reference_at, round_at, square_at, type_from, type_step, too_deep, type_in}
 use Rattle.type_grammar.proofs.Firsts.{first_as-is, as_sign-is, as_lifetime-is, sign_at-is, after_sign-is}
-use Rattle.words.proofs.Read.{bind_ok}
+use Rattle.words.proofs.Read.{bind_ok, ok_is}
 use Rattle.words.proofs.Many.{Shortens}
 use Rattle.type_grammar.proofs.Found.{either, along, along_some, along_three, is_end-is, goes_on-is, all-is}
 use Rattle.type_grammar.proofs.Optional.{is_lifetime, is_mut, is_question, is_first, is_binding}
 use Rattle.type_grammar.proofs.Measures.{type_lighter, bound_lighter, segment_lighter, argument_lighter, fewer_words}
 
 -- ---- lists
-pub data IsList {A : Type 0} (R : List Word → A → List Word → Type 0) : List Word → List A → List Word → Type 0 where
-  no_items : {rest : List Word} → IsList R rest [] rest
-  last_item : {ws rest : List Word} {x : A} → R ws x rest → IsList R ws (x ∷ []) rest
-  more_items : {ws mid rest : List Word} {at : Span} {x : A} {xs : List A} → R ws x (sign Comma at ∷ mid) → IsList R mid xs rest → IsList R ws (x ∷ xs) rest
-
-to_types : {ws rest : List Word} {us : List Written} → IsList (IsTypeOf Any) ws us rest → IsTypes ws us rest
+to_types : {ws rest : List Word} {us : List Written} → IsListOf (IsTypeOf Any) ws us rest → IsTypes ws us rest
 to_types no_items = no_type
 to_types (last_item r) = last_type r
 to_types (more_items r s) = another_type r (to_types s)
 
-to_arguments : {b : Bool} {ws rest : List Word} {xs : List Argument} → IsList (IsArgument b) ws xs rest → IsArguments b ws xs rest
+to_arguments : {b : Bool} {ws rest : List Word} {xs : List Argument} → IsListOf (IsArgument b) ws xs rest → IsArguments b ws xs rest
 to_arguments no_items = no_argument
 to_arguments (last_item r) = last_argument r
 to_arguments (more_items r s) = another_argument r (to_arguments s)
 
-module _ {A : Type 0} (R : List Word → A → List Word → Type 0) (item : List Word → Read A) (sound : (ws : List Word) (x : A) (rest : List Word) → item ws ≡ Ok (x, rest) → R ws x rest) where
-  sound_after : (again : List Word → Read (List A)) → ((mid : List Word) (xs : List A) (rest : List Word) → again mid ≡ Ok (xs, rest) → IsList R mid xs rest)
-      → (ws : List Word) (x : A) (us : List Word) → R ws x us → (xs : List A) (rest : List Word) (o : Option (List Word)) → after_sign Comma us ≡ o → list_after again x us o ≡ Ok (xs, rest) → IsList R ws xs rest
-  sound_after again h ws x us r xs rest None f e = along (λ v w. IsList R ws v w) (x ∷ []) xs us rest e (last_item r)
+module _ {A : Type 0} (ends : List Word → Bool) (R : List Word → A → List Word → Type 0) (item : List Word → Read A) (sound : (ws : List Word) (x : A) (rest : List Word) → item ws ≡ Ok (x, rest) → R ws x rest) where
+  sound_after : (again : List Word → Read (List A)) → ((mid : List Word) (xs : List A) (rest : List Word) → again mid ≡ Ok (xs, rest) → IsListOf R mid xs rest)
+      → (ws : List Word) (x : A) (us : List Word) → R ws x us → (xs : List A) (rest : List Word) (o : Option (List Word)) → after_sign Comma us ≡ o → list_after again x us o ≡ Ok (xs, rest) → IsListOf R ws xs rest
+  sound_after again h ws x us r xs rest None f e = along (λ v w. IsListOf R ws v w) (x ∷ []) xs us rest e (last_item r)
   sound_after again h ws x us r xs rest (Some mid) f e =
       let found = bind_ok (again mid) e in
       let tail = h mid found.0.0 found.0.1 found.1 in
-      along (λ v w. IsList R ws v w) (x ∷ found.0.0) xs found.0.1 rest found.2 (more_items (subst (λ v. R ws x v) (after_sign-is Comma us mid f).1 r) tail)
+      along (λ v w. IsListOf R ws v w) (x ∷ found.0.0) xs found.0.1 rest found.2 (more_items (subst (λ v. R ws x v) (after_sign-is Comma us mid f).1 r) tail)
 
-  pub list_sound : (n : ℕ) (ws : List Word) (xs : List A) (rest : List Word) → list_at item n ws ≡ Ok (xs, rest) → IsList R ws xs rest
+  pub list_sound : (n : ℕ) (ws : List Word) (xs : List A) (rest : List Word) → list_at ends item n ws ≡ Ok (xs, rest) → IsListOf R ws xs rest
   unfolding list_at
   list_sound zero ws xs rest e = cc
   list_sound (suc n) ws xs rest e =
-      elim (either (ends_list ws) e) [
-        | inl h ↦ along (λ v w. IsList R ws v w) [] xs ws rest h.1 no_items
+      elim (either (ends ws) e) [
+        | inl h ↦ along (λ v w. IsListOf R ws v w) [] xs ws rest h.1 no_items
         | inr h ↦ let found = bind_ok (item ws) h.1 in
-            sound_after (list_at item n) (list_sound n) ws found.0.0 found.0.1 (sound ws found.0.0 found.0.1 found.1) xs rest (after_sign Comma found.0.1) refl found.2
+            sound_after (list_at ends item n) (list_sound n) ws found.0.0 found.0.1 (sound ws found.0.0 found.0.1 found.1) xs rest (after_sign Comma found.0.1) refl found.2
       ]
 
 -- ---- lifetimes and constants
@@ -146,8 +141,8 @@ square_begins _ g s e = cc
 -- ---- a type, whose parts are sound
 module _ (inner : TypeReader) (sound : (b : Bounds) (ws : List Word) (t : Written) (rest : List Word) → inner b ws ≡ Ok (t, rest) → IsTypeOf b ws t rest) where
   types_sound : (ws : List Word) (us : List Written) (rest : List Word) → list_of (inner Any) ws ≡ Ok (us, rest) → IsTypes ws us rest
-  unfolding list_of
-  types_sound ws us rest e = to_types (list_sound (IsTypeOf Any) (inner Any) (sound Any) (suc (length ws)) ws us rest e)
+  unfolding list_until
+  types_sound ws us rest e = to_types (list_sound ends_list (IsTypeOf Any) (inner Any) (sound Any) (suc (length ws)) ws us rest e)
 
   argument_found : (b : Bool) (ws : List Word) (a : Argument) (rest : List Word) (o : Option (Argument × List Word)) → plain_argument ws ≡ o → argument_or inner (after_binding b ws) o ≡ Ok (a, rest) → IsArgument b ws a rest
   argument_found b ws a rest (Some p) f e = along (λ v w. IsArgument b ws v w) p.0 a p.1 rest e (plain_sound b ws p.0 p.1 f)
@@ -160,8 +155,8 @@ module _ (inner : TypeReader) (sound : (b : Bounds) (ws : List Word) (t : Writte
   argument_sound b ws a rest e = argument_found b ws a rest (plain_argument ws) refl e
 
   arguments_sound : (b : Bool) (ws : List Word) (xs : List Argument) (rest : List Word) → list_of (argument_at b inner) ws ≡ Ok (xs, rest) → IsArguments b ws xs rest
-  unfolding list_of
-  arguments_sound b ws xs rest e = to_arguments (list_sound (IsArgument b) (argument_at b inner) (argument_sound b) (suc (length ws)) ws xs rest e)
+  unfolding list_until
+  arguments_sound b ws xs rest e = to_arguments (list_sound ends_list (IsArgument b) (argument_at b inner) (argument_sound b) (suc (length ws)) ws xs rest e)
 
   segment_found : (b : Bool) (w : Word) (x : Ident) → as_path_word w ≡ Some x → (ws : List Word) (o : Option (List Word)) → arguments_after ws ≡ o → (s : Segment) (last : Span) (rest : List Word)
       → segment_after b inner x ws o ≡ Ok ((s, last), rest) → IsSegment b (w ∷ ws) s last rest
@@ -245,6 +240,19 @@ module _ (inner : TypeReader) (sound : (b : Bounds) (ws : List Word) (t : Writte
   unfolding bounds_in
   more_sound One before ws last rest e = along (λ v r. MoreBounds One before ws v r) before last ws rest e no_more_bounds
   more_sound Any before ws last rest e = bounds_at_sound (suc (length ws)) before ws last rest e
+
+  begun_bounds : (w : Word) (ws rest : List Word) (b : Bool) → cond b (bound_at inner (w ∷ ws) >>= λ b. bounds_in inner b.0 b.1 >>= λ e. Ok e.1) (Ok (w ∷ ws)) ≡ Ok rest → IsBounds (w ∷ ws) rest
+  begun_bounds w ws rest false e = subst (λ v. IsBounds (w ∷ ws) v) (ok_is e) no_bounds
+  begun_bounds w ws rest true e =
+      let first = bind_ok (bound_at inner (w ∷ ws)) e in
+      let others = bind_ok (bounds_in inner first.0.0 first.0.1) first.2 in
+      subst (λ v. IsBounds (w ∷ ws) v) (ok_is others.2)
+      (some_bounds (bound_sound (w ∷ ws) first.0.0 first.0.1 first.1) (more_sound Any first.0.0 first.0.1 others.0.0 others.0.1 others.1))
+
+  pub bounds_sound : (ws rest : List Word) → after_bounds inner ws ≡ Ok rest → IsBounds ws rest
+  unfolding after_bounds
+  bounds_sound [] rest e = subst (λ v. IsBounds [] v) (ok_is e) no_bounds
+  bounds_sound (w ∷ ws) rest e = begun_bounds w ws rest (begins_bound w) e
 
   object_sound : (b : Bounds) (x : Ident) (ws : List Word) (t : Written) (rest : List Word) → object_at b inner x.span ws ≡ Ok (t, rest) → IsTypeOf b (keyword Dyn x ∷ ws) t rest
   unfolding object_at

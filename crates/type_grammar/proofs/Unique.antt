@@ -16,7 +16,7 @@ use Rattle.type_grammar.specs.declared.starts.Bounds.{Bounds}
 use Rattle.type_grammar.specs.declared.starts.Bounds.TheVariants.{One, Any}
 use Rattle.type_grammar.specs.Starts.{Stops, StopsPath}
 use Rattle.type_grammar.specs.Grammar.{IsTypeOf, IsBound}
-use Rattle.type_grammar.specs.Opening.{OpensList, in_first, behind, OpensArgument, OpensSegment, in_arguments, in_colon_arguments, OpensSegments, in_segment, behind_segment, OpensPath, in_segments, in_rooted, OpensBound, in_bound_path, OpensBounds, in_bound, behind_bound, OpensWithin, in_path, in_reference, in_round, in_several, in_square, in_first_bound, in_later_bound, BeginsAt, here, OpensTypeOf}
+use Rattle.type_grammar.specs.Opening.{OpensList, in_first, behind, OpensArgument, OpensSegment, in_arguments, in_colon_arguments, OpensSegments, in_segment, behind_segment, OpensPath, in_segments, in_rooted, OpensBound, in_bound_path, OpensBounds, in_bound, behind_bound, OpensInBounds, in_the_first, in_the_others, OpensWithin, in_path, in_reference, in_round, in_several, in_square, in_first_bound, in_later_bound, BeginsAt, here, OpensTypeOf}
 use Rattle.type_grammar.specs.Reading.{after_binding, type_in, bound_at}
 use Rattle.type_grammar.proofs.Optional.{is_binding}
 use Rattle.type_grammar.proofs.Measures.{total, lifetime_lighter, mut_lighter, question_lighter, lifetimes_lighter, binding_lighter, type_lighter, path_lighter, bound_lighter, segment_lighter, argument_lighter}
@@ -85,6 +85,10 @@ module _ {Inner : Bounds → List Word → Span → Type 0} (n : ℕ) (light : (
   bounds_light : {ws : List Word} {at : Span} → OpensBounds Inner ws at → suc n < total inside ws
   bounds_light (in_bound r) = let h = bound_light r in omega arith
   bounds_light (behind_bound r passes s) = let h = bound_lighter inside r in let k = bounds_light s in omega arith
+
+  pub in_bounds_light : {ws : List Word} {at : Span} → OpensInBounds Inner ws at → suc n < total inside ws
+  in_bounds_light (in_the_first r) = bound_light r
+  in_bounds_light (in_the_others r passes s) = let h = bound_lighter inside r in let k = bounds_light s in omega arith
 
   within_light : {b : Bounds} {ws : List Word} {at : Span} → OpensWithin Inner b ws at → suc n < total inside ws
   within_light (in_path r) = path_light r

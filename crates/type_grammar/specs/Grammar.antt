@@ -122,3 +122,14 @@ mutual
 -- a type
 abbrev pub IsType : List Word → Written → List Word → Type 0
 IsType = IsTypeOf Any
+
+-- bounds = (bound ("+" bound)*)?
+pub data IsBounds : List Word → List Word → Type 0 where
+  no_bounds : {rest : List Word} → IsBounds rest rest
+  some_bounds : {ws mid rest : List Word} {first last : Span} → IsBound ws first mid → MoreBounds Any first mid last rest → IsBounds ws rest
+
+-- a list of items and what follows it: separated by commas, a last comma allowed, perhaps empty
+pub data IsListOf {A : Type 0} (IsItem : List Word → A → List Word → Type 0) : List Word → List A → List Word → Type 0 where
+  no_items : {rest : List Word} → IsListOf IsItem rest [] rest
+  last_item : {ws rest : List Word} {x : A} → IsItem ws x rest → IsListOf IsItem ws (x ∷ []) rest
+  more_items : {ws mid rest : List Word} {at : Span} {x : A} {xs : List A} → IsItem ws x (sign Comma at ∷ mid) → IsListOf IsItem mid xs rest → IsListOf IsItem ws (x ∷ xs) rest

@@ -58,6 +58,11 @@ pub data OpensBounds (Inner : Bounds → List Word → Span → Type 0) : List W
   in_bound : {plus_at at : Span} {ws : List Word} → OpensBound Inner ws at → OpensBounds Inner (sign Plus plus_at ∷ ws) at
   behind_bound : {plus_at b at : Span} {ws mid : List Word} → IsBound ws b mid → Passes (OpensBound Inner) ws → OpensBounds Inner mid at → OpensBounds Inner (sign Plus plus_at ∷ ws) at
 
+-- in bounds, of which the first stands alone
+pub data OpensInBounds (Inner : Bounds → List Word → Span → Type 0) : List Word → Span → Type 0 where
+  in_the_first : {ws : List Word} {at : Span} → OpensBound Inner ws at → OpensInBounds Inner ws at
+  in_the_others : {b at : Span} {ws mid : List Word} → IsBound ws b mid → Passes (OpensBound Inner) ws → OpensBounds Inner mid at → OpensInBounds Inner ws at
+
 pub data OpensWithin (Inner : Bounds → List Word → Span → Type 0) : Bounds → List Word → Span → Type 0 where
   in_path : {bounds : Bounds} {ws : List Word} {at : Span} → OpensPath Inner false ws at → OpensWithin Inner bounds ws at
   in_reference : {bounds : Bounds} {sign_at at : Span} {ws us vs : List Word} → MayBeLifetime ws us → MayBeMut us vs → Inner One vs at → OpensWithin Inner bounds (sign Ampersand sign_at ∷ ws) at

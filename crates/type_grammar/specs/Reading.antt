@@ -10,10 +10,12 @@ use Rattle.words.specs.declared.vocabulary.Keyword.TheVariants.{Mut, True, False
 use Rattle.words.specs.declared.vocabulary.Sign.{Sign}
 use Rattle.words.specs.declared.vocabulary.Sign.TheVariants.{Less, Greater, Comma, Colons, Semicolon, Plus, Minus, Equals, Question}
 use Rattle.words.specs.Words.{Word, name, keyword, sign, lifetime, literal, group, words_of, cover, start_of}
-use Rattle.words.specs.Reading.{Fault, deep, wrong, Read, ◌>>=◌, same_sign, as_keyword, as_sign, as_lifetime, path_word_at, sign_at}
+use Rattle.words.specs.Reading.{Fault, deep, wrong, Read, ◌>>=◌, same_sign, same_bracket, as_keyword, as_sign, as_lifetime, path_word_at, sign_at}
 use Rattle.type_grammar.specs.declared.starts.Bounds.{Bounds}
 use Rattle.type_grammar.specs.declared.starts.Bounds.TheVariants.{One, Any}
-use Rattle.type_grammar.specs.Starts.{TypeStart, starts_path, starts_reference, starts_object, starts_round, starts_square, starts_no_type, type_start, begins_type, span_of}
+use Rattle.type_grammar.specs.declared.starts.ListEnd.{ListEnd}
+use Rattle.type_grammar.specs.declared.starts.ListEnd.TheVariants.{Angle, Clause}
+use Rattle.type_grammar.specs.Starts.{TypeStart, starts_path, starts_reference, starts_object, starts_round, starts_square, starts_no_type, type_start, begins_type, begins_bound, span_of}
 use Rattle.type_grammar.specs.declared.starts.TypeStart as program
 use Rattle.type_grammar.specs.declared.starts.TypeStart.TheVariants as starts
 use Rattle.type_grammar.specs.Grammar.{keyword_token, minus_token}
@@ -54,20 +56,36 @@ ends_list [] = true
 ends_list (sign k s ∷ ws) = same_sign Greater k
 ends_list (_ ∷ ws) = false
 
+-- that of a where clause ends where the words end, at `;`, or at a group in curly brackets
+abbrev pub ends_clause : List Word → Bool
+ends_clause [] = true
+ends_clause (sign k s ∷ ws) = same_sign Semicolon k
+ends_clause (group b ts s ∷ ws) = same_bracket Curly b
+ends_clause (_ ∷ ws) = false
+
+-- where the program's lists end
+abbrev pub ends_at : ListEnd → List Word → Bool
+ends_at Angle = ends_list
+ends_at Clause = ends_clause
+
 abbrev pub list_after : {A : Type 0} → (List Word → Read (List A)) → A → List Word → Option (List Word) → Read (List A)
 list_after again x ws None = Ok (x ∷ [], ws)
 list_after again x ws (Some mid) = again mid >>= λ p. Ok (x ∷ p.0, p.1)
 
-abbrev pub list_step : {A : Type 0} → (List Word → Read A) → (List Word → Read (List A)) → List Word → Read (List A)
-list_step item again ws = cond (ends_list ws) (Ok ([], ws)) (item ws >>= λ p. list_after again p.0 p.1 (after_sign Comma p.1))
+abbrev pub list_step : {A : Type 0} → (List Word → Bool) → (List Word → Read A) → (List Word → Read (List A)) → List Word → Read (List A)
+list_step ends item again ws = cond (ends ws) (Ok ([], ws)) (item ws >>= λ p. list_after again p.0 p.1 (after_sign Comma p.1))
 
 -- The number bounds the turns. One more than the count of the words is always enough.
-unfoldable pub list_at : {A : Type 0} → (List Word → Read A) → ℕ → List Word → Read (List A)
-list_at item zero ws = Err wrong
-list_at item (suc n) ws = list_step item (list_at item n) ws
+unfoldable pub list_at : {A : Type 0} → (List Word → Bool) → (List Word → Read A) → ℕ → List Word → Read (List A)
+list_at ends item zero ws = Err wrong
+list_at ends item (suc n) ws = list_step ends item (list_at ends item n) ws
 
-unfoldable pub list_of : {A : Type 0} → (List Word → Read A) → List Word → Read (List A)
-list_of item ws = list_at item (suc (length ws)) ws
+-- a list that ends there
+unfoldable pub list_until : {A : Type 0} → (List Word → Bool) → (List Word → Read A) → List Word → Read (List A)
+list_until ends item ws = list_at ends item (suc (length ws)) ws
+
+abbrev pub list_of : {A : Type 0} → (List Word → Read A) → List Word → Read (List A)
+list_of item ws = list_until ends_list item ws
 
 -- the words without the name and `=` of a binding, where bindings may stand
 abbrev pub after_binding : Bool → List Word → List Word
@@ -172,6 +190,11 @@ bounds_in inner last ws = bounds_at inner (suc (length ws)) last ws
 abbrev pub more_bounds : Bounds → TypeReader → Span → List Word → Read Span
 more_bounds One inner last ws = Ok (last, ws)
 more_bounds Any inner last ws = bounds_in inner last ws
+
+-- bounds, where one begins; what follows
+unfoldable pub after_bounds : TypeReader → List Word → Result (List Word) Fault
+after_bounds inner [] = Ok []
+after_bounds inner (w ∷ ws) = cond (begins_bound w) (bound_at inner (w ∷ ws) >>= λ b. bounds_in inner b.0 b.1 >>= λ e. Ok e.1) (Ok (w ∷ ws))
 
 -- `dyn` is read
 unfoldable pub object_at : Bounds → TypeReader → Span → List Word → Read Written

@@ -60,6 +60,16 @@ is_type_start starts_no_type = false
 abbrev pub begins_type : Word → Bool
 begins_type w = is_type_start (type_start w)
 
+-- whether a bound may begin with the word: a lifetime, `?` or a path
+abbrev pub begins_path : TypeStart → Bool
+begins_path starts_path = true
+begins_path _ = false
+
+abbrev pub begins_bound : Word → Bool
+begins_bound (lifetime x) = true
+begins_bound (sign signs.Question s) = true
+begins_bound w = begins_path (type_start w)
+
 -- whether the words may be more of the type that stands before them: arguments, a segment or a bound
 abbrev pub sign_goes_on : Sign → Bool
 sign_goes_on signs.Less = true

@@ -11,20 +11,25 @@
 //! constant = "-"? literal | "true" | "false" | curly-group
 //! ```
 //!
-//! A list has commas between its items, perhaps one at the end, and may be empty. A word is a name, `_`, `crate`, `self`,
+//! Bounds by themselves are `(bound ("+" bound)*)?`. A list has commas between its items, perhaps one at the end, and may be
+//! empty. A word is a name, `_`, `crate`, `self`,
 //! `super` or `Self`. An expr is one or more token trees up to the end of the brackets. A trait object has a path among its
 //! bounds, of which the first counts; in the paths of later bounds an argument may also be `name "=" type`. Behind `&` it
 //! has one bound.
 #![tactic(auto)]
 
+mod bound_list;
 mod constants;
+mod ended_list;
 mod parts;
 mod read;
 mod starts;
 mod types;
 
+pub use bound_list::after_bounds;
+pub use ended_list::list_until;
 pub use read::{
     MAX_LEVELS, bounds_are_read, one_bound, one_type, read_type, types_are_read, types_begin,
 };
-pub use starts::Bounds;
+pub use starts::{Bounds, ListEnd};
 pub use types::{bound_at, type_at};

@@ -332,7 +332,7 @@ fn more_bounds(
 
 /// Bounds, each behind `+`.
 #[cycle(types)]
-fn bounds_at(
+pub(crate) fn bounds_at(
     alloc: Global,
     first: Span,
     trees: &[TokenTree],

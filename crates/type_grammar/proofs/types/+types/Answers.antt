@@ -1,77 +1,80 @@
-use Rattle.std.proofs.Common.{◌≡◌, ◌≤◌, ◌++◌, ◌∷◌, [], map, length, arith, Ok, sym, ap, ◌∙◌, false, true, unwrap_or}
+use Rattle.std.proofs.Common.{◌≡◌, ◌<◌, ◌≤◌, ◌++◌, ◌∷◌, [], map, length, arith, Ok, sym, ap, ◌∙◌, false, true, unwrap_or}
 use Rattle.std.proofs.lemmas.Result.{err_from_is_err_and}
 use Rattle.std.proofs.lemmas.List.{map_push}
 use Rattle.written_types.specs.Written.{written_view, segment_view, argument_view}
 use Rattle.words.specs.Words.{words_view}
 use Rattle.type_grammar.specs.declared.starts.Bounds.TheVariants.{Any}
 use Rattle.type_grammar.specs.Reading.{type_in, argument_at, ends_list}
-use Rattle.type_grammar.proofs.Lists.{list_done, list_last, list_turn, list_fails}
+use Rattle.words.proofs.Turns.{length_view}
+use Rattle.type_grammar.proofs.Lists.{list_start, list_done, list_last, list_turn, list_fails}
 use Rattle.type_grammar.proofs.Chains.{segments_last, segments_turn, segments_fail, bounds_done, bounds_turn, bounds_fail, fails_as}
-use Rattle.type_grammar.proofs.Sound.{type_shortens, argument_shortens, segment_shortens, bound_shortens}
+use Rattle.type_grammar.proofs.Sound.{segment_shortens, bound_shortens}
 use Rattle.type_grammar.proofs.types.+types.Goals as goal
+
+pub types_at-list-init : goal.types_at-list-init
+types_at-list-init t c = (omega arith, rw c.new-types.ensures (list_start ends_list (type_in c.args.left Any) (words_view c.args.trees.now)))
 
 pub types_at-returns-clause-value : goal.types_at-returns-clause-value
 types_at-returns-clause-value t c =
     let ended : ends_list (words_view c.list.rest.now) ≡ true = sym c.ends_list.ensures ∙ c.list-test.false in
-    list_done (type_in c.args.left Any) (type_shortens c.args.left Any) (words_view c.args.trees.now) (map written_view c.list.types) (words_view c.list.rest.now) c.list.invariant.1 ended
+    list_done ends_list (type_in c.args.left Any) _ _ _ c.list.invariant.1 ended
 
 pub types_at-returns-in-None-clause-value : goal.types_at-returns-in-None-clause-value
 types_at-returns-in-None-clause-value t c =
     let going : ends_list (words_view c.list.rest.now) ≡ false = sym c.ends_list.ensures ∙ c.list-test.true in
     let pushed : map written_view c.push.new.self ≡ map written_view c.list.types ++ written_view c.in_ok-ty.ty ∷ [] = rw c.in_ok-push.ensures.ok (map_push _ c.list.types c.in_ok-ty.ty) in
-    rw pushed
-    (list_last (type_in c.args.left Any) (type_shortens c.args.left Any) (words_view c.args.trees.now) (map written_view c.list.types) (words_view c.list.rest.now) c.list.invariant.1 (written_view c.in_ok-ty.ty)
-    (words_view c.in_ok-ty.after.now) going c.in_ok-ty.ensures.value c.in-None.ensures.value)
+    rw pushed (list_last ends_list (type_in c.args.left Any) _ _ _ (written_view c.in_ok-ty.ty) (words_view c.in_ok-ty.after.now) c.list.invariant.1 going c.in_ok-ty.ensures.value c.in-None.ensures.value)
 
 pub types_at-returns-in_err-ty-clause-value : goal.types_at-returns-in_err-ty-clause-value
 types_at-returns-in_err-ty-clause-value t c =
     let p = err_from_is_err_and c.from_residual.result c.from_residual.ensures.1 in
     let going : ends_list (words_view c.list.rest.now) ≡ false = sym c.ends_list.ensures ∙ c.list-test.true in
-    rw (p.1, p.2)
-    (list_fails (type_in c.args.left Any) (type_shortens c.args.left Any) (words_view c.args.trees.now) (map written_view c.list.types) (words_view c.list.rest.now) c.list.invariant.1 c.in_err-ty.field-0.0 going
-    c.in_err-ty.ensures.value)
+    rw (p.1, p.2) (list_fails ends_list (type_in c.args.left Any) _ _ _ c.in_err-ty.field-0.0 c.list.invariant.1 going c.in_err-ty.ensures.value)
 
 pub types_at-list-preserved : goal.types_at-list-preserved
 types_at-list-preserved t c =
     let going : ends_list (words_view c.list.rest.now) ≡ false = sym c.ends_list.ensures ∙ c.list-test.true in
     let pushed : map written_view c.push.new.self ≡ map written_view c.list.types ++ written_view c.in_ok-ty.ty ∷ [] = rw c.in_ok-push.ensures.ok (map_push _ c.list.types c.in_ok-ty.ty) in
+    let less : length (words_view c.in-Some.mid.now) < length (words_view c.list.rest.now) =
+    omega (arith, length_view c.list.rest.now, length_view c.in-Some.mid.now, c.in-Some.ensures.shorter, c.in_ok-ty.ensures.shorter) in
     let closer : length c.in-Some.mid.now ≤ length c.args.trees.now = omega (arith, c.list.invariant.0, c.in-Some.ensures.shorter, c.in_ok-ty.ensures.shorter) in (
       closer,
       rw pushed
-          (list_turn (type_in c.args.left Any) (type_shortens c.args.left Any) (words_view c.args.trees.now) (map written_view c.list.types) (words_view c.list.rest.now) c.list.invariant.1 (written_view c.in_ok-ty.ty)
-          (words_view c.in_ok-ty.after.now) (words_view c.in-Some.mid.now) going c.in_ok-ty.ensures.value c.in-Some.ensures.value),
+          (list_turn ends_list (type_in c.args.left Any) _ _ _ (written_view c.in_ok-ty.ty) (words_view c.in_ok-ty.after.now) (words_view c.in-Some.mid.now) c.list.invariant.1 less going c.in_ok-ty.ensures.value
+          c.in-Some.ensures.value),
     )
+
+pub arguments_at-list-init : goal.arguments_at-list-init
+arguments_at-list-init t c = (omega arith, rw c.new-arguments.ensures (list_start ends_list (argument_at c.args.bindings (type_in c.args.left)) (words_view c.args.trees.now)))
 
 pub arguments_at-returns-clause-value : goal.arguments_at-returns-clause-value
 arguments_at-returns-clause-value t c =
     let ended : ends_list (words_view c.list.rest.now) ≡ true = sym c.ends_list.ensures ∙ c.list-test.false in
-    list_done (argument_at c.args.bindings (type_in c.args.left)) (argument_shortens c.args.left c.args.bindings) (words_view c.args.trees.now) (map argument_view c.list.arguments) (words_view c.list.rest.now) c.list.invariant.1 ended
+    list_done ends_list (argument_at c.args.bindings (type_in c.args.left)) _ _ _ c.list.invariant.1 ended
 
 pub arguments_at-returns-in-None-clause-value : goal.arguments_at-returns-in-None-clause-value
 arguments_at-returns-in-None-clause-value t c =
     let going : ends_list (words_view c.list.rest.now) ≡ false = sym c.ends_list.ensures ∙ c.list-test.true in
     let pushed : map argument_view c.push.new.self ≡ map argument_view c.list.arguments ++ argument_view c.in_ok-argument.argument ∷ [] = rw c.in_ok-push.ensures.ok (map_push _ c.list.arguments c.in_ok-argument.argument) in
-    rw pushed
-    (list_last (argument_at c.args.bindings (type_in c.args.left)) (argument_shortens c.args.left c.args.bindings) (words_view c.args.trees.now) (map argument_view c.list.arguments) (words_view c.list.rest.now) c.list.invariant.1
-    (argument_view c.in_ok-argument.argument) (words_view c.in_ok-argument.after.now) going c.in_ok-argument.ensures.value c.in-None.ensures.value)
+    rw pushed (list_last ends_list (argument_at c.args.bindings (type_in c.args.left)) _ _ _ (argument_view c.in_ok-argument.argument) (words_view c.in_ok-argument.after.now) c.list.invariant.1 going c.in_ok-argument.ensures.value c.in-None.ensures.value)
 
 pub arguments_at-returns-in_err-argument-clause-value : goal.arguments_at-returns-in_err-argument-clause-value
 arguments_at-returns-in_err-argument-clause-value t c =
     let p = err_from_is_err_and c.from_residual.result c.from_residual.ensures.1 in
     let going : ends_list (words_view c.list.rest.now) ≡ false = sym c.ends_list.ensures ∙ c.list-test.true in
-    rw (p.1, p.2)
-    (list_fails (argument_at c.args.bindings (type_in c.args.left)) (argument_shortens c.args.left c.args.bindings) (words_view c.args.trees.now) (map argument_view c.list.arguments) (words_view c.list.rest.now) c.list.invariant.1
-    c.in_err-argument.field-0.0 going c.in_err-argument.ensures.value)
+    rw (p.1, p.2) (list_fails ends_list (argument_at c.args.bindings (type_in c.args.left)) _ _ _ c.in_err-argument.field-0.0 c.list.invariant.1 going c.in_err-argument.ensures.value)
 
 pub arguments_at-list-preserved : goal.arguments_at-list-preserved
 arguments_at-list-preserved t c =
     let going : ends_list (words_view c.list.rest.now) ≡ false = sym c.ends_list.ensures ∙ c.list-test.true in
     let pushed : map argument_view c.push.new.self ≡ map argument_view c.list.arguments ++ argument_view c.in_ok-argument.argument ∷ [] = rw c.in_ok-push.ensures.ok (map_push _ c.list.arguments c.in_ok-argument.argument) in
+    let less : length (words_view c.in-Some.mid.now) < length (words_view c.list.rest.now) =
+    omega (arith, length_view c.list.rest.now, length_view c.in-Some.mid.now, c.in-Some.ensures.shorter, c.in_ok-argument.ensures.shorter) in
     let closer : length c.in-Some.mid.now ≤ length c.args.trees.now = omega (arith, c.list.invariant.0, c.in-Some.ensures.shorter, c.in_ok-argument.ensures.shorter) in (
       closer,
       rw pushed
-          (list_turn (argument_at c.args.bindings (type_in c.args.left)) (argument_shortens c.args.left c.args.bindings) (words_view c.args.trees.now) (map argument_view c.list.arguments) (words_view c.list.rest.now) c.list.invariant.1
-          (argument_view c.in_ok-argument.argument) (words_view c.in_ok-argument.after.now) (words_view c.in-Some.mid.now) going c.in_ok-argument.ensures.value c.in-Some.ensures.value),
+          (list_turn ends_list (argument_at c.args.bindings (type_in c.args.left)) _ _ _ (argument_view c.in_ok-argument.argument) (words_view c.in_ok-argument.after.now) (words_view c.in-Some.mid.now) c.list.invariant.1 less going c.in_ok-argument.ensures.value
+          c.in-Some.ensures.value),
     )
 
 pub segments_at-returns-in-None-clause-value : goal.segments_at-returns-in-None-clause-value

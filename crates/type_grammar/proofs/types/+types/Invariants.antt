@@ -2,12 +2,13 @@ use Rattle.std.proofs.Common.{◌≡◌, ◌+◌, ◌*◌, ◌≤◌, length, ma
 use Rattle.written_types.specs.Written.{written_view, segment_view, argument_view}
 use Rattle.words.specs.Words.{words_view}
 use Rattle.type_grammar.specs.declared.starts.Bounds.TheVariants.{Any}
-use Rattle.type_grammar.specs.Reading.{list_of, segments_in, bounds_in, type_in, argument_at, with_front, with_segments}
+use Rattle.type_grammar.specs.Reading.{ends_list, list_of, segments_in, bounds_in, type_in, argument_at, with_segments}
+use Rattle.type_grammar.proofs.Lists.{SoFar}
 use Rattle.type_grammar.proofs.types.+types.Given as goal
 
 abbrev pub invariant-types_at-list : goal.invariant-types_at-list
 invariant-types_at-list l =
-    (length l.rest ≤ length l.trees) × (with_front (map written_view l.types) (list_of (type_in l.left Any) (words_view l.rest)) ≡ list_of (type_in l.left Any) (words_view l.trees))
+    (length l.rest ≤ length l.trees) × SoFar ends_list (type_in l.left Any) (map written_view l.types) (words_view l.rest) (list_of (type_in l.left Any) (words_view l.trees))
 
 abbrev pub decreases-types_at-list : goal.decreases-types_at-list
 decreases-types_at-list l = length l.rest
@@ -15,7 +16,7 @@ decreases-types_at-list l = length l.rest
 abbrev pub invariant-arguments_at-list : goal.invariant-arguments_at-list
 invariant-arguments_at-list l =
     (length l.rest ≤ length l.trees)
-    × (with_front (map argument_view l.arguments) (list_of (argument_at l.bindings (type_in l.left)) (words_view l.rest)) ≡ list_of (argument_at l.bindings (type_in l.left)) (words_view l.trees))
+    × SoFar ends_list (argument_at l.bindings (type_in l.left)) (map argument_view l.arguments) (words_view l.rest) (list_of (argument_at l.bindings (type_in l.left)) (words_view l.trees))
 
 abbrev pub decreases-arguments_at-list : goal.decreases-arguments_at-list
 decreases-arguments_at-list l = length l.rest
