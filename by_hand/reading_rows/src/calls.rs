@@ -56,6 +56,7 @@ fn told_of_grammar(alloc: Global, call: &str, given: &Value) -> anyhow::Result<S
         "read_type" => types::read(alloc, given),
         "type_at" => types::type_in_front(alloc, given),
         "bound_at" => types::bound_in_front(alloc, given),
+        "after_bounds" => types::behind_bounds(alloc, given),
         "parse_type" => types::parsed(alloc, given),
         "WrittenType::eq" => types::compared(alloc, given),
         "Ident::eq" => types::idents_compared(alloc, given),

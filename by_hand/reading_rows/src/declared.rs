@@ -8,7 +8,8 @@ use rows::refusal_text;
 use serde_json::Value;
 use std::alloc::{AllocError, Global};
 use syntax::{
-    Attribute, Body, Declaration, Declarations, Field, Fields, Meta, Variant, parse_declarations,
+    Attribute, Body, Declaration, Declarations, Field, Fields, GenericParam, Generics, Meta,
+    Variant, parse_declarations,
 };
 use texts::List;
 use tokens::TokenTree;
@@ -112,14 +113,39 @@ fn body_text(alloc: Global, body: &Body) -> Result<String, AllocError> {
     }
 }
 
-/// The attributes, the name, the span and the body.
+/// A lifetime, a type or a constant.
+fn parameter_text(alloc: Global, param: &GenericParam) -> Result<String, AllocError> {
+    match param {
+        GenericParam::Lifetime(ident) => ident.text.as_str().to_string(alloc),
+        GenericParam::Ty(ident) => ident.text.as_str().to_string(alloc),
+        GenericParam::Constant(ident) => format!(in alloc; "const {}", ident.text.as_str()),
+    }
+}
+
+/// The generic parameters in `<` and `>`, where there are any.
+fn generics_text(alloc: Global, generics: &Generics) -> Result<String, AllocError> {
+    let texts: Vec<String> = generics
+        .params
+        .as_slice()
+        .iter()
+        .map(|param| parameter_text(alloc, param))
+        .try_collect(alloc)?;
+    if texts.is_empty() {
+        return Ok(String::new(alloc));
+    }
+    format!(in alloc; "<{}>", texts.join(alloc, ", ")?)
+}
+
+/// The attributes, the name, the generic parameters, the span and the body.
 fn declaration_text(alloc: Global, declaration: &Declaration) -> Result<String, AllocError> {
     let attributes = attributes_text(alloc, declaration.attrs.as_slice())?;
+    let generics = generics_text(alloc, &declaration.generics)?;
     let body = body_text(alloc, &declaration.body)?;
     let (name, span) = (declaration.ident.text.as_str(), declaration.span);
     format!(in alloc;
-        "{}{name} {}..{}{}",
+        "{}{name}{} {}..{}{}",
         attributes.as_str(),
+        generics.as_str(),
         span.start,
         span.end,
         body.as_str()

@@ -8,7 +8,7 @@ use rows::refusal_text;
 use serde_json::Value;
 use std::alloc::{AllocError, Global};
 use syntax::parse_type;
-use type_grammar::{bound_at, read_type, type_at};
+use type_grammar::{after_bounds, bound_at, read_type, type_at};
 use written_types::{Path, PathSegment, WrittenType};
 
 /// The word, and how many arguments it has.
@@ -92,6 +92,16 @@ pub(crate) fn bound_in_front(alloc: Global, given: &Value) -> anyhow::Result<Str
             let text = bytes(alloc, span)?;
             Ok(then_left(alloc, text.as_str(), rest)?)
         }
+        Err(stop) => Ok(stopped(alloc, stop)?),
+    }
+}
+
+/// How many trees are left behind the bounds at the front of the source whose arguments nest so many levels.
+pub(crate) fn behind_bounds(alloc: Global, given: &Value) -> anyhow::Result<String> {
+    let (given, levels) = pair_of(given)?;
+    let trees = source_trees(alloc, given)?;
+    match after_bounds(alloc, trees.as_slice(), count_of(levels)?) {
+        Ok(rest) => Ok(then_left(alloc, "bounds", rest)?),
         Err(stop) => Ok(stopped(alloc, stop)?),
     }
 }

@@ -3,7 +3,6 @@ use Rattle.std.proofs.Common.{◌≡◌, ◌∙◌, ◌<◌, inl, inr, ℕ, zero
 use Rattle.texts.specs.declared.span.Span.{Span}
 use Rattle.tokens.specs.declared.token.Token.{Token}
 use Rattle.written_types.specs.declared.written.Ident.{Ident}
-use Rattle.written_types.specs.Written.{Written}
 use Rattle.words.specs.declared.vocabulary.Sign.TheVariants.{Comma, Equals}
 use Rattle.words.specs.Words.{Word, name, underscore, keyword, sign, lifetime, literal, doc, group}
 use Rattle.words.specs.Reading.{Fault, deep, wrong, Read, ◌>>=◌, taken, first_as, as_literal, as_sign, literal_at}
@@ -101,9 +100,9 @@ pub items_sound : (ws : List Word) (xs : List SerdeItem) → list_of serde_item_
 items_sound ws xs e = list_sound serde_item_at IsSerdeItem item_sound ws xs e
 
 -- ---- no less
--- no types are in these lists
-no_type : List Word → Read Written
-no_type ws = Err wrong
+-- nothing in these lists nests too deep
+abbrev nowhere : Span → Type 0
+nowhere at = ⊥
 
 abbrev after_ident : Ident × List Word → Read SerdeItem
 after_ident x = value_at x.1 >>= λ v. Ok (item x.0 v.0, v.1)
@@ -121,17 +120,16 @@ text_given : (s : Span) (t : Token) (text : List ℕ) (rest : List Word) → tex
 unfolding value_at text_at
 text_given s t text rest e = ap (λ (o : Option (List ℕ)). text_from t rest o >>= some_text) e
 
-item_complete : (ws rest : List Word) (i : SerdeItem) → IsSerdeItem ws i rest → Ends rest → complete.Finds no_type (serde_item_at ws) (i, rest)
+item_complete : (ws rest : List Word) (i : SerdeItem) → IsSerdeItem ws i rest → Ends rest → complete.Finds nowhere (serde_item_at ws) (i, rest)
 unfolding value_at
 item_complete _ rest _ (bare {w = w} {x = x} e) ends = inl (item_from w x rest None rest e (ended_value ends))
 item_complete _ rest _ (texted {w = w} {x = x} {s = s} {t = t} {text = text} e v) ends = inl (item_from w x (sign Equals s ∷ literal t ∷ rest) (Some (record { text = text; span = t.span })) rest e (text_given s t text rest v))
 item_complete _ rest _ (grouped {w = w} {x = x} {b = b} {inside = inside} {s = s} e) ends = inl (item_from w x (group b inside s ∷ rest) None rest e refl)
 
 pub items_complete : {ws : List Word} {xs : List SerdeItem} → IsList IsSerdeItem ws xs → list_of serde_item_at ws ≡ Ok xs
-unfolding no_type
-items_complete r = elim (complete.list_complete no_type serde_item_at IsSerdeItem item_shortens (λ ws rest x r. item_shorter r) item_complete r) [
+items_complete r = elim (complete.list_complete nowhere serde_item_at IsSerdeItem item_shortens (λ ws rest x r. item_shorter r) item_complete r) [
   | inl e ↦ e
-  | inr d ↦ cc
+  | inr d ↦ absurd d.2
 ]
 
 -- ---- never too deep

@@ -3,8 +3,11 @@ mod Commas
 mod Inner
 mod Types
 mod Fronts
+mod SoundGenerics
 mod Sound
+mod CompleteGenerics
 mod Complete
+mod DeepGenerics
 mod Deep
 mod Answered
 mod TypeText

@@ -4,7 +4,7 @@ use Rattle.std.specs.List.{AllByRecursion}
 use Rattle.words.specs.Words.{Word}
 use Rattle.words.specs.Lists.{IsList, no_items, last_item, more_items}
 use Rattle.syntax.specs.Items.{FieldItem, FieldItems, VariantItem, DeclaredItem}
-use Rattle.syntax.specs.ItemGrammar.{IsNamedField, named_field, IsFields, named_fields, unnamed_fields, no_fields, IsVariant, variant_item, struct_item, enum_item, IsDeclaration, structure, enumeration, IsItems, nothing, used, declared, IsSource, inner_doc, inner_attribute, items}
+use Rattle.syntax.specs.ItemGrammar.{IsNamedField, named_field, IsFields, named_fields, unnamed_fields, no_fields, IsStructBody, in_braces, in_parentheses, fieldless, IsVariant, variant_item, struct_item, variants_in_braces, enum_item, IsDeclaration, structure, enumeration, IsItems, nothing, used, declared, IsSource, inner_doc, inner_attribute, items}
 use Rattle.syntax.specs.Named.{HasName, HaveNames, IsNamedBody, AreNamed}
 
 field_named : {ws rest : List Word} {f : FieldItem} → IsNamedField ws f rest → HasName f
@@ -25,9 +25,14 @@ variants_named no_items = tt
 variants_named (last_item (variant_item a fs d)) = (fields_named fs, tt)
 variants_named (more_items (variant_item a fs d) vs) = (fields_named fs, variants_named vs)
 
+body_named : {ws rest : List Word} {fs : FieldItems} → IsStructBody ws fs rest → HaveNames fs
+body_named (in_braces w fs) = fields_named fs
+body_named (in_parentheses fs w) = tt
+body_named (fieldless w) = tt
+
 declaration_named : {ws rest : List Word} {d : DeclaredItem} → IsDeclaration ws d rest → IsNamedBody d.body
-declaration_named (structure (struct_item a v fs end)) = fields_named fs
-declaration_named (enumeration (enum_item a v vs)) = variants_named vs
+declaration_named (structure (struct_item a v g b)) = body_named b
+declaration_named (enumeration (enum_item a v g (variants_in_braces w vs))) = variants_named vs
 
 items_named : {ws : List Word} {ds : List DeclaredItem} → IsItems ws ds → AreNamed ds
 items_named nothing = tt

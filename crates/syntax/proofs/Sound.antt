@@ -18,14 +18,17 @@ use Rattle.attributes.specs.AttributeWords.{is_inner_doc}
 use Rattle.attributes.specs.AttributeGrammar.{IsAttributes}
 use Rattle.attributes.specs.AttributeReading.{attributes_at}
 use Rattle.attributes.proofs.Whole.{attributes_sound, attributes_no_longer}
-use Rattle.syntax.specs.Items.{FieldItem, FieldItems, named, unnamed, unit, VariantItem, BodyItem, DeclaredItem}
+use Rattle.syntax.specs.Items.{FieldItem, FieldItems, named, unnamed, unit, VariantItem, HeadItem, DeclaredItem}
 use Rattle.syntax.specs.ItemWords.{after_semicolon, before_comma, from_comma, is_end}
-use Rattle.syntax.specs.ItemGrammar.{IsVisibility, IsNamedField, named_field, IsUnnamedField, unnamed_field, IsFields, named_fields, unnamed_fields, no_fields, IsStructEnd, behind_named, behind_unnamed, behind_name, IsDiscriminant, no_discriminant, discriminant, IsVariant, variant_item, IsUse, use_line, struct_item, enum_item, IsDeclaration, structure, enumeration, IsItems, nothing, used, declared, IsSource, inner_doc, inner_attribute, items}
-use Rattle.syntax.specs.ItemReading.{after_visibility, field_of, named_field_at, unnamed_field_at, fields_in, fields_at, after_struct, value_or_none, discriminant_at, variant_of, variant_at, declared_of, struct_at, enum_at, struct_or_enum, declaration_at, left_by, use_or_declaration, item_at, kept, after_inner_attribute, inner_at, inner_from, after_inner_within, after_inner, source_at}
+use Rattle.syntax.specs.ItemGrammar.{IsVisibility, IsNamedField, named_field, IsUnnamedField, unnamed_field, IsFields, named_fields, unnamed_fields, no_fields, IsStructBody, in_braces, in_parentheses, fieldless, IsDiscriminant, no_discriminant, discriminant, IsVariant, variant_item, IsUse, use_line, IsEnumBody, variants_in_braces, struct_item, enum_item, IsDeclaration, structure, enumeration, IsItems, nothing, used, declared, IsSource, inner_doc, inner_attribute, items}
+use Rattle.syntax.specs.Generics.{IsWhere}
+use Rattle.syntax.specs.ItemReading.{after_visibility, field_of, named_field_at, unnamed_field_at, fields_in, fields_at, begins_group, without_fields, tuple_body_at, other_body_at, struct_body_at, value_or_none, discriminant_at, variant_of, variant_at, declared_of, struct_at, enum_body_at, enum_at, struct_or_enum, declaration_at, left_by, use_or_declaration, item_at, kept, after_inner_attribute, inner_at, inner_from, after_inner_within, after_inner, source_at}
 use Rattle.words.proofs.Read.{bind_ok, ok_is, along}
-use Rattle.words.proofs.Stands.{name-is, keyword-is, sign-is, group-is}
+use Rattle.words.proofs.Stands.{same_bracket-is, name-is, keyword-is, sign-is, group-is}
 use Rattle.syntax.proofs.Fronts.{visibility_sound, visibility_no_longer}
+use Rattle.syntax.specs.GenericReading.{Readers, generics_at, after_where}
 use Rattle.syntax.proofs.Types.{type_shorter}
+use Rattle.syntax.proofs.SoundGenerics.{AreSound, generics_sound, where_sound, generics_no_longer, where_no_longer}
 use Rattle.syntax.proofs.Commas.{from_comma_no_longer}
 use Rattle.words.proofs.Many.{Shortens}
 use Rattle.words.proofs.Sound.{list_sound}
@@ -42,10 +45,13 @@ fields_no_longer (named_fields r) = omega arith
 fields_no_longer (unnamed_fields r) = omega arith
 fields_no_longer no_fields = omega arith
 
-end_no_longer : {ws rest : List Word} {fs : FieldItems} → IsStructEnd fs ws rest → length rest ≤ length ws
-end_no_longer behind_named = omega arith
-end_no_longer behind_unnamed = omega arith
-end_no_longer behind_name = omega arith
+body_no_longer : {ws rest : List Word} {fs : FieldItems} → IsStructBody ws fs rest → length rest ≤ length ws
+body_no_longer (in_braces w r) = omega (arith, where_no_longer w, fields_no_longer r)
+body_no_longer (in_parentheses r w) = omega (arith, fields_no_longer r, where_no_longer w)
+body_no_longer (fieldless w) = omega (arith, where_no_longer w)
+
+variants_shorter : {ws rest : List Word} {vs : List VariantItem} → IsEnumBody ws vs rest → length rest < length ws
+variants_shorter (variants_in_braces w r) = omega (arith, where_no_longer w)
 
 discriminant_no_longer : {ws rest : List Word} {o : Option (List Word)} → IsDiscriminant ws o rest → length rest ≤ length ws
 discriminant_no_longer no_discriminant = omega arith
@@ -66,8 +72,8 @@ pub use_shorter : {ws rest : List Word} → IsUse ws rest → length rest < leng
 use_shorter (use_line {vs = vs} {rest = rest} d v e) = omega (arith, attributes_no_longer d, visibility_no_longer v, semicolon_shorter vs rest e)
 
 pub declaration_shorter : {ws rest : List Word} {d : DeclaredItem} → IsDeclaration ws d rest → length rest < length ws
-declaration_shorter (structure (struct_item d v r end)) = omega (arith, attributes_no_longer d, visibility_no_longer v, fields_no_longer r, end_no_longer end)
-declaration_shorter (enumeration (enum_item d v r)) = omega (arith, attributes_no_longer d, visibility_no_longer v)
+declaration_shorter (structure (struct_item d v g b)) = omega (arith, attributes_no_longer d, visibility_no_longer v, generics_no_longer g, body_no_longer b)
+declaration_shorter (enumeration (enum_item d v g b)) = omega (arith, attributes_no_longer d, visibility_no_longer v, generics_no_longer g, variants_shorter b)
 
 -- an item that is read
 abbrev pub ItemRead : List Word → Option DeclaredItem → List Word → Type 0
@@ -130,14 +136,6 @@ headed k us e =
 unit_sound : (ws : List Word) (fs : FieldItems) (rest : List Word) → ◌≡◌ {A = Read FieldItems} (Ok (unit, ws)) (Ok (fs, rest)) → IsFields ws fs rest
 unit_sound ws fs rest e = along (λ v w. IsFields ws v w) (unit, ws) (fs, rest) e no_fields
 
-semicolon_is : (ws rest : List Word) → (sign_at Semicolon ws >>= λ end. Ok end.1) ≡ Ok rest → (s : Span) × (ws ≡ sign Semicolon s ∷ rest)
-semicolon_is ws rest e = let end = bind_ok (sign_at Semicolon ws) e in (end.0.0, sign-is Semicolon ws end.0 end.1 ∙ ap (λ v. sign Semicolon end.0.0 ∷ v) (ok_is end.2))
-
-end_sound : (fs : FieldItems) (ws rest : List Word) → after_struct fs ws ≡ Ok rest → IsStructEnd fs ws rest
-end_sound (named fs) ws rest e = subst (λ v. IsStructEnd (named fs) ws v) (ok_is e) behind_named
-end_sound (unnamed fs) ws rest e = let h = semicolon_is ws rest e in subst (λ v. IsStructEnd (unnamed fs) v rest) (sym h.1) behind_unnamed
-end_sound unit ws rest e = let h = semicolon_is ws rest e in subst (λ v. IsStructEnd unit v rest) (sym h.1) behind_name
-
 value_sound : (s : Span) (ws : List Word) (o : Option (List Word)) (rest : List Word) (b : Bool) → is_end (before_comma ws) ≡ b → cond {A = Read (Option (List Word))} b (Err wrong) (Ok (Some (before_comma ws), from_comma ws)) ≡ Ok (o, rest)
     → IsDiscriminant (sign Equals s ∷ ws) o rest
 value_sound s ws o rest true is e = cc
@@ -188,7 +186,7 @@ module _ (ty : List Word → Read Written) (sound : (ws : List Word) (t : Writte
       along (λ v w. IsFields (group Round inside s ∷ ws) v w) (unnamed l.0, ws) (fs, rest) l.2 (unnamed_fields (list_sound (unnamed_field_at ty) IsUnnamedField unnamed_sound (words_of inside) l.0 l.1))
   fields_in_sound Square inside s ws fs rest e = cc
 
-  fields_sound : (ws : List Word) (fs : FieldItems) (rest : List Word) → fields_at ty ws ≡ Ok (fs, rest) → IsFields ws fs rest
+  pub fields_sound : (ws : List Word) (fs : FieldItems) (rest : List Word) → fields_at ty ws ≡ Ok (fs, rest) → IsFields ws fs rest
   unfolding fields_at
   fields_sound [] fs rest e = unit_sound [] fs rest e
   fields_sound (name x ∷ ws) fs rest e = unit_sound (name x ∷ ws) fs rest e
@@ -216,33 +214,100 @@ module _ (ty : List Word → Read Written) (sound : (ws : List Word) (t : Writte
   pub variant_shortens : Shortens (variant_at ty)
   variant_shortens ws v rest e = variant_shorter (variant_sound ws v rest e)
 
+-- ---- the body of a struct
+pub group_first : (b : Bracket) (ws : List Word) → begins_group b ws ≡ true → (inside : Trees) × (s : Span) × (rest : List Word) × (ws ≡ group b inside s ∷ rest)
+group_first b [] e = cc
+group_first b (group a inside s ∷ ws) e = (inside, s, ws, ap (λ v. group v inside s ∷ ws) (sym (same_bracket-is b a e)))
+group_first b (name x ∷ ws) e = cc
+group_first b (underscore x ∷ ws) e = cc
+group_first b (keyword k x ∷ ws) e = cc
+group_first b (sign k s ∷ ws) e = cc
+group_first b (lifetime x ∷ ws) e = cc
+group_first b (literal t ∷ ws) e = cc
+group_first b (doc t ∷ ws) e = cc
+
+module _ (r : Readers) where
+  -- fields behind a bracket have its form
+  pub unnamed_there : (inside : Trees) (s : Span) (ws : List Word) (fs : FieldItems) (rest : List Word) → fields_at r.ty (group Round inside s ∷ ws) ≡ Ok (fs, rest) → (us : List FieldItem) × (fs ≡ unnamed us)
+  unfolding fields_at
+  unnamed_there inside s ws fs rest e = let l = bind_ok (list_of (unnamed_field_at r.ty) (words_of inside)) e in (l.0, sym (ap (λ (p : FieldItems × List Word). p.0) (ok_is l.2)))
+
+  pub named_there : (inside : Trees) (s : Span) (ws : List Word) (fs : FieldItems) (rest : List Word) → fields_at r.ty (group Curly inside s ∷ ws) ≡ Ok (fs, rest) → (us : List FieldItem) × (fs ≡ named us)
+  unfolding fields_at
+  named_there inside s ws fs rest e = let l = bind_ok (list_of (named_field_at r.ty) (words_of inside)) e in (l.0, sym (ap (λ (p : FieldItems × List Word). p.0) (ok_is l.2)))
+
+module _ (r : Readers) (sound : AreSound r) where
+  abbrev ty : List Word → Read Written
+  ty = r.ty
+
+  tuple_sound : (ws : List Word) (fs : FieldItems) (rest : List Word) → begins_group Round ws ≡ true → tuple_body_at r ws ≡ Ok (fs, rest) → IsStructBody ws fs rest
+  unfolding tuple_body_at
+  tuple_sound ws fs rest b e =
+      let g = group_first Round ws b in
+      let f = bind_ok (fields_at ty ws) e in
+      let w = bind_ok (after_where r f.0.1) f.2 in
+      let end = bind_ok (sign_at Semicolon w.0) w.2 in
+      let form = unnamed_there r g.0 g.1 g.2 f.0.0 f.0.1 (ap (fields_at ty) (sym g.3) ∙ f.1) in
+      let fields = subst (λ v. IsFields ws v f.0.1) form.1 (fields_sound ty sound.types ws f.0.0 f.0.1 f.1) in
+      let clause = subst (λ v. IsWhere f.0.1 v) (sign-is Semicolon w.0 end.0 end.1) (where_sound r sound f.0.1 w.0 w.1) in
+      along (λ v us. IsStructBody ws v us) (f.0.0, end.0.1) (fs, rest) end.2 (subst (λ v. IsStructBody ws v end.0.1) (sym form.1) (in_parentheses fields clause))
+
+  behind_where : (ws us : List Word) (fs : FieldItems) (rest : List Word) → IsWhere ws us → (b : Bool) → begins_group Curly us ≡ b → cond b (fields_at ty us) (without_fields us) ≡ Ok (fs, rest) → IsStructBody ws fs rest
+  behind_where ws us fs rest w true is e =
+      let g = group_first Curly us is in
+      let form = named_there r g.0 g.1 g.2 fs rest (ap (fields_at ty) (sym g.3) ∙ e) in
+      subst (λ v. IsStructBody ws v rest) (sym form.1) (in_braces w (subst (λ v. IsFields us v rest) form.1 (fields_sound ty sound.types us fs rest e)))
+  behind_where ws us fs rest w false is e =
+      let end = bind_ok (sign_at Semicolon us) e in
+      along (λ v vs. IsStructBody ws v vs) (unit, end.0.1) (fs, rest) end.2 (fieldless (subst (λ v. IsWhere ws v) (sign-is Semicolon us end.0 end.1) w))
+
+  other_sound : (ws : List Word) (fs : FieldItems) (rest : List Word) → other_body_at r ws ≡ Ok (fs, rest) → IsStructBody ws fs rest
+  unfolding other_body_at
+  other_sound ws fs rest e = let w = bind_ok (after_where r ws) e in behind_where ws w.0 fs rest (where_sound r sound ws w.0 w.1) (begins_group Curly w.0) refl w.2
+
+  body_from : (ws : List Word) (fs : FieldItems) (rest : List Word) (b : Bool) → begins_group Round ws ≡ b → cond b (tuple_body_at r ws) (other_body_at r ws) ≡ Ok (fs, rest) → IsStructBody ws fs rest
+  body_from ws fs rest true is e = tuple_sound ws fs rest is e
+  body_from ws fs rest false is e = other_sound ws fs rest e
+
+  pub body_sound : (ws : List Word) (fs : FieldItems) (rest : List Word) → struct_body_at r ws ≡ Ok (fs, rest) → IsStructBody ws fs rest
+  unfolding struct_body_at
+  body_sound ws fs rest e = body_from ws fs rest (begins_group Round ws) refl e
+
+  enum_body_sound : (ws : List Word) (vs : List VariantItem) (rest : List Word) → enum_body_at r ws ≡ Ok (vs, rest) → IsEnumBody ws vs rest
+  unfolding enum_body_at
+  enum_body_sound ws vs rest e =
+      let w = bind_ok (after_where r ws) e in
+      let g = bind_ok (group_at Curly w.0) w.2 in
+      let l = bind_ok (list_of (variant_at ty) (words_of g.0.0.0)) g.2 in
+      let clause = subst (λ v. IsWhere ws v) (group-is Curly w.0 g.0 g.1) (where_sound r sound ws w.0 w.1) in
+      along (λ v us. IsEnumBody ws v us) (l.0, g.0.1) (vs, rest) l.2 (variants_in_braces clause (list_sound (variant_at ty) IsVariant (variant_sound ty sound.types) (words_of g.0.0.0) l.0 l.1))
+
   -- behind attributes and a visibility
   module _ (ws start us : List Word) (attrs : List AttributeItem) (ds : IsAttributes ws attrs start) (v : IsVisibility start us) where
-    abbrev Declares : (Ident × BodyItem) × List Word → Type 0
+    abbrev Declares : HeadItem × List Word → Type 0
     Declares d = IsDeclaration ws (declared_of attrs start d) d.1
 
-    struct_sound : (d : (Ident × BodyItem) × List Word) → struct_at ty us ≡ Ok d → Declares d
+    struct_sound : (d : HeadItem × List Word) → struct_at r us ≡ Ok d → Declares d
     unfolding struct_at
     struct_sound d e =
         let h = headed Struct us e in
-        let fs = bind_ok (fields_at ty h.1.1) h.3 in
-        let end = bind_ok (after_struct fs.0.0 fs.0.1) fs.2 in
-        subst Declares (ok_is end.2) (structure (struct_item ds (subst (IsVisibility start) h.2 v) (fields_sound h.1.1 fs.0.0 fs.0.1 fs.1) (end_sound fs.0.0 fs.0.1 end.0 end.1)))
+        let g = bind_ok (generics_at r h.1.1) h.3 in
+        let b = bind_ok (struct_body_at r g.0.1) g.2 in
+        subst Declares (ok_is b.2) (structure (struct_item ds (subst (IsVisibility start) h.2 v) (generics_sound r sound h.1.1 g.0.0 g.0.1 g.1) (body_sound g.0.1 b.0.0 b.0.1 b.1)))
 
-    enum_sound : (d : (Ident × BodyItem) × List Word) → enum_at ty us ≡ Ok d → Declares d
+    enum_sound : (d : HeadItem × List Word) → enum_at r us ≡ Ok d → Declares d
     unfolding enum_at
     enum_sound d e =
         let h = headed Enum us e in
-        let g = bind_ok (group_at Curly h.1.1) h.3 in
-        let vs = bind_ok (list_of (variant_at ty) (words_of g.0.0.0)) g.2 in
-        let is : us ≡ keyword Enum h.0 ∷ name h.1.0 ∷ group Curly g.0.0.0 g.0.0.1 ∷ g.0.1 = h.2 ∙ ap (λ v. keyword Enum h.0 ∷ name h.1.0 ∷ v) (group-is Curly h.1.1 g.0 g.1) in
-        subst Declares (ok_is vs.2) (enumeration (enum_item ds (subst (IsVisibility start) is v) (list_sound (variant_at ty) IsVariant variant_sound (words_of g.0.0.0) vs.0 vs.1)))
+        let g = bind_ok (generics_at r h.1.1) h.3 in
+        let b = bind_ok (enum_body_at r g.0.1) g.2 in
+        subst Declares (ok_is b.2) (enumeration (enum_item ds (subst (IsVisibility start) h.2 v) (generics_sound r sound h.1.1 g.0.0 g.0.1 g.1) (enum_body_sound g.0.1 b.0.0 b.0.1 b.1)))
 
-    declaration_from : (d : (Ident × BodyItem) × List Word) (r : Read Span) → struct_or_enum ty us r ≡ Ok d → Declares d
+    declaration_from : (d : HeadItem × List Word) (q : Read Span) → struct_or_enum r us q ≡ Ok d → Declares d
     declaration_from d (Ok k) e = struct_sound d e
     declaration_from d (Err f) e = enum_sound d e
 
-    declaration_sound : (d : (Ident × BodyItem) × List Word) → declaration_at ty us ≡ Ok d → Declares d
+    declaration_sound : (d : HeadItem × List Word) → declaration_at r us ≡ Ok d → Declares d
     unfolding declaration_at
     declaration_sound d e = declaration_from d (keyword_at Struct us) e
 
@@ -251,21 +316,21 @@ module _ (ty : List Word → Read Written) (sound : (ws : List Word) (t : Writte
   left_sound ws start us vs attrs x o rest None is ds v e = cc
   left_sound ws start us vs attrs x o rest (Some after) is ds v e = along (λ v w. ItemRead ws v w) (None, after) (o, rest) e (use_line ds v is)
 
-  item_from_sound : (ws start us : List Word) (attrs : List AttributeItem) (o : Option DeclaredItem) (rest : List Word) (r : Read Span) → keyword_at Use us ≡ r → IsAttributes ws attrs start → IsVisibility start us
-      → use_or_declaration ty attrs start us r ≡ Ok (o, rest) → ItemRead ws o rest
+  item_from_sound : (ws start us : List Word) (attrs : List AttributeItem) (o : Option DeclaredItem) (rest : List Word) (q : Read Span) → keyword_at Use us ≡ q → IsAttributes ws attrs start → IsVisibility start us
+      → use_or_declaration r attrs start us q ≡ Ok (o, rest) → ItemRead ws o rest
   item_from_sound ws start us attrs o rest (Ok u) is ds v e =
       let word = keyword-is Use us u is in left_sound ws start us u.1 attrs word.0 o rest (after_semicolon u.1) refl ds (subst (λ w. IsVisibility start w) word.1 v) e
   item_from_sound ws start us attrs o rest (Err f) is ds v e =
-      let d = bind_ok (declaration_at ty us) e in along (λ v w. ItemRead ws v w) (Some (declared_of attrs start d.0), d.0.1) (o, rest) d.2 (declaration_sound ws start us attrs ds v d.0 d.1)
+      let d = bind_ok (declaration_at r us) e in along (λ v w. ItemRead ws v w) (Some (declared_of attrs start d.0), d.0.1) (o, rest) d.2 (declaration_sound ws start us attrs ds v d.0 d.1)
 
-  pub item_sound : (ws : List Word) (o : Option DeclaredItem) (rest : List Word) → item_at ty ws ≡ Ok (o, rest) → ItemRead ws o rest
+  pub item_sound : (ws : List Word) (o : Option DeclaredItem) (rest : List Word) → item_at r ws ≡ Ok (o, rest) → ItemRead ws o rest
   unfolding item_at
   item_sound ws o rest e =
       let d = bind_ok (attributes_at ws) e in
       let us = after_visibility false d.0.1 in
       item_from_sound ws d.0.1 us d.0.0 o rest (keyword_at Use us) refl (attributes_sound ws d.0.0 d.0.1 d.1) (visibility_sound false d.0.1) d.2
 
-  pub item_shortens : Shortens (item_at ty)
+  pub item_shortens : Shortens (item_at r)
   item_shortens ws o rest e = item_shorter ws o rest (item_sound ws o rest e)
 
   -- ---- a source
@@ -273,15 +338,15 @@ module _ (ty : List Word → Read Written) (sound : (ws : List Word) (t : Writte
   more_sound ws rest None ds r h = used r h
   more_sound ws rest (Some d) ds r h = declared r h
 
-  items_within : (n : ℕ) (ws : List Word) (ds : List DeclaredItem) → many_at kept (item_at ty) n ws ≡ Ok ds → IsItems ws ds
+  items_within : (n : ℕ) (ws : List Word) (ds : List DeclaredItem) → many_at kept (item_at r) n ws ≡ Ok ds → IsItems ws ds
   unfolding many_at
   items_within zero ws ds e = cc
   items_within (suc n) [] ds e = subst (λ v. IsItems [] v) (ok_is e) nothing
   items_within (suc n) (w ∷ ws) ds e =
-      let first = bind_ok (item_at ty (w ∷ ws)) e in
-      let others = bind_ok (many_at kept (item_at ty) n first.0.1) first.2 in
+      let first = bind_ok (item_at r (w ∷ ws)) e in
+      let others = bind_ok (many_at kept (item_at r) n first.0.1) first.2 in
       subst (λ v. IsItems (w ∷ ws) v) (ok_is others.2) (more_sound (w ∷ ws) first.0.1 first.0.0 others.0 (item_sound (w ∷ ws) first.0.0 first.0.1 first.1) (items_within n first.0.1 others.0 others.1))
 
-  pub source_sound : (ws : List Word) (ds : List DeclaredItem) → source_at ty ws ≡ Ok ds → IsSource ws ds
+  pub source_sound : (ws : List Word) (ds : List DeclaredItem) → source_at r ws ≡ Ok ds → IsSource ws ds
   unfolding source_at many_of after_inner
   source_sound ws ds e = inner_within_sound (length ws) ws ds (items (items_within _ (after_inner_within (length ws) ws) ds e))

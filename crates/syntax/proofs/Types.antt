@@ -1,5 +1,5 @@
 -- What items need of types.
-use Rattle.std.proofs.Common.{◌≡◌, ◌<◌, ◌⊎◌, ℕ, List, [], ◌∷◌, length, ap, sym, ◌∙◌, arith, true, Ok, Err}
+use Rattle.std.proofs.Common.{◌≡◌, ◌<◌, ◌≤◌, ◌⊎◌, ℕ, suc, List, [], ◌∷◌, length, ap, sym, ◌∙◌, arith, true, Ok, Err}
 use Rattle.texts.specs.declared.span.Span.{Span}
 use Rattle.tokens.specs.declared.token.Bracket.TheVariants.{Round}
 use Rattle.tokens.specs.Trees.{Trees}
@@ -9,9 +9,9 @@ use Rattle.words.specs.Words.{Word, name, underscore, keyword, sign, lifetime, l
 use Rattle.words.specs.Reading.{deep, Read, ◌>>=◌}
 use Rattle.type_grammar.specs.declared.starts.Bounds.TheVariants.{Any}
 use Rattle.type_grammar.specs.Starts.{Stops, begins_type}
-use Rattle.type_grammar.specs.Grammar.{IsType, pathed, referred, wrapped, unit, several, sliced, arrayed, object}
-use Rattle.type_grammar.specs.Opening.{OpensType}
-use Rattle.type_grammar.specs.Reading.{type_at, type_in, type_step, path_at, segments_in, segments_at, segment_at, round_at}
+use Rattle.type_grammar.specs.Grammar.{IsType, IsBounds, pathed, referred, wrapped, unit, several, sliced, arrayed, object}
+use Rattle.type_grammar.specs.Opening.{OpensType, OpensTypeOf, OpensInBounds}
+use Rattle.type_grammar.specs.Reading.{after_bounds, type_at, type_in, type_step, path_at, segments_in, segments_at, segment_at, round_at}
 use Rattle.type_grammar.proofs.Sound as sound
 use Rattle.type_grammar.proofs.Complete as complete
 use Rattle.type_grammar.proofs.Deep as opening
@@ -53,6 +53,16 @@ type_agrees n = opening.type_agrees n Any
 pub opens_begins : (ws : List Word) (at : Span) → OpensType most_levels ws at → Begins ws
 opens_begins ws at o = opening.opens_begins most_levels Any ws at o
 
+-- ---- bounds
+pub bounds_sound : (n : ℕ) (ws rest : List Word) → after_bounds (type_in n) ws ≡ Ok rest → IsBounds ws rest
+bounds_sound n ws rest e = sound.bounds_sound (type_in n) (sound.type_sound n) ws rest e
+
+pub bounds_no_longer : {ws rest : List Word} → IsBounds ws rest → length rest ≤ length ws
+bounds_no_longer {ws = ws} {rest = rest} r = omega (arith, measures.bounds_lighter (λ w. 0) r, measures.total_length ws, measures.total_length rest)
+
+pub bounds_agree : (n : ℕ) → opening.Agrees (after_bounds (type_in n)) (OpensInBounds (OpensTypeOf n))
+bounds_agree n = opening.in_bounds_agree n (opening.type_agrees n)
+
 -- the group that restricts `pub` is no deep type
 abbrev with_rest : List Word → Written → Read Written
 with_rest more t = Ok (t, more)
@@ -85,3 +95,8 @@ pub deep_enough : (ws : List Word) → (n : ℕ) × ((at : Span) → type_at n w
 deep_enough ws =
     let n = measures.total unique.inside ws in
     (n, λ at e. let less : n < n = unique.opens_light n Any ws at ((type_agrees n ws at).0 e) in absurd (omega arith))
+
+pub bounds_deep_enough : (ws : List Word) → (n : ℕ) × ((at : Span) → after_bounds (type_in n) ws ≡ Err (deep at) → ⊥)
+bounds_deep_enough ws =
+    let n = measures.total unique.inside ws in
+    (n, λ at e. let less : suc n < n = unique.in_bounds_light n (unique.opens_light n) ((bounds_agree n ws at).0 e) in absurd (omega arith))

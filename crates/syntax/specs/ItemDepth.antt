@@ -5,18 +5,50 @@ use Rattle.tokens.specs.declared.token.Token.{Token}
 use Rattle.tokens.specs.declared.token.Bracket.TheVariants.{Round, Square, Curly}
 use Rattle.tokens.specs.Trees.{Trees}
 use Rattle.written_types.specs.declared.written.Ident.{Ident}
-use Rattle.words.specs.declared.vocabulary.Keyword.TheVariants.{Struct, Enum}
-use Rattle.words.specs.declared.vocabulary.Sign.TheVariants.{Colon, Hash, Exclamation}
-use Rattle.words.specs.Words.{Word, name, keyword, sign, doc, group, words_of}
-use Rattle.type_grammar.specs.Opening.{Passes, OpensList, OpensType}
+use Rattle.written_types.specs.Written.{Written}
+use Rattle.words.specs.declared.vocabulary.Keyword.TheVariants.{Struct, Enum, Const, Where}
+use Rattle.words.specs.declared.vocabulary.Sign.TheVariants.{Colon, Less, Hash, Exclamation}
+use Rattle.words.specs.Words.{Word, name, keyword, sign, lifetime, doc, group, words_of}
+use Rattle.type_grammar.specs.Grammar.{IsType}
+use Rattle.type_grammar.specs.Opening.{Passes, OpensList, OpensInBounds, OpensTypeOf, OpensType}
+use Rattle.type_grammar.specs.Reading.{type_at, type_in, after_bounds}
 use Rattle.attributes.specs.Attributes.{AttributeItem}
 use Rattle.attributes.specs.AttributeWords.{is_inner_text}
 use Rattle.attributes.specs.AttributeGrammar.{IsAttributes}
-use Rattle.syntax.specs.Items.{DeclaredItem}
-use Rattle.syntax.specs.ItemGrammar.{IsVisibility, IsNamedField, IsUnnamedField, IsVariant, IsUse, IsDeclaration}
+use Rattle.syntax.specs.Items.{FieldItem, unnamed, ParameterItem, DeclaredItem}
+use Rattle.syntax.specs.Generics.{IsParameter, IsGenerics, IsPredicate, IsWhere}
+use Rattle.syntax.specs.GenericReading.{Readers}
+use Rattle.syntax.specs.ItemGrammar.{IsVisibility, IsNamedField, IsUnnamedField, IsFields, IsVariant, IsUse, IsDeclaration}
 
 abbrev pub most_levels : ℕ
 most_levels = 64
+
+-- A path among bounds is a level, as a path that is a type is.
+abbrev pub most_in_bounds : ℕ
+most_in_bounds = 63
+
+abbrev pub within_levels : Readers
+within_levels = record { ty = type_at most_levels; after_bounds = after_bounds (type_in most_in_bounds) }
+
+abbrev pub OpensBounds : List Word → Span → Type 0
+OpensBounds = OpensInBounds (OpensTypeOf most_in_bounds)
+
+-- in the bounds of a type parameter, or in the type of a constant one
+pub data OpensParameter : List Word → Span → Type 0 where
+  in_type_bounds : {x : Ident} {s at : Span} {attrs : List AttributeItem} {ws us : List Word} → IsAttributes ws attrs (name x ∷ sign Colon s ∷ us) → OpensBounds us at → OpensParameter ws at
+  in_const_type : {k x : Ident} {s at : Span} {attrs : List AttributeItem} {ws us : List Word} → IsAttributes ws attrs (keyword Const k ∷ name x ∷ sign Colon s ∷ us) → OpensType most_levels us at → OpensParameter ws at
+
+pub data OpensGenerics : List Word → Span → Type 0 where
+  in_parameters : {open_at at : Span} {ws : List Word} → OpensList IsParameter OpensParameter ws at → OpensGenerics (sign Less open_at ∷ ws) at
+
+-- in the type that a predicate bounds, or in its bounds
+pub data OpensPredicate : List Word → Span → Type 0 where
+  in_lifetime_bounds : {x : Ident} {s at : Span} {ws : List Word} → OpensBounds ws at → OpensPredicate (lifetime x ∷ sign Colon s ∷ ws) at
+  in_bounded_type : {at : Span} {ws : List Word} → OpensType most_levels ws at → OpensPredicate ws at
+  in_predicate_bounds : {s at : Span} {t : Written} {ws us : List Word} → IsType ws t (sign Colon s ∷ us) → Passes (OpensType most_levels) ws → OpensBounds us at → OpensPredicate ws at
+
+pub data OpensWhere : List Word → Span → Type 0 where
+  in_predicates : {x : Ident} {at : Span} {ws : List Word} → OpensList IsPredicate OpensPredicate ws at → OpensWhere (keyword Where x ∷ ws) at
 
 -- in a field's type
 pub data OpensNamed : List Word → Span → Type 0 where
@@ -34,13 +66,28 @@ pub data OpensFields : List Word → Span → Type 0 where
 pub data OpensVariant : List Word → Span → Type 0 where
   in_variant_fields : {x : Ident} {at : Span} {attrs : List AttributeItem} {ws vs : List Word} → IsAttributes ws attrs (name x ∷ vs) → OpensFields vs at → OpensVariant ws at
 
+-- in what follows the name and the generics of a struct: a where clause and fields in braces, or fields in parentheses and a where clause
+pub data OpensStructBody : List Word → Span → Type 0 where
+  in_first_clause : {at : Span} {ws : List Word} → OpensWhere ws at → OpensStructBody ws at
+  in_braced : {inside : Trees} {s at : Span} {ws rest : List Word} → IsWhere ws (group Curly inside s ∷ rest) → Passes OpensWhere ws → OpensFields (group Curly inside s ∷ rest) at → OpensStructBody ws at
+  in_tuple : {inside : Trees} {s at : Span} {rest : List Word} → OpensFields (group Round inside s ∷ rest) at → OpensStructBody (group Round inside s ∷ rest) at
+  in_last_clause : {at : Span} {fs : List FieldItem} {ws us : List Word} → IsFields ws (unnamed fs) us → Passes OpensFields ws → OpensWhere us at → OpensStructBody ws at
+
+-- in what follows the name and the generics of an enum
+pub data OpensEnumBody : List Word → Span → Type 0 where
+  in_enum_clause : {at : Span} {ws : List Word} → OpensWhere ws at → OpensEnumBody ws at
+  in_variants : {inside : Trees} {s at : Span} {ws rest : List Word} → IsWhere ws (group Curly inside s ∷ rest) → Passes OpensWhere ws → OpensList IsVariant OpensVariant (words_of inside) at → OpensEnumBody ws at
+
 -- in a struct, an enum, and either
 pub data OpensStruct : List Word → Span → Type 0 where
-  in_fields : {x y : Ident} {at : Span} {attrs : List AttributeItem} {ws us vs : List Word} → IsAttributes ws attrs us → IsVisibility us (keyword Struct x ∷ name y ∷ vs) → OpensFields vs at → OpensStruct ws at
+  in_struct_generics : {x y : Ident} {at : Span} {attrs : List AttributeItem} {ws us gs : List Word} → IsAttributes ws attrs us → IsVisibility us (keyword Struct x ∷ name y ∷ gs) → OpensGenerics gs at → OpensStruct ws at
+  in_struct_body : {x y : Ident} {at : Span} {attrs : List AttributeItem} {ps : List ParameterItem} {ws us gs vs : List Word} → IsAttributes ws attrs us → IsVisibility us (keyword Struct x ∷ name y ∷ gs) → IsGenerics gs ps vs → Passes OpensGenerics gs
+      → OpensStructBody vs at → OpensStruct ws at
 
 pub data OpensEnum : List Word → Span → Type 0 where
-  in_variants : {x y : Ident} {inside : Trees} {s at : Span} {attrs : List AttributeItem} {ws us rest : List Word} → IsAttributes ws attrs us → IsVisibility us (keyword Enum x ∷ name y ∷ group Curly inside s ∷ rest)
-      → OpensList IsVariant OpensVariant (words_of inside) at → OpensEnum ws at
+  in_enum_generics : {x y : Ident} {at : Span} {attrs : List AttributeItem} {ws us gs : List Word} → IsAttributes ws attrs us → IsVisibility us (keyword Enum x ∷ name y ∷ gs) → OpensGenerics gs at → OpensEnum ws at
+  in_enum_body : {x y : Ident} {at : Span} {attrs : List AttributeItem} {ps : List ParameterItem} {ws us gs bs : List Word} → IsAttributes ws attrs us → IsVisibility us (keyword Enum x ∷ name y ∷ gs) → IsGenerics gs ps bs → Passes OpensGenerics gs
+      → OpensEnumBody bs at → OpensEnum ws at
 
 pub data OpensDeclaration : List Word → Span → Type 0 where
   in_struct : {at : Span} {ws : List Word} → OpensStruct ws at → OpensDeclaration ws at

@@ -14,7 +14,8 @@ use Rattle.words.specs.Lists.{IsList}
 use Rattle.attributes.specs.Attributes.{AttributeItem}
 use Rattle.attributes.specs.AttributeWords.{is_inner_text}
 use Rattle.attributes.specs.AttributeGrammar.{IsAttributes}
-use Rattle.syntax.specs.Items.{FieldItem, FieldItems, named, unnamed, unit, VariantItem, struct_body, enum_body, DeclaredItem}
+use Rattle.syntax.specs.Items.{FieldItem, FieldItems, named, unnamed, unit, VariantItem, ParameterItem, struct_body, enum_body, DeclaredItem}
+use Rattle.syntax.specs.Generics.{IsGenerics, IsWhere}
 use Rattle.syntax.specs.ItemWords.{after_semicolon, before_comma, from_comma, is_end, is_restriction, spanning}
 
 -- vis? = ("pub" ( "(" ("crate" | "self" | "super") ")" | "(" "in" any* ")" )?)?
@@ -39,11 +40,11 @@ pub data IsFields : List Word → FieldItems → List Word → Type 0 where
   unnamed_fields : {inside : Trees} {s : Span} {rest : List Word} {fs : List FieldItem} → IsList IsUnnamedField (words_of inside) fs → IsFields (group Round inside s ∷ rest) (unnamed fs) rest
   no_fields : {rest : List Word} → IsFields rest unit rest
 
--- what follows the fields of a struct: ";", unless they stand in braces
-pub data IsStructEnd : FieldItems → List Word → List Word → Type 0 where
-  behind_named : {fs : List FieldItem} {rest : List Word} → IsStructEnd (named fs) rest rest
-  behind_unnamed : {end : Span} {fs : List FieldItem} {rest : List Word} → IsStructEnd (unnamed fs) (sign Semicolon end ∷ rest) rest
-  behind_name : {end : Span} {rest : List Word} → IsStructEnd unit (sign Semicolon end ∷ rest) rest
+-- what follows the name and the generics of a struct: where? "{" list of named "}" | "(" list of unnamed ")" where? ";" | where? ";"
+pub data IsStructBody : List Word → FieldItems → List Word → Type 0 where
+  in_braces : {fs : List FieldItem} {ws us rest : List Word} → IsWhere ws us → IsFields us (named fs) rest → IsStructBody ws (named fs) rest
+  in_parentheses : {end : Span} {fs : List FieldItem} {ws us rest : List Word} → IsFields ws (unnamed fs) us → IsWhere us (sign Semicolon end ∷ rest) → IsStructBody ws (unnamed fs) rest
+  fieldless : {end : Span} {ws rest : List Word} → IsWhere ws (sign Semicolon end ∷ rest) → IsStructBody ws unit rest
 
 -- ("=" expr)?, where the expression is all up to the next comma, and is not empty
 pub data IsDiscriminant : List Word → Option (List Word) → List Word → Type 0 where
@@ -59,15 +60,19 @@ pub data IsVariant : List Word → VariantItem → List Word → Type 0 where
 pub data IsUse : List Word → List Word → Type 0 where
   use_line : {x : Ident} {attrs : List AttributeItem} {ws us vs rest : List Word} → IsAttributes ws attrs us → IsVisibility us (keyword Use x ∷ vs) → after_semicolon vs ≡ Some rest → IsUse ws rest
 
--- attribute* vis? "struct" name, the fields and the end
+-- attribute* vis? "struct" name, the generics and the body
 pub data IsStruct : List Word → DeclaredItem → List Word → Type 0 where
-  struct_item : {x y : Ident} {attrs : List AttributeItem} {fs : FieldItems} {ws us vs mid rest : List Word} → IsAttributes ws attrs us → IsVisibility us (keyword Struct x ∷ name y ∷ vs) → IsFields vs fs mid → IsStructEnd fs mid rest
-      → IsStruct ws (record { attrs = attrs; ident = y; body = struct_body fs; span = spanning us rest }) rest
+  struct_item : {x y : Ident} {attrs : List AttributeItem} {ps : List ParameterItem} {fs : FieldItems} {ws us gs vs rest : List Word} → IsAttributes ws attrs us → IsVisibility us (keyword Struct x ∷ name y ∷ gs) → IsGenerics gs ps vs → IsStructBody vs fs rest
+      → IsStruct ws (record { attrs = attrs; ident = y; generics = ps; body = struct_body fs; span = spanning us rest }) rest
 
--- attribute* vis? "enum" name "{" list of variant "}"
+-- what follows the name and the generics of an enum: where? "{" list of variant "}"
+pub data IsEnumBody : List Word → List VariantItem → List Word → Type 0 where
+  variants_in_braces : {inside : Trees} {s : Span} {ws rest : List Word} {vs : List VariantItem} → IsWhere ws (group Curly inside s ∷ rest) → IsList IsVariant (words_of inside) vs → IsEnumBody ws vs rest
+
+-- attribute* vis? "enum" name, the generics and the body
 pub data IsEnum : List Word → DeclaredItem → List Word → Type 0 where
-  enum_item : {x y : Ident} {inside : Trees} {s : Span} {attrs : List AttributeItem} {ws us rest : List Word} {vs : List VariantItem} → IsAttributes ws attrs us → IsVisibility us (keyword Enum x ∷ name y ∷ group Curly inside s ∷ rest)
-      → IsList IsVariant (words_of inside) vs → IsEnum ws (record { attrs = attrs; ident = y; body = enum_body vs; span = spanning us rest }) rest
+  enum_item : {x y : Ident} {attrs : List AttributeItem} {ps : List ParameterItem} {ws us gs bs rest : List Word} {vs : List VariantItem} → IsAttributes ws attrs us → IsVisibility us (keyword Enum x ∷ name y ∷ gs) → IsGenerics gs ps bs → IsEnumBody bs vs rest
+      → IsEnum ws (record { attrs = attrs; ident = y; generics = ps; body = enum_body vs; span = spanning us rest }) rest
 
 -- struct | enum
 pub data IsDeclaration : List Word → DeclaredItem → List Word → Type 0 where

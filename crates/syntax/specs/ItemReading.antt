@@ -1,4 +1,4 @@
--- Reading items from left to right, as functions. Types are read by ty.
+-- Reading items from left to right, as functions. Types are read by ty, and types and bounds by readers.
 use Rattle.std.specs.Prelude.{◌≡◌, ◌≤◌, ◌⊎◌, ℕ, zero, suc, List, [], ◌∷◌, length, Bool, true, false, not, cond, ◌&&◌, is_some, Option, Some, None, Result, Ok, Err}
 use Rattle.diag.specs.Refusal.{IsSyntaxRefusal, IsDepthRefusal}
 use Rattle.diag.specs.declared.error.DeriveError.{DeriveError}
@@ -13,12 +13,13 @@ use Rattle.words.specs.declared.vocabulary.Sign.TheVariants.{Colon, Comma, Semic
 use Rattle.words.specs.declared.stopping.Stop.{Stop}
 use Rattle.words.specs.declared.stopping.Stop.TheVariants as stop
 use Rattle.words.specs.Words.{Word, group, words_of}
-use Rattle.words.specs.Reading.{Fault, wrong, Read, ◌>>=◌, as_sign, name_at, keyword_at, sign_at, group_at}
+use Rattle.words.specs.Reading.{Fault, wrong, Read, ◌>>=◌, same_bracket, as_sign, name_at, keyword_at, sign_at, group_at}
 use Rattle.words.specs.Lists.{many_of, list_of}
 use Rattle.attributes.specs.Attributes.{AttributeItem}
 use Rattle.attributes.specs.AttributeWords.{is_inner_doc}
 use Rattle.attributes.specs.AttributeReading.{attributes_at}
-use Rattle.syntax.specs.Items.{FieldItem, FieldItems, named, unnamed, unit, VariantItem, BodyItem, struct_body, enum_body, DeclaredItem}
+use Rattle.syntax.specs.Items.{FieldItem, FieldItems, named, unnamed, unit, VariantItem, ParameterItem, BodyItem, struct_body, enum_body, HeadItem, DeclaredItem}
+use Rattle.syntax.specs.GenericReading.{Readers, generics_at, after_where}
 use Rattle.syntax.specs.ItemWords.{after_semicolon, before_comma, from_comma, is_end, is_restriction, spanning}
 
 -- what follows vis?; behind `pub`, where an unnamed field may end, a group is its type
@@ -61,10 +62,26 @@ fields_at ty [] = Ok (unit, [])
 fields_at ty (group b inside s ∷ ws) = fields_in ty b (words_of inside) ws
 fields_at ty (w ∷ ws) = Ok (unit, w ∷ ws)
 
--- what follows a struct, behind its fields
-abbrev pub after_struct : FieldItems → List Word → Result (List Word) Fault
-after_struct (named fs) ws = Ok ws
-after_struct _ ws = sign_at Semicolon ws >>= λ end. Ok end.1
+-- a group in these brackets stands first
+abbrev pub begins_group : Bracket → List Word → Bool
+begins_group b (group a inside s ∷ ws) = same_bracket b a
+begins_group b _ = false
+
+-- `;`, where no fields stand
+abbrev pub without_fields : List Word → Read FieldItems
+without_fields ws = sign_at Semicolon ws >>= λ end. Ok (unit, end.1)
+
+-- fields in parentheses, the where clause and `;`
+unfoldable pub tuple_body_at : Readers → List Word → Read FieldItems
+tuple_body_at r ws = fields_at r.ty ws >>= λ fs. after_where r fs.1 >>= λ us. sign_at Semicolon us >>= λ end. Ok (fs.0, end.1)
+
+-- the where clause, and fields in braces or `;`
+unfoldable pub other_body_at : Readers → List Word → Read FieldItems
+other_body_at r ws = after_where r ws >>= λ us. cond (begins_group Curly us) (fields_at r.ty us) (without_fields us)
+
+-- what follows the name and the generics of a struct
+unfoldable pub struct_body_at : Readers → List Word → Read FieldItems
+struct_body_at r ws = cond (begins_group Round ws) (tuple_body_at r ws) (other_body_at r ws)
 
 -- behind `=`, all up to the next comma
 abbrev pub value_at : List Word → Read (Option (List Word))
@@ -83,37 +100,44 @@ variant_of attrs x start fs value = (record { attrs = attrs; ident = x; fields =
 unfoldable pub variant_at : (List Word → Read Written) → List Word → Read VariantItem
 variant_at ty ws = attributes_at ws >>= λ d. name_at d.1 >>= λ x. fields_at ty x.1 >>= λ fs. discriminant_at fs.1 >>= λ value. Ok (variant_of d.0 x.0 d.1 fs.0 value)
 
--- the name and the body of a struct, of an enum, and of either
-unfoldable pub struct_at : (List Word → Read Written) → List Word → Read (Ident × BodyItem)
-struct_at ty ws = keyword_at Struct ws >>= λ s. name_at s.1 >>= λ x. fields_at ty x.1 >>= λ fs. after_struct fs.0 fs.1 >>= λ rest. Ok ((x.0, struct_body fs.0), rest)
+-- what follows the name and the generics of an enum
+unfoldable pub enum_body_at : Readers → List Word → Read (List VariantItem)
+enum_body_at r ws = after_where r ws >>= λ us. group_at Curly us >>= λ g. list_of (variant_at r.ty) (words_of g.0.0) >>= λ vs. Ok (vs, g.1)
 
-unfoldable pub enum_at : (List Word → Read Written) → List Word → Read (Ident × BodyItem)
-enum_at ty ws = keyword_at Enum ws >>= λ e. name_at e.1 >>= λ x. group_at Curly x.1 >>= λ g. list_of (variant_at ty) (words_of g.0.0) >>= λ vs. Ok ((x.0, enum_body vs), g.1)
+-- a struct, an enum, and either
+abbrev pub head_of : Ident → List ParameterItem → BodyItem → HeadItem
+head_of x ps body = record { ident = x; generics = ps; body = body }
 
-abbrev pub struct_or_enum : (List Word → Read Written) → List Word → Read Span → Read (Ident × BodyItem)
-struct_or_enum ty ws (Ok s) = struct_at ty ws
-struct_or_enum ty ws (Err e) = enum_at ty ws
+unfoldable pub struct_at : Readers → List Word → Read HeadItem
+struct_at r ws = keyword_at Struct ws >>= λ s. name_at s.1 >>= λ x. generics_at r x.1 >>= λ ps. struct_body_at r ps.1 >>= λ fs. Ok (head_of x.0 ps.0 (struct_body fs.0), fs.1)
 
-unfoldable pub declaration_at : (List Word → Read Written) → List Word → Read (Ident × BodyItem)
-declaration_at ty ws = struct_or_enum ty ws (keyword_at Struct ws)
+unfoldable pub enum_at : Readers → List Word → Read HeadItem
+enum_at r ws = keyword_at Enum ws >>= λ e. name_at e.1 >>= λ x. generics_at r x.1 >>= λ ps. enum_body_at r ps.1 >>= λ vs. Ok (head_of x.0 ps.0 (enum_body vs.0), vs.1)
 
-abbrev pub declared_of : List AttributeItem → List Word → (Ident × BodyItem) × List Word → DeclaredItem
-declared_of attrs start d = record { attrs = attrs; ident = d.0.0; body = d.0.1; span = spanning start d.1 }
+abbrev pub struct_or_enum : Readers → List Word → Read Span → Read HeadItem
+struct_or_enum r ws (Ok s) = struct_at r ws
+struct_or_enum r ws (Err e) = enum_at r ws
+
+unfoldable pub declaration_at : Readers → List Word → Read HeadItem
+declaration_at r ws = struct_or_enum r ws (keyword_at Struct ws)
+
+abbrev pub declared_of : List AttributeItem → List Word → HeadItem × List Word → DeclaredItem
+declared_of attrs start d = record { attrs = attrs; ident = d.0.ident; generics = d.0.generics; body = d.0.body; span = spanning start d.1 }
 
 abbrev pub left_by : Option (List Word) → Read (Option DeclaredItem)
 left_by None = Err wrong
 left_by (Some rest) = Ok (None, rest)
 
 -- a `use` line, of which nothing is kept, or a declaration
-abbrev pub use_or_declaration : (List Word → Read Written) → List AttributeItem → List Word → List Word → Read Span → Read (Option DeclaredItem)
-use_or_declaration ty attrs start ws (Ok u) = left_by (after_semicolon u.1)
-use_or_declaration ty attrs start ws (Err e) = declaration_at ty ws >>= λ d. Ok (Some (declared_of attrs start d), d.1)
+abbrev pub use_or_declaration : Readers → List AttributeItem → List Word → List Word → Read Span → Read (Option DeclaredItem)
+use_or_declaration r attrs start ws (Ok u) = left_by (after_semicolon u.1)
+use_or_declaration r attrs start ws (Err e) = declaration_at r ws >>= λ d. Ok (Some (declared_of attrs start d), d.1)
 
-abbrev pub use_or_declaration_in : (List Word → Read Written) → List AttributeItem → List Word → List Word → Read (Option DeclaredItem)
-use_or_declaration_in ty attrs start us = use_or_declaration ty attrs start us (keyword_at Use us)
+abbrev pub use_or_declaration_in : Readers → List AttributeItem → List Word → List Word → Read (Option DeclaredItem)
+use_or_declaration_in r attrs start us = use_or_declaration r attrs start us (keyword_at Use us)
 
-unfoldable pub item_at : (List Word → Read Written) → List Word → Read (Option DeclaredItem)
-item_at ty ws = attributes_at ws >>= λ d. use_or_declaration_in ty d.0 d.1 (after_visibility false d.1)
+unfoldable pub item_at : Readers → List Word → Read (Option DeclaredItem)
+item_at r ws = attributes_at ws >>= λ d. use_or_declaration_in r d.0 d.1 (after_visibility false d.1)
 
 abbrev pub kept : Option DeclaredItem → List DeclaredItem
 kept None = []
@@ -139,11 +163,11 @@ after_inner_within (suc n) ws = inner_from (after_inner_within n) ws (inner_at w
 unfoldable pub after_inner : List Word → List Word
 after_inner ws = after_inner_within (length ws) ws
 
-abbrev pub items_at : (List Word → Read Written) → List Word → Result (List DeclaredItem) Fault
-items_at ty ws = many_of kept (item_at ty) ws
+abbrev pub items_at : Readers → List Word → Result (List DeclaredItem) Fault
+items_at r ws = many_of kept (item_at r) ws
 
-unfoldable pub source_at : (List Word → Read Written) → List Word → Result (List DeclaredItem) Fault
-source_at ty ws = items_at ty (after_inner ws)
+unfoldable pub source_at : Readers → List Word → Result (List DeclaredItem) Fault
+source_at r ws = items_at r (after_inner ws)
 
 -- an error of the kind at a span of a text with so many bytes
 abbrev pub IsPlaced : ℕ → DeriveError → Type 0

@@ -11,6 +11,10 @@ use Rattle.syntax.specs.declared.item.Fields.TheVariants as forms
 use Rattle.syntax.specs.declared.item.Variant.{Variant}
 use Rattle.syntax.specs.declared.item.Body.{Body}
 use Rattle.syntax.specs.declared.item.Body.TheVariants as bodies
+use Rattle.syntax.specs.declared.item.GenericParam.{GenericParam}
+use Rattle.syntax.specs.declared.item.GenericParam.TheVariants as params
+use Rattle.syntax.specs.declared.item.Generics.{Generics}
+use Rattle.syntax.specs.declared.item.Head.{Head}
 use Rattle.syntax.specs.declared.item.Declaration.{Declaration}
 use Rattle.syntax.specs.declared.item.Declarations.{Declarations}
 
@@ -35,13 +39,26 @@ pub record VariantItem : Type 0 where
   pub discriminant : Option (List Word)
   pub span : Span
 
+-- a lifetime, a type and a constant that a declaration is generic over
+pub data ParameterItem : Type 0 where
+  lifetime_parameter : Ident → ParameterItem
+  type_parameter : Ident → ParameterItem
+  const_parameter : Ident → ParameterItem
+
 pub data BodyItem : Type 0 where
   struct_body : FieldItems → BodyItem
   enum_body : List VariantItem → BodyItem
 
+-- a declaration without its attributes and its span: its name, its generics and its body
+pub record HeadItem : Type 0 where
+  pub ident : Ident
+  pub generics : List ParameterItem
+  pub body : BodyItem
+
 pub record DeclaredItem : Type 0 where
   pub attrs : List AttributeItem
   pub ident : Ident
+  pub generics : List ParameterItem
   pub body : BodyItem
   pub span : Span
 
@@ -67,8 +84,25 @@ abbrev pub body_view : Body → BodyItem
 body_view (bodies.Struct fs) = struct_body (fields_view fs)
 body_view (bodies.Enum vs) = enum_body (map variant_view vs)
 
+abbrev pub parameter_view : GenericParam → ParameterItem
+parameter_view (params.Lifetime x) = lifetime_parameter x
+parameter_view (params.Ty x) = type_parameter x
+parameter_view (params.Constant x) = const_parameter x
+
+abbrev pub generics_view : Generics → List ParameterItem
+generics_view g = map parameter_view g.params
+
+abbrev pub head_view : Head → HeadItem
+head_view h = record { ident = h.ident; generics = generics_view h.generics; body = body_view h.body }
+
 abbrev pub declaration_view : Declaration → DeclaredItem
-declaration_view d = record { attrs = map attribute_view d.attrs; ident = d.ident; body = body_view d.body; span = d.span }
+declaration_view d = record {
+  attrs = map attribute_view d.attrs;
+  ident = d.ident;
+  generics = generics_view d.generics;
+  body = body_view d.body;
+  span = d.span;
+}
 
 abbrev pub declarations_view : Declarations → List DeclaredItem
 declarations_view ds = map declaration_view ds.items

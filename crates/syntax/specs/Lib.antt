@@ -1,7 +1,9 @@
 pub mod Items
 pub mod ItemWords
+pub mod Generics
 pub mod ItemGrammar
 pub mod ItemDepth
+pub mod GenericReading
 pub mod ItemReading
 pub mod Source
 pub mod Named

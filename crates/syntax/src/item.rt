@@ -37,6 +37,22 @@ pub struct Variant {
     pub span: Span,
 }
 
+/// What a declaration is generic over: a lifetime, whose text is with the `'`, a type or a constant.
+#[derive(Debug, Drop)]
+#[derive_where(PartialEq, Eq)]
+pub enum GenericParam {
+    Lifetime(Ident),
+    Ty(Ident),
+    Constant(Ident),
+}
+
+/// The generic parameters of a declaration, in order. Of their bounds and attributes nothing is kept.
+#[derive(Debug, Drop)]
+#[derive_where(PartialEq, Eq)]
+pub struct Generics {
+    pub params: List<GenericParam>,
+}
+
 /// What a declaration declares: the fields of a struct, or the variants of an enum.
 #[derive(Debug, Drop)]
 #[derive_where(PartialEq, Eq)]
@@ -45,12 +61,21 @@ pub enum Body {
     Enum(List<Variant>),
 }
 
+/// A declaration without its attributes and its visibility.
+#[derive(Drop)]
+pub(crate) struct Head {
+    pub(crate) ident: Ident,
+    pub(crate) generics: Generics,
+    pub(crate) body: Body,
+}
+
 /// A declaration. The span goes from its visibility, or else from `struct` or `enum`, to its last token.
 #[derive(Debug, Drop)]
 #[derive_where(PartialEq, Eq)]
 pub struct Declaration {
     pub attrs: List<Attribute>,
     pub ident: Ident,
+    pub generics: Generics,
     pub body: Body,
     #[derive_where(skip(EqHashOrd))]
     pub span: Span,

@@ -4,74 +4,70 @@ ghost use Rattle.std.specs.Prelude.{◌<◌, ◌≤◌, length, map, IfOk};
 ghost use Rattle.std.specs.Option.{option_map};
 ghost use Rattle.words.specs.Words.{words_view};
 ghost use Rattle.words.specs.Reading.{Gives};
-ghost use Rattle.type_grammar.specs.Reading.{type_at};
-ghost use Rattle.syntax.specs.Items.{fields_view, body_view, declaration_view};
-ghost use Rattle.syntax.specs.ItemDepth.{most_levels};
-ghost use Rattle.syntax.specs.ItemReading.{after_struct, struct_at, enum_at, declaration_at, item_at, items_at};
+ghost use Rattle.syntax.specs.Items.{head_view, declaration_view};
+ghost use Rattle.syntax.specs.ItemDepth.{within_levels};
+ghost use Rattle.syntax.specs.ItemReading.{struct_at, enum_at, declaration_at, item_at, items_at};
 
-use crate::fields::fields_at;
-use crate::item::{Body, Declaration, Fields};
+use crate::generics::generics_at;
+use crate::item::{Body, Declaration, Head};
 use crate::scope::{after_semicolon, after_visibility, spanning};
-use crate::variants::variants_inside;
+use crate::struct_body::struct_body_at;
+use crate::variants::enum_body_at;
 use attributes::attributes_at;
 use std::alloc::Global;
 use texts::List;
-use tokens::{Bracket, TokenTree};
-use words::{
-    Keyword, Sign, Stop, group_at, ident_of, keyword_at, name_at, optional_keyword, sign_at,
-};
-use written_types::Ident;
+use tokens::TokenTree;
+use words::{Keyword, Stop, ident_of, keyword_at, name_at, optional_keyword};
 
-/// What follows a struct, behind its fields: those in braces end it, and others a `;`.
-fn after_struct<'t>(fields: &Fields, trees: &'t [TokenTree]) -> Result<&'t [TokenTree], Stop>
-    ensures value { Gives (λ rest. words_view rest.now) result
-        (after_struct (fields_view fields.now) (words_view trees.now)) }
-    ensures shorter { IfOk result (λ rest. length rest.now ≤ length trees.now) }
-{
-    match fields {
-        Fields::Named(_) => Ok(trees),
-        Fields::Unnamed(_) | Fields::Unit => {
-            let (_, rest) = sign_at(trees, Sign::Semicolon)?;
-            Ok(rest)
-        }
-    }
-}
-
-/// The name and the fields of a struct.
+/// The name, the generics and the fields of a struct.
 #[tactic(auto, unfolding(crate::specs::ItemReading::struct_at))]
-fn struct_at(alloc: Global, trees: &[TokenTree]) -> Result<((Ident, Body), &[TokenTree]), Stop>
-    ensures value { Gives (λ p. ((p.0.0, body_view p.0.1), words_view p.1.now)) result
-        (struct_at (type_at most_levels) (words_view trees.now)) }
+fn struct_at(alloc: Global, trees: &[TokenTree]) -> Result<(Head, &[TokenTree]), Stop>
+    ensures value { Gives (λ p. (head_view p.0, words_view p.1.now)) result
+        (struct_at within_levels (words_view trees.now)) }
     ensures shorter { IfOk result (λ p. length p.1.now < length trees.now) }
 {
     let (_, rest) = keyword_at(trees, Keyword::Struct)?;
     let (name, rest) = name_at(rest)?;
-    let (fields, rest) = fields_at(alloc, rest)?;
-    let rest = after_struct(&fields, rest)?;
+    let (generics, rest) = generics_at(alloc, rest)?;
+    let (fields, rest) = struct_body_at(alloc, rest)?;
     let ident = ident_of(alloc, name)?;
-    Ok(((ident, Body::Struct(fields)), rest))
+    Ok((
+        Head {
+            ident,
+            generics,
+            body: Body::Struct(fields),
+        },
+        rest,
+    ))
 }
 
-/// The name and the variants of an enum.
+/// The name, the generics and the variants of an enum.
 #[tactic(auto, unfolding(crate::specs::ItemReading::enum_at))]
-fn enum_at(alloc: Global, trees: &[TokenTree]) -> Result<((Ident, Body), &[TokenTree]), Stop>
-    ensures value { Gives (λ p. ((p.0.0, body_view p.0.1), words_view p.1.now)) result
-        (enum_at (type_at most_levels) (words_view trees.now)) }
+fn enum_at(alloc: Global, trees: &[TokenTree]) -> Result<(Head, &[TokenTree]), Stop>
+    ensures value { Gives (λ p. (head_view p.0, words_view p.1.now)) result
+        (enum_at within_levels (words_view trees.now)) }
     ensures shorter { IfOk result (λ p. length p.1.now < length trees.now) }
 {
     let (_, rest) = keyword_at(trees, Keyword::Enum)?;
     let (name, rest) = name_at(rest)?;
-    let (group, rest) = group_at(rest, Bracket::Curly)?;
-    let variants = variants_inside(alloc, group)?;
+    let (generics, rest) = generics_at(alloc, rest)?;
+    let (variants, rest) = enum_body_at(alloc, rest)?;
     let ident = ident_of(alloc, name)?;
-    Ok(((ident, Body::Enum(variants)), rest))
+    Ok((
+        Head {
+            ident,
+            generics,
+            body: Body::Enum(variants),
+        },
+        rest,
+    ))
 }
 
-/// The name and the body of a struct or, where no `struct` stands, of an enum.
+/// The name, the generics and the body of a struct or, where no `struct` stands, of an enum.
 #[tactic(auto, unfolding(crate::specs::ItemReading::declaration_at))]
-fn declaration_at(alloc: Global, trees: &[TokenTree]) -> Result<((Ident, Body), &[TokenTree]), Stop>
-    ensures value { Gives (λ p. ((p.0.0, body_view p.0.1), words_view p.1.now)) result
-        (declaration_at (type_at most_levels) (words_view trees.now)) }
+fn declaration_at(alloc: Global, trees: &[TokenTree]) -> Result<(Head, &[TokenTree]), Stop>
+    ensures value { Gives (λ p. (head_view p.0, words_view p.1.now)) result
+        (declaration_at within_levels (words_view trees.now)) }
     ensures shorter { IfOk result (λ p. length p.1.now < length trees.now) }
 {
     match optional_keyword(trees, Keyword::Struct) {
@@ -84,7 +80,7 @@ fn declaration_at(alloc: Global, trees: &[TokenTree]) -> Result<((Ident, Body), 
 #[tactic(auto, unfolding(crate::specs::ItemReading::item_at))]
 fn item_at(alloc: Global, trees: &[TokenTree]) -> Result<(Option<Declaration>, &[TokenTree]), Stop>
     ensures value { Gives (λ p. (option_map declaration_view p.0, words_view p.1.now)) result
-        (item_at (type_at most_levels) (words_view trees.now)) }
+        (item_at within_levels (words_view trees.now)) }
     ensures shorter { IfOk result (λ p. length p.1.now < length trees.now) }
 {
     let (attrs, start) = attributes_at(alloc, trees)?;
@@ -95,12 +91,18 @@ fn item_at(alloc: Global, trees: &[TokenTree]) -> Result<(Option<Declaration>, &
             None => Err(Stop::Ended),
         },
         None => {
-            let ((ident, body), rest) = declaration_at(alloc, rest)?;
+            let (head, rest) = declaration_at(alloc, rest)?;
+            let Head {
+                ident,
+                generics,
+                body,
+            } = head;
             let span = spanning(start, rest);
             Ok((
                 Some(Declaration {
                     attrs,
                     ident,
+                    generics,
                     body,
                     span,
                 }),
@@ -113,7 +115,7 @@ fn item_at(alloc: Global, trees: &[TokenTree]) -> Result<(Option<Declaration>, &
 /// All of the trees, as items.
 pub(crate) fn items_of(alloc: Global, trees: &[TokenTree]) -> Result<List<Declaration>, Stop>
     ensures { Gives (λ items. map declaration_view items) result
-        (items_at (type_at most_levels) (words_view trees.now)) }
+        (items_at within_levels (words_view trees.now)) }
 {
     let mut items = List::new(alloc);
     let mut rest = trees;

@@ -4,15 +4,18 @@
 //! source  = (inner-doc | "#" "!" square-group)* item*
 //! item    = attr* vis? (use | struct | enum)
 //! use     = "use" any* ";"
-//! struct  = "struct" name ("{" named "}" | "(" unnamed ")" ";" | ";")
-//! enum    = "enum" name "{" variant "}"
+//! struct  = "struct" name generics? (where? "{" named "}" | "(" unnamed ")" where? ";" | where? ";")
+//! enum    = "enum" name generics? where? "{" variant "}"
 //! variant = list of attr* name ("{" named "}" | "(" unnamed ")")? ("=" value+)?
 //! named   = list of attr* vis? name ":" type
 //! unnamed = list of attr* vis? type
 //! vis     = "pub" ( "(" ("crate" | "self" | "super") ")" | "(" "in" any* ")" )?
+//! generics = "<" list of param ">"
+//! param   = attr* ( lifetime (":" (lifetime ("+" lifetime)*)?)? | name (":" bounds)? | "const" name ":" type )
+//! where   = "where" list of (lifetime | type) ":" bounds
 //! ```
 //!
-//! An attribute is a doc comment or `#[..]`, as crate `attributes` says. A list has commas between its items, perhaps one
+//! An attribute is a doc comment or `#[..]`, as crate `attributes` says; types and bounds are those of crate `type_grammar`. A list has commas between its items, perhaps one
 //! at the end, and may be empty. A name is an identifier that is no keyword and not `_`; any is a token other than `;`, or
 //! a group, and value one other than `,`, or a group. Where `pub` and a group in round brackets are all of an unnamed
 //! field, the group is its type. Brackets nest at most 64 deep, and a type at most 64 levels.
@@ -20,15 +23,18 @@
 
 mod beginning;
 mod fields;
+mod generics;
 mod item;
 mod items;
 mod laws;
 mod parse;
 mod scope;
+mod struct_body;
 mod variants;
+mod where_clause;
 
 pub use attributes::{Attribute, CommentAttributes, Meta};
-pub use item::{Body, Declaration, Declarations, Field, Fields, Variant};
+pub use item::{Body, Declaration, Declarations, Field, Fields, GenericParam, Generics, Variant};
 pub use laws::{one_deep_place, one_reading, one_type_reading, read_fields_are_named};
 pub use lexing::{lex, one_cut};
 pub use literal_values::{LiteralValue, literal_value};

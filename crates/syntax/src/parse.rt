@@ -6,9 +6,8 @@ ghost use Rattle.texts.specs.declared.span.Span.{Span};
 ghost use Rattle.written_types.specs.Written.{written_view};
 ghost use Rattle.words.specs.Words.{words_view};
 ghost use Rattle.words.specs.Reading.{Gives};
-ghost use Rattle.type_grammar.specs.Reading.{type_at};
 ghost use Rattle.syntax.specs.Items.{declaration_view, declarations_view};
-ghost use Rattle.syntax.specs.ItemDepth.{most_levels};
+ghost use Rattle.syntax.specs.ItemDepth.{within_levels};
 ghost use Rattle.syntax.specs.ItemReading.{source_at, IsRefusalOf};
 ghost use Rattle.syntax.specs.Source.{Reads, NestsTooDeep, IsUnreadable, IsTooDeep, ReadsType, TypeNestsTooDeep, IsNoType, IsDeepType};
 
@@ -56,7 +55,7 @@ fn refusal(alloc: Global, stop: Stop, bytes: usize) -> DeriveError
 #[tactic(auto, unfolding(crate::specs::ItemReading::source_at))]
 fn source_of(alloc: Global, trees: &[TokenTree]) -> Result<List<Declaration>, Stop>
     ensures { Gives (λ items. map declaration_view items) result
-        (source_at (type_at most_levels) (words_view trees.now)) }
+        (source_at within_levels (words_view trees.now)) }
 {
     items_of(alloc, after_inner(trees))
 }

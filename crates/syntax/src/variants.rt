@@ -1,6 +1,6 @@
 //! Variants of enums.
 
-ghost use Rattle.std.specs.Prelude.{◌≡◌, ◌≤◌, length, map, IfOk};
+ghost use Rattle.std.specs.Prelude.{◌≡◌, ◌<◌, ◌≤◌, length, map, IfOk};
 ghost use Rattle.std.specs.Option.{option_map};
 ghost use Rattle.tokens.specs.Trees.{trees_view};
 ghost use Rattle.words.specs.Words.{words_of, words_view};
@@ -9,17 +9,20 @@ ghost use Rattle.type_grammar.specs.Reading.{type_at};
 ghost use Rattle.words.specs.Lists.{list_of};
 ghost use Rattle.syntax.specs.Items.{variant_view};
 ghost use Rattle.syntax.specs.ItemWords.{before_comma, from_comma};
-ghost use Rattle.syntax.specs.ItemDepth.{most_levels};
-ghost use Rattle.syntax.specs.ItemReading.{discriminant_at, variant_at};
+ghost use Rattle.syntax.specs.ItemDepth.{most_levels, within_levels};
+ghost use Rattle.syntax.specs.ItemReading.{discriminant_at, variant_at, enum_body_at};
 
 use crate::fields::fields_at;
 use crate::item::Variant;
 use crate::scope::{is_comma, is_end, spanning};
+use crate::where_clause::after_where;
 use attributes::attributes_at;
 use std::alloc::Global;
 use texts::List;
-use tokens::{Group, TokenTree, copy_trees};
-use words::{ReadItem, Sign, Stop, ident_of, list_inside, name_at, optional_sign, stop_at};
+use tokens::{Bracket, Group, TokenTree, copy_trees};
+use words::{
+    ReadItem, Sign, Stop, group_at, ident_of, list_inside, name_at, optional_sign, stop_at,
+};
 
 /// The first comma, and what follows it.
 fn from_comma(trees: &[TokenTree]) -> &[TokenTree]
@@ -107,9 +110,25 @@ impl ReadItem for EnumVariant {
 }
 
 /// The variants inside of the group.
-pub(crate) fn variants_inside(alloc: Global, group: &Group) -> Result<List<Variant>, Stop>
+fn variants_inside(alloc: Global, group: &Group) -> Result<List<Variant>, Stop>
     ensures { Gives (λ variants. map variant_view variants) result
         (list_of (variant_at (type_at most_levels)) (words_of (trees_view group.now.trees))) }
 {
     list_inside::<EnumVariant>(alloc, group)
+}
+
+/// What follows the name and the generics of an enum: the where clause, and the variants in braces.
+#[tactic(auto, unfolding(crate::specs::ItemReading::enum_body_at))]
+pub(crate) fn enum_body_at(
+    alloc: Global,
+    trees: &[TokenTree],
+) -> Result<(List<Variant>, &[TokenTree]), Stop>
+    ensures value { Gives (λ p. (map variant_view p.0, words_view p.1.now)) result
+        (enum_body_at within_levels (words_view trees.now)) }
+    ensures shorter { IfOk result (λ p. length p.1.now < length trees.now) }
+{
+    let rest = after_where(alloc, trees)?;
+    let (group, rest) = group_at(rest, Bracket::Curly)?;
+    let variants = variants_inside(alloc, group)?;
+    Ok((variants, rest))
 }

@@ -149,7 +149,7 @@ begins_list h = ap ends_list h.2 ∙ goes_on_list h.0 h.1 h.3
 pub begins_no_end : {ws : List Word} → Begins ws → is_end ws ≡ false
 begins_no_end h = ap is_end h.2
 
-begins_no_kind : (w : Word) → begins_type w ≡ true → (as_keyword Mut w ≡ None) × (as_lifetime w ≡ None)
+pub begins_no_kind : (w : Word) → begins_type w ≡ true → (as_keyword Mut w ≡ None) × (as_lifetime w ≡ None)
 begins_no_kind (keyword Mut x) e = cc
 begins_no_kind (keyword _ x) e = (refl, refl)
 begins_no_kind (lifetime x) e = cc

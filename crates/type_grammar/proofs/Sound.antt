@@ -41,7 +41,7 @@ module _ {A : Type 0} (ends : List Word → Bool) (R : List Word → A → List 
       let tail = h mid found.0.0 found.0.1 found.1 in
       along (λ v w. IsListOf R ws v w) (x ∷ found.0.0) xs found.0.1 rest found.2 (more_items (subst (λ v. R ws x v) (after_sign-is Comma us mid f).1 r) tail)
 
-  pub list_sound : (n : ℕ) (ws : List Word) (xs : List A) (rest : List Word) → list_at ends item n ws ≡ Ok (xs, rest) → IsListOf R ws xs rest
+  list_sound : (n : ℕ) (ws : List Word) (xs : List A) (rest : List Word) → list_at ends item n ws ≡ Ok (xs, rest) → IsListOf R ws xs rest
   unfolding list_at
   list_sound zero ws xs rest e = cc
   list_sound (suc n) ws xs rest e =
@@ -50,6 +50,10 @@ module _ {A : Type 0} (ends : List Word → Bool) (R : List Word → A → List 
         | inr h ↦ let found = bind_ok (item ws) h.1 in
             sound_after (list_at ends item n) (list_sound n) ws found.0.0 found.0.1 (sound ws found.0.0 found.0.1 found.1) xs rest (after_sign Comma found.0.1) refl found.2
       ]
+
+  pub until_sound : (ws : List Word) (xs : List A) (rest : List Word) → list_until ends item ws ≡ Ok (xs, rest) → IsListOf R ws xs rest
+  unfolding list_until
+  until_sound ws xs rest e = list_sound (suc (length ws)) ws xs rest e
 
 -- ---- lifetimes and constants
 pub plain_sound : (b : Bool) (ws : List Word) (a : Argument) (rest : List Word) → plain_argument ws ≡ Some (a, rest) → IsArgument b ws a rest
@@ -141,8 +145,7 @@ square_begins _ g s e = cc
 -- ---- a type, whose parts are sound
 module _ (inner : TypeReader) (sound : (b : Bounds) (ws : List Word) (t : Written) (rest : List Word) → inner b ws ≡ Ok (t, rest) → IsTypeOf b ws t rest) where
   types_sound : (ws : List Word) (us : List Written) (rest : List Word) → list_of (inner Any) ws ≡ Ok (us, rest) → IsTypes ws us rest
-  unfolding list_until
-  types_sound ws us rest e = to_types (list_sound ends_list (IsTypeOf Any) (inner Any) (sound Any) (suc (length ws)) ws us rest e)
+  types_sound ws us rest e = to_types (until_sound ends_list (IsTypeOf Any) (inner Any) (sound Any) ws us rest e)
 
   argument_found : (b : Bool) (ws : List Word) (a : Argument) (rest : List Word) (o : Option (Argument × List Word)) → plain_argument ws ≡ o → argument_or inner (after_binding b ws) o ≡ Ok (a, rest) → IsArgument b ws a rest
   argument_found b ws a rest (Some p) f e = along (λ v w. IsArgument b ws v w) p.0 a p.1 rest e (plain_sound b ws p.0 p.1 f)
@@ -155,8 +158,7 @@ module _ (inner : TypeReader) (sound : (b : Bounds) (ws : List Word) (t : Writte
   argument_sound b ws a rest e = argument_found b ws a rest (plain_argument ws) refl e
 
   arguments_sound : (b : Bool) (ws : List Word) (xs : List Argument) (rest : List Word) → list_of (argument_at b inner) ws ≡ Ok (xs, rest) → IsArguments b ws xs rest
-  unfolding list_until
-  arguments_sound b ws xs rest e = to_arguments (list_sound ends_list (IsArgument b) (argument_at b inner) (argument_sound b) (suc (length ws)) ws xs rest e)
+  arguments_sound b ws xs rest e = to_arguments (until_sound ends_list (IsArgument b) (argument_at b inner) (argument_sound b) ws xs rest e)
 
   segment_found : (b : Bool) (w : Word) (x : Ident) → as_path_word w ≡ Some x → (ws : List Word) (o : Option (List Word)) → arguments_after ws ≡ o → (s : Segment) (last : Span) (rest : List Word)
       → segment_after b inner x ws o ≡ Ok ((s, last), rest) → IsSegment b (w ∷ ws) s last rest

@@ -1,7 +1,6 @@
--- What is in a list is read, unless a type in it nests too deep, where ty reads types.
+-- What is in a list is read, unless something in it nests too deep.
 use Rattle.std.proofs.Common.{◌≡◌, ◌∙◌, ◌<◌, ◌⊎◌, inl, inr, List, [], ◌∷◌, ◌++◌, length, refl, ap, arith, Result, Ok, Err}
 use Rattle.texts.specs.declared.span.Span.{Span}
-use Rattle.written_types.specs.Written.{Written}
 use Rattle.words.specs.declared.vocabulary.Sign.TheVariants.{Comma}
 use Rattle.words.specs.Words.{Word, sign}
 use Rattle.words.specs.Reading.{Fault, deep, Read, ◌>>=◌}
@@ -14,11 +13,11 @@ pub data Ends : List Word → Type 0 where
   at_end : Ends []
   at_comma : {s : Span} {ws : List Word} → Ends (sign Comma s ∷ ws)
 
-module _ (ty : List Word → Read Written) where
+module _ (IsDeepAt : Span → Type 0) where
   -- ---- what is found, or is too deep
-  -- a type that ty finds too deep is why the whole is
+  -- what nests too deep at a span is why the whole does
   abbrev pub IsDeep : {A : Type 0} → Result A Fault → Type 0
-  IsDeep r = (at : Span) × (r ≡ Err (deep at)) × ((us : List Word) × (ty us ≡ Err (deep at)))
+  IsDeep r = (at : Span) × (r ≡ Err (deep at)) × IsDeepAt at
 
   abbrev pub Finds : {A : Type 0} → Result A Fault → A → Type 0
   Finds r x = (r ≡ Ok x) ⊎ IsDeep r

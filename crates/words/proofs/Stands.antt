@@ -33,7 +33,7 @@ same_keyword-is keywords.Where keywords.Where e = refl
 same_keyword-is keywords.Other keywords.Other e = refl
 same_keyword-is _ _ e = cc
 
-same_bracket-is : (a b : Bracket) → same_bracket a b ≡ true → a ≡ b
+pub same_bracket-is : (a b : Bracket) → same_bracket a b ≡ true → a ≡ b
 same_bracket-is Round Round e = refl
 same_bracket-is Square Square e = refl
 same_bracket-is Curly Curly e = refl
