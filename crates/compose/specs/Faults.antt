@@ -1,4 +1,4 @@
--- Why declarations have no components: an attribute that nothing is derived from, a name that two declarations have, a declaration at fault, or what is beyond a bound.
+-- Why declarations have no components: an attribute or a parameter that nothing is derived from, a name that two declarations have, a declaration at fault, or what is beyond a bound.
 use Rattle.std.specs.Prelude.{◌≡◌, ◌⊎◌, ℕ, List, None, Some}
 use Rattle.diag.specs.Refusal.{RefusesNone}
 use Rattle.diag.specs.declared.error.DeriveError.{DeriveError}
@@ -10,7 +10,7 @@ use Rattle.syntax.specs.Source.{Reads, IsUnreadable, IsTooDeep, NestsTooDeep}
 use Rattle.scopes.specs.Names.{declared_idents, IsGivenTwice}
 use Rattle.configuration.specs.Configuration.{Configuration}
 use Rattle.shapes.specs.Declarations.{DeclarationOf}
-use Rattle.derive_decl.specs.Faults.{attributes_among, first_other, IsUnderivable, AreFaultyItems}
+use Rattle.derive_decl.specs.Faults.{AreUnderivable, AreDerivable, AreFaultyItems}
 use Rattle.derive_decl.specs.Whole.{resolved_declarations}
 use Rattle.closing.specs.Described.{IsApart, AreComponents}
 use Rattle.compose.specs.Bounds.{AreBounded, IsUnbounded}
@@ -21,13 +21,13 @@ use Rattle.compose.specs.Bounds.{AreBounded, IsUnbounded}
 abbrev pub AreFaulty : List RenameRow → List DeclaredItem → DeriveError → Type 0
 AreFaulty rows ds e = IsGivenTwice (declared_idents ds) e ⊎ AreFaultyItems rows ds e
 
--- the error refuses the declarations for an attribute that nothing is derived from, or else for a fault
+-- the error refuses the declarations for an attribute or a parameter that nothing is derived from, or else for a fault
 abbrev pub AreAtFault : List RenameRow → List DeclaredItem → DeriveError → Type 0
-AreAtFault rows ds e = IsUnderivable (attributes_among ds) e ⊎ ((first_other (attributes_among ds) ≡ None) × AreFaulty rows ds e)
+AreAtFault rows ds e = AreUnderivable ds e ⊎ (AreDerivable ds × AreFaulty rows ds e)
 
--- Something is derived from each attribute of the declarations, and there is no fault, where names become what the rows say.
+-- Something is derived from each attribute and each parameter of the declarations, and there is no fault, where names become what the rows say.
 pub record AreClear (rows : List RenameRow) (ds : List DeclaredItem) : Type 0 where
-  pub derivable : first_other (attributes_among ds) ≡ None
+  pub derivable : AreDerivable ds
   pub faultless : RefusesNone (AreFaulty rows ds)
 
 -- the error refuses declarations that are clear: their instances are beyond a bound

@@ -114,12 +114,13 @@ fn bounded_components(
 /// The components of the source's declarations.
 ///
 /// A refusal is of kind `TooDeep` or `Syntax`, where the source cannot be read; or `Syntax`, at the first attribute of
-/// `schema` or `repr` or one of `serde` that flattens, from which nothing is derived. Else it is of kind `DuplicateName`,
-/// `SerdeTag`, `BadValue`, `MissingRow`, `UnknownType`, `Arity`, `TypeSize` or `TaggedTuple`: a name that two declarations
-/// have comes first; then, declaration by declaration, what serde's attributes of a struct, an enum or a variant contradict,
-/// what is wrong with the name of a field or a variant, with a field's type or with a variant's tag, before a name that two
-/// of them have; a form of unnamed fields without a field is `Arity`. Else it is `TooManyInstances`, `InlineDepth` or
-/// `TooManyCopies`, in this order, where the instances are beyond a bound of the configuration.
+/// `schema` or `repr` or one of `serde` that flattens, or at the first type or const parameter: nothing is derived from
+/// these. Else it is of kind `DuplicateName`, `SerdeTag`, `BadValue`, `MissingRow`, `UnknownType`, `Arity`, `TypeSize` or
+/// `TaggedTuple`: a name that two declarations have comes first; then, declaration by declaration, a lifetime given twice,
+/// what serde's attributes of a struct, an enum or a variant contradict, what is wrong with the name of a field or a
+/// variant, with a field's type or with a variant's tag, before a name that two of them have; a form of unnamed fields
+/// without a field is `Arity`. Else it is `TooManyInstances`, `InlineDepth` or `TooManyCopies`, in this order, where the
+/// instances are beyond a bound of the configuration.
 pub fn derive_components(
     alloc: Global,
     source: &str,

@@ -1,9 +1,9 @@
--- The first attribute of two lists is that of the first list, or else of the second.
+-- What is first in two lists is that of the first list, or else of the second.
 use Rattle.std.proofs.Common.{◌≡◌, ◌∙◌, ◌<◌, ◌+◌, ℕ, suc, List, [], ◌∷◌, ◌++◌, length, drop, get_or, refl, ap, sym, Option, Some, None, Bool, true, false, cond, add-one, drop-cons}
 use Rattle.std.specs.Option.{option_or}
-use Rattle.texts.specs.declared.span.Span.{Span}
 use Rattle.attributes.specs.Attributes.{AttributeItem}
-use Rattle.derive_decl.specs.Faults.{is_other, first_other}
+use Rattle.syntax.specs.Items.{ParameterItem, lifetime_parameter, type_parameter, const_parameter}
+use Rattle.derive_decl.specs.Faults.{is_other, first_other, first_argued}
 
 pub first_joined : (xs ys : List AttributeItem) → first_other (xs ++ ys) ≡ option_or (first_other xs) (first_other ys)
 first_joined [] ys = refl
@@ -13,19 +13,25 @@ first_joined (a ∷ xs) ys = by (is_other a) (first_joined xs ys)
     by true h = refl
     by false h = h
 
+pub argued_joined : (ps qs : List ParameterItem) → first_argued (ps ++ qs) ≡ option_or (first_argued ps) (first_argued qs)
+argued_joined [] qs = refl
+argued_joined (lifetime_parameter x ∷ ps) qs = argued_joined ps qs
+argued_joined (type_parameter x ∷ ps) qs = refl
+argued_joined (const_parameter x ∷ ps) qs = refl
+
 -- the first of a list is that of its first item, or else that of the others
-module _ {A : Type 0} (first : List A → Option Span) (one : A → Option Span) (split : (x : A) (xs : List A) → first (x ∷ xs) ≡ option_or (one x) (first xs)) where
+module _ {A B : Type 0} (first : List A → Option B) (one : A → Option B) (split : (x : A) (xs : List A) → first (x ∷ xs) ≡ option_or (one x) (first xs)) where
   -- the first of an item, or else the first behind it
   first_at : (xs : List A) (i : ℕ) (x : A) → i < length xs → x ≡ get_or xs i x → first (drop i xs) ≡ option_or (one x) (first (drop (i + 1) xs))
   first_at xs i x l e = rw (add-one, drop-cons xs i x, ← e) (split x (drop (suc i) xs))
 
   -- the item has none, so the first stands behind it
-  pub first_later : (xs : List A) (i : ℕ) (x : A) (found : Option Span) → i < length xs → x ≡ get_or xs i x → found ≡ one x → found ≡ None →
+  pub first_later : (xs : List A) (i : ℕ) (x : A) (found : Option B) → i < length xs → x ≡ get_or xs i x → found ≡ one x → found ≡ None →
       first (drop i xs) ≡ first xs → first (drop (i + 1) xs) ≡ first xs
   first_later xs i x found l e here none so = sym (ap (λ o. option_or o (first (drop (i + 1) xs))) (sym here ∙ none)) ∙ sym (first_at xs i x l e) ∙ so
 
   -- the item has one, which is the first
-  pub first_here : (xs : List A) (i : ℕ) (x : A) (found : Option Span) (s : Span) → i < length xs → x ≡ get_or xs i x → found ≡ one x → found ≡ Some s →
+  pub first_here : (xs : List A) (i : ℕ) (x : A) (found : Option B) (s : B) → i < length xs → x ≡ get_or xs i x → found ≡ one x → found ≡ Some s →
       first (drop i xs) ≡ first xs → Some s ≡ first xs
   first_here xs i x found s l e here is so = sym (ap (λ o. option_or o (first (drop (i + 1) xs))) (sym here ∙ is)) ∙ sym (first_at xs i x l e) ∙ so
 

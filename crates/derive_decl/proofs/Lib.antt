@@ -1,5 +1,6 @@
 pub mod Alike
 pub mod First
+pub mod Lifetimes
 pub mod Growing
 pub mod Members
 pub mod Rules

@@ -1,9 +1,10 @@
--- Why a declaration has no schema: an attribute that nothing is derived from, serde's items that contradict each other, name a content and no tag, or name a rename rule that there is not, a tag that cannot stand where it should, a name that has no row or that two fields or variants have, a type that stands for nothing or is too large, a form of unnamed fields without a field.
-use Rattle.std.specs.Prelude.{◌≡◌, ◌⊎◌, ◌||◌, ℕ, List, [], ◌∷◌, ◌++◌, Bool, cond, Option, Some, None, Ok, codes}
+-- Why a declaration has no schema: an attribute or a parameter that nothing is derived from, a lifetime given twice, serde's items that contradict each other, name a content and no tag, or name a rename rule that there is not, a tag that cannot stand where it should, a name that has no row or that two fields or variants have, a type that stands for nothing or is too large, a form of unnamed fields without a field.
+use Rattle.std.specs.Prelude.{◌≡◌, ◌⊎◌, ◌||◌, ℕ, List, [], ◌∷◌, ◌++◌, Bool, cond, Option, Some, None, Ok, codes, take, drop}
 use Rattle.std.specs.List.{flat_map}
+use Rattle.std.specs.Str.{bytes_eq}
 use Rattle.diag.specs.Refusal.{IsRefusal, IsSyntaxRefusal, RefusesNone}
 use Rattle.diag.specs.declared.error.DeriveError.{DeriveError}
-use Rattle.diag.specs.declared.kind.Kind.TheVariants.{MissingRow, Arity, SerdeTag}
+use Rattle.diag.specs.declared.kind.Kind.TheVariants.{Syntax, MissingRow, Arity, SerdeTag}
 use Rattle.diag.specs.declared.rename_rule.RenameRule.{RenameRule}
 use Rattle.diag.specs.declared.rename_row.RenameRow.{RenameRow}
 use Rattle.diag.specs.declared.rename_row.RenamePlace.{RenamePlace}
@@ -18,7 +19,7 @@ use Rattle.serde_rules.specs.declared.value.SerdeValue.{SerdeValue}
 use Rattle.serde_rules.specs.declared.enum_repr.SerdeEnumRepr.TheVariants.{UnfinishedAdjacentlyTagged}
 use Rattle.serde_rules.specs.Container.{representation, rename_rule, IsContainerRefusal}
 use Rattle.serde_rules.specs.Items.{has_item}
-use Rattle.syntax.specs.Items.{FieldItem, FieldItems, named, unnamed, unit, VariantItem, BodyItem, struct_body, enum_body, DeclaredItem}
+use Rattle.syntax.specs.Items.{FieldItem, FieldItems, named, unnamed, unit, VariantItem, ParameterItem, lifetime_parameter, type_parameter, const_parameter, BodyItem, struct_body, enum_body, DeclaredItem}
 use Rattle.resolving.specs.Resolved.{Fault, IsFault, IsRefusedFor}
 use Rattle.scopes.specs.Names.{IsGivenTwice}
 use Rattle.shapes.specs.Declarations.{FormOf}
@@ -61,6 +62,33 @@ abbrev pub first_other : List AttributeItem → Option Span
 first_other [] = None
 first_other (a ∷ others) = cond (is_other a) (Some a.span) (first_other others)
 
+-- the generic parameters of the declarations, in order
+abbrev pub parameters_among : List DeclaredItem → List ParameterItem
+parameters_among ds = flat_map (λ d. d.generics) ds
+
+-- the first of them that is a type or a constant: nothing is derived yet of a declaration that has one
+abbrev pub first_argued : List ParameterItem → Option Ident
+first_argued [] = None
+first_argued (lifetime_parameter x ∷ ps) = first_argued ps
+first_argued (type_parameter x ∷ ps) = Some x
+first_argued (const_parameter x ∷ ps) = Some x
+
+abbrev pub parameter_message : List ℕ → List ℕ
+parameter_message name = codes "type and const parameters are not supported yet: " ++ name
+
+-- a lifetime by its name, without its quote
+abbrev pub unquoted_text : List ℕ → List ℕ
+unquoted_text text = cond (bytes_eq (take 1 text) (codes "'")) (drop 1 text) text
+
+abbrev pub unquoted : Ident → Ident
+unquoted x = record { text = unquoted_text x.text; raw = x.raw; span = x.span }
+
+-- the lifetimes among the parameters, by their names
+abbrev pub lifetimes_of : List ParameterItem → List Ident
+lifetimes_of [] = []
+lifetimes_of (lifetime_parameter x ∷ ps) = unquoted x ∷ lifetimes_of ps
+lifetimes_of (_ ∷ ps) = lifetimes_of ps
+
 abbrev pub fieldless_message : List ℕ
 fieldless_message = codes "a tuple form without a field"
 
@@ -72,6 +100,19 @@ row_message rule name = codes "no row for " ++ (name_of rule ++ (codes " of " ++
 -- the error refuses an attribute that nothing is derived from, the first of them
 abbrev pub IsUnderivable : List AttributeItem → DeriveError → Type 0
 IsUnderivable attrs e = (span : Span) × (first_other attrs ≡ Some span) × IsSyntaxRefusal span e
+
+-- the error refuses a type or constant parameter, the first of them
+abbrev pub IsArgued : List ParameterItem → DeriveError → Type 0
+IsArgued ps e = (x : Ident) × (first_argued ps ≡ Some x) × IsRefusal Syntax x.span (parameter_message x.text) e
+
+-- the error refuses declarations for an attribute or a parameter that nothing is derived from
+abbrev pub AreUnderivable : List DeclaredItem → DeriveError → Type 0
+AreUnderivable ds e = IsUnderivable (attributes_among ds) e ⊎ IsArgued (parameters_among ds) e
+
+-- Something is derived from each attribute and each parameter of the declarations.
+pub record AreDerivable (ds : List DeclaredItem) : Type 0 where
+  pub attributes : first_other (attributes_among ds) ≡ None
+  pub parameters : first_argued (parameters_among ds) ≡ None
 
 -- the error refuses the field's type
 abbrev pub IsFaultyType : Around → FieldItem → DeriveError → Type 0
@@ -167,8 +208,9 @@ abbrev pub IsFaultyDeclaration : Around → List AttributeItem → Ident → Bod
 IsFaultyDeclaration around attrs x body e =
     IsUnderivable (attributes_with attrs body) e ⊎ ((first_other (attributes_with attrs body) ≡ None) × IsFaultyBody around (serde_items attrs) x body e)
 
+-- the error refuses a lifetime that is given twice, or else the declaration for what stands in it
 abbrev pub IsFaultyItem : Around → DeclaredItem → DeriveError → Type 0
-IsFaultyItem around d e = IsFaultyDeclaration around d.attrs d.ident d.body e
+IsFaultyItem around d e = IsGivenTwice (lifetimes_of d.generics) e ⊎ IsFaultyDeclaration around d.attrs d.ident d.body e
 
 -- the error refuses one of the declarations
 abbrev pub AreFaultyItems : List RenameRow → List DeclaredItem → DeriveError → Type 0

@@ -9,6 +9,7 @@ mod member;
 mod mixed_enum;
 mod named_struct;
 mod names;
+mod parameters;
 mod plain_enum;
 mod push_some;
 mod remarks;

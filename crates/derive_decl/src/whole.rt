@@ -11,6 +11,7 @@ ghost use Rattle.derive_decl.specs.Faults.{IsFaultyItem, AreFaultyItems};
 ghost use Rattle.derive_decl.specs.Views.{known, resolved_view};
 ghost use Rattle.derive_decl.specs.Whole.{resolved_declarations};
 
+use crate::parameters::distinct_lifetimes;
 use crate::resolved::Resolved;
 use crate::schema::Schema;
 use configuration::Config;
@@ -36,6 +37,7 @@ fn resolved_of(
     ensures refused { Refuses result
         (IsFaultyItem (known container.now) (declaration_view declaration.now)) }
 {
+    distinct_lifetimes(alloc, &declaration.generics)?;
     let schema = Schema {
         body: &declaration.body,
         attributes: declaration.attrs.as_slice(),
@@ -47,7 +49,8 @@ fn resolved_of(
 
 /// What the declarations are resolved to, in their order, where each field in braces has a name.
 ///
-/// It refuses a declaration that `Schema::resolve` refuses, as that does.
+/// It refuses a declaration in which a lifetime is given twice, with the kind `DuplicateName`, at the first that is; and one
+/// that `Schema::resolve` refuses, as that does.
 pub fn resolved_declarations(
     alloc: Global,
     places: &Places<'_>,

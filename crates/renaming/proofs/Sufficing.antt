@@ -176,8 +176,9 @@ module _ (span : Span) (message : List ℕ) (e : DeriveError) (missing : IsRefus
     no_faulty_body items x (enum_body vs) has (inr (tagging, is, fault)) = no_faulty_told (representation items) (rename_rule items) vs tagging is has fault
 
     no_faulty_item : (d : DeclaredItem) → AllByRecursion HasRow (asked_of_item d) → IsFaultyItem around d e → ⊥
-    no_faulty_item d has (inl (other, is, refusal)) = other_kind Syntax _ _ (λ same. cc) refusal
-    no_faulty_item d has (inr (derivable, fault)) = no_faulty_body (serde_items d.attrs) d.ident d.body has fault
+    no_faulty_item d has (inl twice) = no_name_twice _ twice
+    no_faulty_item d has (inr (inl (other, is, refusal))) = other_kind Syntax _ _ (λ same. cc) refusal
+    no_faulty_item d has (inr (inr (derivable, fault))) = no_faulty_body (serde_items d.attrs) d.ident d.body has fault
 
     pub no_faulty_items : (ds : List DeclaredItem) → AllByRecursion HasRow (flat_map asked_of_item ds) → Somewhere (λ d. IsFaultyItem around d e) ds → ⊥
     no_faulty_items ds has fault =

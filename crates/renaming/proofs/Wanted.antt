@@ -116,4 +116,4 @@ module _ (place_of : List ℕ → Option ℕ) where
 pub rows_are_wanted : RowsAreWanted
 rows_are_wanted ds d derivable =
     all_weaker (λ a. (e : DeriveError) → Misses a e → IsFaultyBody (around_of [] ds) (serde_items d.attrs) d.ident d.body e) (IsWanted ds d) (asked_of_item d)
-    (λ a fault e misses. inr (derivable, fault e misses)) (body_wanted (around_of [] ds).place_of (serde_items d.attrs) d.ident d.body)
+    (λ a fault e misses. inr (inr (derivable, fault e misses))) (body_wanted (around_of [] ds).place_of (serde_items d.attrs) d.ident d.body)

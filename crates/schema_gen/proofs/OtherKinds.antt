@@ -130,15 +130,17 @@ module _ (ds : List DiangosticsInner) (first : HasFirst ds (λ d. d.kind ≡ Bad
   body around items x (enum_body vs) (inr (tagging, told, inr h)) = twice _ h
 
   item : (around : Around) (d : DeclaredItem) → IsFaultyItem around d (Refused ds) → ⊥
-  item around d (inl (span, first, is)) = other Syntax _ _ (λ e. cc) is
-  item around d (inr (derivable, h)) = body around (serde_items d.attrs) d.ident d.body h
+  item around d (inl h) = twice _ h
+  item around d (inr (inl (span, first, is))) = other Syntax _ _ (λ e. cc) is
+  item around d (inr (inr (derivable, h))) = body around (serde_items d.attrs) d.ident d.body h
 
   faulty : (rows : List RenameRow) (items : List DeclaredItem) → AreFaulty rows items (Refused ds) → ⊥
   faulty rows items (inl h) = twice _ h
   faulty rows items (inr h) = nowhere _ items (item (around_of rows items)) h
 
   declared : (c : Configuration) (items : List DeclaredItem) → AreAtFault c.renames items (Refused ds) ⊎ IsBeyond c items (Refused ds) → ⊥
-  declared c items (inl (inl (span, attributed, is))) = other Syntax _ _ (λ e. cc) is
+  declared c items (inl (inl (inl (span, attributed, is)))) = other Syntax _ _ (λ e. cc) is
+  declared c items (inl (inl (inr (x, argued, is)))) = other Syntax _ _ (λ e. cc) is
   declared c items (inl (inr (derivable, fault))) = faulty c.renames items fault
   declared c items (inr (clear, (resolved, resolves, beyond))) = unbounded c (declared_idents items) resolved beyond
 
