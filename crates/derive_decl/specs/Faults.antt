@@ -43,7 +43,7 @@ abbrev pub attributes_inside : BodyItem → List AttributeItem
 attributes_inside (struct_body fs) = attributes_on fs
 attributes_inside (enum_body vs) = flat_map (λ v. v.attrs ++ attributes_on v.fields) vs
 
--- the attributes of a declaration and of what stands in it, in order
+-- the attributes of a declaration and of its variants and fields, in order; those of its parameters are not kept
 abbrev pub attributes_with : List AttributeItem → BodyItem → List AttributeItem
 attributes_with attrs body = attrs ++ attributes_inside body
 
@@ -105,11 +105,11 @@ IsUnderivable attrs e = (span : Span) × (first_other attrs ≡ Some span) × Is
 abbrev pub IsArgued : List ParameterItem → DeriveError → Type 0
 IsArgued ps e = (x : Ident) × (first_argued ps ≡ Some x) × IsRefusal Syntax x.span (parameter_message x.text) e
 
--- the error refuses declarations for an attribute or a parameter that nothing is derived from
+-- the error refuses declarations for an attribute that nothing is derived from, or else for such a parameter
 abbrev pub AreUnderivable : List DeclaredItem → DeriveError → Type 0
-AreUnderivable ds e = IsUnderivable (attributes_among ds) e ⊎ IsArgued (parameters_among ds) e
+AreUnderivable ds e = IsUnderivable (attributes_among ds) e ⊎ ((first_other (attributes_among ds) ≡ None) × IsArgued (parameters_among ds) e)
 
--- Something is derived from each attribute and each parameter of the declarations.
+-- Something is derived from each of these attributes and each parameter of the declarations.
 pub record AreDerivable (ds : List DeclaredItem) : Type 0 where
   pub attributes : first_other (attributes_among ds) ≡ None
   pub parameters : first_argued (parameters_among ds) ≡ None
@@ -208,7 +208,7 @@ abbrev pub IsFaultyDeclaration : Around → List AttributeItem → Ident → Bod
 IsFaultyDeclaration around attrs x body e =
     IsUnderivable (attributes_with attrs body) e ⊎ ((first_other (attributes_with attrs body) ≡ None) × IsFaultyBody around (serde_items attrs) x body e)
 
--- the error refuses a lifetime that is given twice, or else the declaration for what stands in it
+-- the error refuses a lifetime that is given twice, or the declaration for what stands in it
 abbrev pub IsFaultyItem : Around → DeclaredItem → DeriveError → Type 0
 IsFaultyItem around d e = IsGivenTwice (lifetimes_of d.generics) e ⊎ IsFaultyDeclaration around d.attrs d.ident d.body e
 

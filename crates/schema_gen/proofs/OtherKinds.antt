@@ -140,7 +140,7 @@ module _ (ds : List DiangosticsInner) (first : HasFirst ds (λ d. d.kind ≡ Bad
 
   declared : (c : Configuration) (items : List DeclaredItem) → AreAtFault c.renames items (Refused ds) ⊎ IsBeyond c items (Refused ds) → ⊥
   declared c items (inl (inl (inl (span, attributed, is)))) = other Syntax _ _ (λ e. cc) is
-  declared c items (inl (inl (inr (x, argued, is)))) = other Syntax _ _ (λ e. cc) is
+  declared c items (inl (inl (inr (none, (x, argued, is))))) = other Syntax _ _ (λ e. cc) is
   declared c items (inl (inr (derivable, fault))) = faulty c.renames items fault
   declared c items (inr (clear, (resolved, resolves, beyond))) = unbounded c (declared_idents items) resolved beyond
 

@@ -22,7 +22,7 @@ after_lifetimes (lifetime x ∷ sign Plus s ∷ ws) = after_lifetimes ws
 after_lifetimes (lifetime x ∷ ws) = Ok ws
 after_lifetimes _ = Err wrong
 
--- the lifetimes behind a colon, where one stands
+-- behind a colon, the lifetimes, or nothing where none stands
 abbrev pub lifetimes_or_none : List Word → Read Ident → Result (List Word) Fault
 lifetimes_or_none ws (Ok x) = after_lifetimes ws
 lifetimes_or_none ws (Err e) = Ok ws
@@ -62,7 +62,7 @@ bare_parameter_at r ws = lifetime_or_other r ws (lifetime_at ws)
 unfoldable pub parameter_at : Readers → List Word → Read ParameterItem
 parameter_at r ws = attributes_at ws >>= λ d. bare_parameter_at r d.1
 
--- the parameters between `<` and `>`, where `<` stands
+-- behind `<`, the parameters and `>`
 abbrev pub parameters_at : Readers → List Word → Read (List ParameterItem)
 parameters_at r ws = list_until ends_list (parameter_at r) ws >>= λ ps. sign_at Greater ps.1 >>= λ close. Ok (ps.0, close.1)
 

@@ -27,7 +27,7 @@ pub data MayBeBounded : List Word → List Word → Type 0 where
   not_bounded : {rest : List Word} → MayBeBounded rest rest
   bounded : {at : Span} {ws rest : List Word} → IsBounds ws rest → MayBeBounded (sign Colon at ∷ ws) rest
 
--- attribute* ( lifetime (":" (lifetime ("+" lifetime)*)?)? | name (":" bounds)? | "const" name ":" type )
+-- attribute* ( lifetime (":" (lifetime ("+" lifetime)*)?)? | name (":" bounds)? | "const" name ":" type ), of whose attributes nothing is kept
 pub data IsParameter : List Word → ParameterItem → List Word → Type 0 where
   of_lifetime : {x : Ident} {attrs : List AttributeItem} {ws us rest : List Word} → IsAttributes ws attrs (lifetime x ∷ us) → MayBeOutlived us rest → IsParameter ws (lifetime_parameter x) rest
   of_type : {x : Ident} {attrs : List AttributeItem} {ws us rest : List Word} → IsAttributes ws attrs (name x ∷ us) → MayBeBounded us rest → IsParameter ws (type_parameter x) rest

@@ -23,7 +23,7 @@ use Rattle.syntax.specs.ItemGrammar.{IsVisibility, IsNamedField, IsUnnamedField,
 abbrev pub most_levels : ℕ
 most_levels = 64
 
--- A path among bounds is a level, as a path that is a type is.
+-- A path among bounds is at level 1, as a path that is a type is; what stands in its arguments has the other 63.
 abbrev pub most_in_bounds : ℕ
 most_in_bounds = 63
 
@@ -57,7 +57,7 @@ pub data OpensNamed : List Word → Span → Type 0 where
 pub data OpensUnnamed : List Word → Span → Type 0 where
   in_unnamed : {at : Span} {attrs : List AttributeItem} {ws us vs : List Word} → IsAttributes ws attrs us → IsVisibility us vs → OpensType most_levels vs at → OpensUnnamed ws at
 
--- in what follows the name of a struct or of a variant
+-- in the fields of a struct or of a variant
 pub data OpensFields : List Word → Span → Type 0 where
   in_named_fields : {inside : Trees} {s at : Span} {rest : List Word} → OpensList IsNamedField OpensNamed (words_of inside) at → OpensFields (group Curly inside s ∷ rest) at
   in_unnamed_fields : {inside : Trees} {s at : Span} {rest : List Word} → OpensList IsUnnamedField OpensUnnamed (words_of inside) at → OpensFields (group Round inside s ∷ rest) at
@@ -66,7 +66,7 @@ pub data OpensFields : List Word → Span → Type 0 where
 pub data OpensVariant : List Word → Span → Type 0 where
   in_variant_fields : {x : Ident} {at : Span} {attrs : List AttributeItem} {ws vs : List Word} → IsAttributes ws attrs (name x ∷ vs) → OpensFields vs at → OpensVariant ws at
 
--- in what follows the name and the generics of a struct: a where clause and fields in braces, or fields in parentheses and a where clause
+-- in what follows the name and the generics of a struct: a where clause and fields in braces, fields in parentheses and a where clause, or a where clause alone
 pub data OpensStructBody : List Word → Span → Type 0 where
   in_first_clause : {at : Span} {ws : List Word} → OpensWhere ws at → OpensStructBody ws at
   in_braced : {inside : Trees} {s at : Span} {ws rest : List Word} → IsWhere ws (group Curly inside s ∷ rest) → Passes OpensWhere ws → OpensFields (group Curly inside s ∷ rest) at → OpensStructBody ws at

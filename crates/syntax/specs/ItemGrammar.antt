@@ -34,7 +34,7 @@ pub data IsUnnamedField : List Word → FieldItem → List Word → Type 0 where
   unnamed_field : {t : Written} {attrs : List AttributeItem} {ws us vs rest : List Word} → IsAttributes ws attrs us → IsVisibility us vs → IsType vs t rest
       → IsUnnamedField ws (record { attrs = attrs; ident = None; ty = t; span = spanning us rest }) rest
 
--- what follows the name of a struct or of a variant: "{" list of named "}" | "(" list of unnamed ")" | nothing
+-- the fields of a struct or of a variant: "{" list of named "}" | "(" list of unnamed ")" | nothing, of a variant
 pub data IsFields : List Word → FieldItems → List Word → Type 0 where
   named_fields : {inside : Trees} {s : Span} {rest : List Word} {fs : List FieldItem} → IsList IsNamedField (words_of inside) fs → IsFields (group Curly inside s ∷ rest) (named fs) rest
   unnamed_fields : {inside : Trees} {s : Span} {rest : List Word} {fs : List FieldItem} → IsList IsUnnamedField (words_of inside) fs → IsFields (group Round inside s ∷ rest) (unnamed fs) rest

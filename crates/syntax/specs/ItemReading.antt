@@ -51,7 +51,7 @@ named_field_at ty ws = attributes_at ws >>= λ d. name_at (after_visibility fals
 unfoldable pub unnamed_field_at : (List Word → Read Written) → List Word → Read FieldItem
 unnamed_field_at ty ws = attributes_at ws >>= λ d. ty (after_visibility true d.1) >>= λ t. Ok (field_of d.0 None d.1 t)
 
--- what follows the name of a struct or of a variant
+-- the fields of a struct or of a variant
 abbrev pub fields_in : (List Word → Read Written) → Bracket → List Word → List Word → Read FieldItems
 fields_in ty Curly inside ws = list_of (named_field_at ty) inside >>= λ fs. Ok (named fs, ws)
 fields_in ty Round inside ws = list_of (unnamed_field_at ty) inside >>= λ fs. Ok (unnamed fs, ws)
@@ -104,10 +104,10 @@ variant_at ty ws = attributes_at ws >>= λ d. name_at d.1 >>= λ x. fields_at ty
 unfoldable pub enum_body_at : Readers → List Word → Read (List VariantItem)
 enum_body_at r ws = after_where r ws >>= λ us. group_at Curly us >>= λ g. list_of (variant_at r.ty) (words_of g.0.0) >>= λ vs. Ok (vs, g.1)
 
--- a struct, an enum, and either
 abbrev pub head_of : Ident → List ParameterItem → BodyItem → HeadItem
 head_of x ps body = record { ident = x; generics = ps; body = body }
 
+-- a struct, an enum, and either
 unfoldable pub struct_at : Readers → List Word → Read HeadItem
 struct_at r ws = keyword_at Struct ws >>= λ s. name_at s.1 >>= λ x. generics_at r x.1 >>= λ ps. struct_body_at r ps.1 >>= λ fs. Ok (head_of x.0 ps.0 (struct_body fs.0), fs.1)
 

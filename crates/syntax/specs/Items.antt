@@ -1,4 +1,4 @@
--- Fields, variants and declarations, without where they lie in memory (The Rust Reference, "Structs", "Enumerations").
+-- Fields, variants, generic parameters and declarations, without where they lie in memory (The Rust Reference, "Structs", "Enumerations").
 use Rattle.std.specs.Prelude.{List, Option, map, option_map}
 use Rattle.texts.specs.declared.span.Span.{Span}
 use Rattle.written_types.specs.declared.written.Ident.{Ident}

@@ -82,7 +82,7 @@ goes_on [] = false
 goes_on (sign k s ∷ ws) = sign_goes_on k
 goes_on (_ ∷ ws) = false
 
--- The words are no more of a type that stands before them, as where nothing is left or where `,`, `>`, `)`, `;`, `=` or `{` comes.
+-- The words are no more of a type that stands before them, as where nothing is left or where `,`, `>`, `:`, `;`, `=` or a group in curly brackets comes.
 abbrev pub Stops : List Word → Type 0
 Stops ws = goes_on ws ≡ false
 
