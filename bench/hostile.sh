@@ -1,5 +1,5 @@
 #!/usr/bin/env bash
-# Sources of 1 MiB that are one token, one type or one kind of token, and sources at the bounds on instances: the time and the
+# Sources of 1 MiB that are one token, one type, one list or one kind of token, and sources at the bounds on instances: the time and the
 # peak memory that the program takes for each, and its status. By hand; no test rests on it.
 #
 #     bench/hostile.sh
@@ -53,6 +53,9 @@ sources = [
     ("one tuple", field("(", "u8,", "u8)")),
     ("one struct", "struct S { " + "a: u8, " * ((size - 13) // 7) + "}"),
     ("empty structs", filled("struct S {}")),
+    ("many lifetimes", "struct S<" + ",".join("'a%06d" % at for at in range((size - 24) // 9)) + "> { a: u8 }"),
+    ("many bounds", "struct S<'a> where u8: " + "B+" * ((size - 40) // 2) + "B { a: u8 }"),
+    ("many predicates", "struct S<'a> where " + "B:C," * ((size - 40) // 4) + " { a: u8 }"),
 ]
 print("%-20s %9s %9s %7s" % ("source", "seconds", "peak MiB", "status"))
 for name, text in sources:
