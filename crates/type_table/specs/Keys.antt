@@ -29,7 +29,7 @@ leaf_place leaves.Usize = 15
 leaf_place leaves.F32 = 16
 leaf_place leaves.F64 = 17
 
--- the numbers of a node's parts, and what is made of them; a head without a second part stands in its place
+-- the place of a leaf or a declaration, or else the first part; the second part, or where there is none the place of the head; the kind of node
 abbrev pub key_of : Node → ℕ × ℕ × ℕ
 key_of (nodes.Leaf x) = (leaf_place x, 0, 0)
 key_of nodes.AnyValue = (0, 0, 1)

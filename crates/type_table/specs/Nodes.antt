@@ -67,7 +67,7 @@ abbrev pub AreWhole : List Open → List Node → Type 0
 AreWhole known [] = Unit {0}
 AreWhole known (x ∷ xs) = HasParts known x × AreWhole (known ++ node_type known x ∷ []) xs
 
--- each node is found at its number, and nothing else is found
+-- each node is found at its number, and no other node is found
 pub record IsIndex (look : ℕ × ℕ × ℕ → Option ℕ) (xs : List Node) : Type 0 where
   pub there : (n : ℕ) (x : Node) → n < length xs → look (key_of (get_or xs n x)) ≡ Some n
   pub held : (x : Node) (n : ℕ) → look (key_of x) ≡ Some n → (n < length xs) × (get_or xs n x ≡ x)

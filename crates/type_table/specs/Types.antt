@@ -21,7 +21,7 @@ abbrev pub AllBelow : ℕ → List ℕ → Type 0
 AllBelow bound [] = Unit {0}
 AllBelow bound (n ∷ ns) = (n < bound) × AllBelow bound ns
 
--- the type is one of the first so many of the list
+-- the type is one of the first so many of the list, which has as many
 abbrev pub IsAmongFirst : List Open → ℕ → Open → Type 0
 IsAmongFirst known bound t = (n : ℕ) × (n < bound) × (type_at known n ≡ t)
 
@@ -35,7 +35,7 @@ abbrev pub declaration_of : Open → Option ℕ
 declaration_of (named d ts) = Some d
 declaration_of _ = None
 
--- a size, or the greatest number that 64 bits hold where it is greater
+-- a size, or the greatest number that 64 bits hold where the size is greater
 abbrev pub in_word : ℕ → ℕ
 in_word size = min size (2 ^ 64 - 1)
 
@@ -65,7 +65,7 @@ number_in (Some n) = n ∷ []
 abbrev pub numbers_in : Option ℕ × Option ℕ → List ℕ
 numbers_in p = number_in p.0 ++ number_in p.1
 
--- the type is a declaration with arguments
+-- the type is an instance of a declaration, with or without arguments
 abbrev pub IsInstance : Open → Type 0
 IsInstance (named d ts) = Unit {0}
 IsInstance _ = ⊥

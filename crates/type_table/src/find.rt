@@ -8,7 +8,8 @@ use crate::types::{TypeId, Types};
 use open_types::OpenType;
 
 impl Types {
-    /// The number of the type, or `None` where the table has no such type. It takes no memory.
+    /// The number of the type, or `None` where the table has no such type. It recurses as deep as the type nests, and takes no
+    /// memory.
     pub fn find(&self, ty: &OpenType) -> Option<TypeId>
         ensures { IsFound self.now (open_view ty.now) result }
     {
@@ -56,7 +57,7 @@ fn find_type(types: &Types, ty: &OpenType) -> Option<TypeId>
     }
 }
 
-/// The number of the tuple of the types, from the last on.
+/// The number of the tuple of the types, from the last on, or `None`.
 #[cycle(find)]
 fn find_types(types: &Types, items: &[OpenType]) -> Option<TypeId>
     ensures { IsFound types.now (tuple (opens_view items.now)) result }

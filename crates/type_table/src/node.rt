@@ -15,7 +15,7 @@ pub(crate) enum Node {
     AnyValue,
     FreeObject,
     Unit,
-    /// The tuple without items, where a chain ends.
+    /// The tuple without items, where a chain ends. It is not the unit.
     NoItems,
     Item(TypeId, TypeId),
     Items(ListHead, TypeId),
@@ -26,7 +26,7 @@ pub(crate) enum Node {
     Named(usize, TypeId),
 }
 
-/// Three numbers, by which a node is looked up. What tells most nodes apart, a part, stands first.
+/// Three numbers, by which a node is looked up. What tells most nodes apart stands first.
 pub(crate) type Key = (usize, usize, usize);
 
 fn leaf_place(leaf: Leaf) -> usize
@@ -98,7 +98,8 @@ fn through_place(head: ThroughHead) -> usize
 }
 
 impl Node {
-    /// The numbers of the parts, and what is made of them; a head without a second part stands in its place.
+    /// The place of a leaf or a declaration, or else the first part; the second part, or where there is none the place of the
+    /// head; the kind of node.
     pub(crate) fn key(&self) -> Key
         ensures { result ≡ key_of self.now }
     {

@@ -12,7 +12,7 @@ use std::alloc::{AllocError, Global};
 use texts::List;
 
 impl Types {
-    /// The type of the number. It recurses as deep as the type nests.
+    /// The type of the number. It recurses as deep as the type nests, and copies each part as often as it stands there.
     pub fn type_of(&self, alloc: Global, id: TypeId) -> Result<ClosedType, AllocError>
         requires { id < length self.now }
         ensures { IfOk result (λ ty. open_view ty ≡ type_at self.now id) }

@@ -11,6 +11,7 @@ use std::alloc::AllocError;
 
 impl Types {
     /// The number of the type. A type that is not there is added at the end, behind its parts; a refused call may leave parts.
+    /// It recurses as deep as the type nests.
     pub fn intern(&mut self, ty: &ClosedType) -> Result<TypeId, AllocError>
         ensures within { IfOk result (λ id. id < length self.new) }
         ensures value { IfOk result (λ id. type_at self.new id ≡ open_view ty.now) }

@@ -105,8 +105,9 @@ impl Types {
         }
     }
 
-    /// The numbers of what makes up the type: of a tuple its first item and the tuple of the others, of an instance the tuple
-    /// of its arguments. They are below the type's own, so a walk down parts ends. It takes no memory.
+    /// The numbers of what makes up the type: of a tuple with items the first and the tuple of the others, of an instance the
+    /// tuple of its arguments, of a map its key and its value, of a list, a set, an option or a smart pointer what it holds.
+    /// They are below the type's own, so a walk down parts ends. It takes no memory.
     pub fn parts(&self, id: TypeId) -> (Option<TypeId>, Option<TypeId>)
         requires { id < length self.now }
         ensures parts { map (type_at self.now) (numbers_in result) ≡ parts_of (type_at self.now id) }
