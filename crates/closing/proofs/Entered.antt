@@ -1,11 +1,12 @@
--- Components of declarations that are entered one after another.
-use Rattle.std.proofs.Common.{ℕ, zero, suc, ◌<◌, ◌≤◌, List, [], ◌∷◌, Option, Some, None, is_some, IsTrue, Bool, true, false, cond, bytes_eq, length, map, get_or, nat_cmp, Ordering, Less, Equal, Greater, is_eq, ◌≡◌, refl, ap, sym, subst, ◌∙◌, arith, ◌⊎◌, inl, inr, ◌||◌, option_map, ◌↔◌}
+-- Components that are entered one after another under their names.
+use Rattle.std.proofs.Common.{ℕ, zero, suc, ◌+◌, ◌<◌, List, [], ◌∷◌, ◌++◌, Option, Some, None, is_some, IsTrue, Bool, true, false, cond, bytes_eq, length, map, take, get_or, nat_cmp, Ordering, Less, Equal, Greater, is_eq, ◌≡◌, refl, ap, sym, subst, ◌∙◌, ◌⊎◌, inl, inr, ◌↔◌}
 use Rattle.std.specs.Cmp.Lexicographic.{slice_cmp}
 use Rattle.std.specs.Ordering.{match_ordering, ordering_reverse}
 use Rattle.std.specs.List.{AllByRecursion}
 use Rattle.std.specs.List.Sorted.{IsStrictlySortedBy}
-use Rattle.std.proofs.lemmas.Bool.{false≢true, cases_lt}
+use Rattle.std.proofs.lemmas.Bool.{false≢true}
 use Rattle.std.proofs.lemmas.Cmp.{nat_list_cmp_total}
+use Rattle.std.proofs.lemmas.List.{take_more}
 use Rattle.std.proofs.lemmas.Map.Text.{is_eq-slice_cmp}
 use Rattle.std.proofs.lemmas.Option.{none-some, same_Some}
 use Rattle.std.proofs.lemmas.Slice.Eq.{bytes_eq-Decides}
@@ -13,57 +14,18 @@ use Rattle.schema_trees.specs.declared.tree.RefLeaf.{RefLeaf}
 use Rattle.schema_trees.specs.Schema.{SchemaOf}
 use Rattle.schema_core.specs.Document.{Entry}
 use Rattle.schema_core.specs.Entries.{find, names_of, with_entry, IsInOrder}
-use Rattle.texts.specs.Names.{is_in, IsDistinct, place_in}
-use Rattle.shapes.specs.Declarations.{DeclarationOf, declaration_at, declaration_names}
-use Rattle.closing.specs.Closed.{declared_schema}
-use Rattle.closing.specs.Described.{AreComponents}
-
-module _ {A : Type 0} (view : A → DeclarationOf) where
-  pub declaration_at-view : (ds : List A) (d : ℕ) (x : A) → d < length ds → declaration_at (map view ds) d ≡ view (get_or ds d x)
-  declaration_at-view [] d x l = absurd (omega arith)
-  declaration_at-view (y ∷ ds) zero x l = refl
-  declaration_at-view (y ∷ ds) (suc d) x l = declaration_at-view ds d x (omega arith)
-
-  -- past the end a declaration has no name
-  pub declaration_past : (ds : List A) (d : ℕ) → length ds ≤ d → (declaration_at (map view ds) d).name ≡ []
-  declaration_past [] d l = refl
-  declaration_past (y ∷ ds) zero l = absurd (omega arith)
-  declaration_past (y ∷ ds) (suc d) l = declaration_past ds d (omega arith)
-
--- each component is of a declaration, under its name, and they are in order
-pub record AreKnown (ss : List DeclarationOf) (components : List Entry) : Type 0 where
-  pub known : (name : List ℕ) (s : SchemaOf RefLeaf) → find name components ≡ Some s → (d : ℕ) × (d < length ss) × (name ≡ (declaration_at ss d).name) × (s ≡ declared_schema ss d)
-  pub order : IsInOrder (names_of components)
-
--- ---- places
-
-or_false : (a b : Bool) → a || b ≡ false → (a ≡ false) × (b ≡ false)
-or_false true b e = absurd (false≢true (sym e))
-or_false false b e = (refl, e)
+use Rattle.open_types.specs.Open.{Open}
+use Rattle.shapes.specs.Declarations.{DeclarationOf}
+use Rattle.shapes.specs.InstanceNames.{instance_name}
+use Rattle.inlining.specs.Inlining.{IsAmong}
+use Rattle.instances.specs.Lists.{IsOneOf, instance_at, AreInstances}
+use Rattle.instances.specs.Names.{NamesDiffer}
+use Rattle.closing.specs.Closed.{instance_schema}
+use Rattle.closing.specs.Made.{AreEntriesOf}
+use Rattle.closing.proofs.Leaves.{among_cases}
 
 same_text : (k : List ℕ) → bytes_eq k k ≡ true
 same_text k = (bytes_eq-Decides k k).1 refl
-
-not_same : (k n : List ℕ) → bytes_eq k n ≡ false → bytes_eq n k ≡ false
-not_same k n e = by (bytes_eq n k) refl
-  where
-    by : (b : Bool) → bytes_eq n k ≡ b → b ≡ false
-    by false t = refl
-    by true t = absurd (false≢true (sym e ∙ (bytes_eq-Decides k n).1 (sym ((bytes_eq-Decides n k).0 t))))
-
-not_among : (ss : List DeclarationOf) (k : List ℕ) (d : ℕ) → is_in k (declaration_names ss) ≡ false → d < length ss → bytes_eq k (declaration_at ss d).name ≡ false
-not_among [] k d e l = absurd (omega arith)
-not_among (s ∷ ss) k zero e l = (or_false (bytes_eq k s.name) (is_in k (declaration_names ss)) e).0
-not_among (s ∷ ss) k (suc d) e l = not_among ss k d (or_false (bytes_eq k s.name) (is_in k (declaration_names ss)) e).1 (omega arith)
-
--- of distinct names each has its own place
-pub root_place : (ss : List DeclarationOf) (d : ℕ) → IsDistinct (declaration_names ss) → d < length ss → place_in (declaration_at ss d).name (declaration_names ss) ≡ Some d
-root_place [] d h l = absurd (omega arith)
-root_place (s ∷ ss) zero h l = ap (λ b. cond b (Some 0) (option_map suc (place_in s.name (declaration_names ss)))) (same_text s.name)
-root_place (s ∷ ss) (suc d) h l =
-    let n = (declaration_at ss d).name in
-    ap (λ b. cond b (Some 0) (option_map suc (place_in n (declaration_names ss)))) (not_same s.name n (not_among ss s.name d h.0 (omega arith)))
-    ∙ ap (option_map suc) (root_place ss d h.1 (omega arith))
 
 -- ---- one entry more
 
@@ -127,25 +89,6 @@ given : {A : Type 0} (o : Option A) → (o ≡ None → ⊥) → IsTrue (is_some
 given None h = absurd (h refl)
 given (Some x) h = refl
 
-pub known_none : (ss : List DeclarationOf) → AreKnown ss []
-unfolding IsStrictlySortedBy
-known_none ss = record { known = λ name s e. absurd (none-some s e); order = tt }
-
--- the components after a declaration's schema was put in under its name
-pub known_more : (ss : List DeclarationOf) (d : ℕ) (name : List ℕ) (s : SchemaOf RefLeaf) (added : Bool) (components after : List Entry) →
-    d < length ss → name ≡ (declaration_at ss d).name → s ≡ declared_schema ss d → (IsTrue added ↔ (find name components ≡ None)) → after ≡ cond added (with_entry name s components) components →
-    AreKnown ss components → AreKnown ss after
-known_more ss d name s false components after l n e new is h = subst (AreKnown ss) (sym is) h
-known_more ss d name s true components after l n e new is h = subst (AreKnown ss) (sym is) (record {
-  known = λ k t f. by k t (bytes_eq k name) refl (sym (find-entered name s components (new.0 refl) k) ∙ f);
-  order = order-entered name s components h.order;
-})
-  where
-    by : (k : List ℕ) (t : SchemaOf RefLeaf) (b : Bool) → bytes_eq k name ≡ b → cond b (Some s) (find k components) ≡ Some t →
-        (q : ℕ) × (q < length ss) × (k ≡ (declaration_at ss q).name) × (t ≡ declared_schema ss q)
-    by k t true u f = (d, l, (bytes_eq-Decides k name).0 u ∙ n, sym (same_Some s t f) ∙ e)
-    by k t false u f = h.known k t f
-
 cond-some : {A : Type 0} (b : Bool) (x : A) (o : Option A) → IsTrue (is_some o) → IsTrue (is_some (cond b (Some x) o))
 cond-some true x o h = refl
 cond-some false x o h = h
@@ -159,40 +102,101 @@ there : (s : SchemaOf RefLeaf) (name : List ℕ) (components : List Entry) (adde
 there s name components false g = given (find name components) (λ e. false≢true (g.1 e))
 there s name components true g = subst (λ o. IsTrue (is_some o)) (sym (find-entered name s components (g.0 refl) name ∙ ap (λ b. cond b (Some s) (find name components)) (same_text name))) refl
 
--- each declaration from the place on has a component
-abbrev pub AreThere : List DeclarationOf → ℕ → List Entry → Type 0
-AreThere ss from components = (d : ℕ) → from ≤ d → d < length ss → IsTrue (is_some (find (declaration_at ss d).name components))
+module _ (name : ℕ → List ℕ) (schema : ℕ → SchemaOf RefLeaf) where
+  -- each component is that of one of the numbers, under its name, and each of the numbers has one; they are in order
+  pub record AreKnown (ns : List ℕ) (components : List Entry) : Type 0 where
+    pub known : (k : List ℕ) (s : SchemaOf RefLeaf) → find k components ≡ Some s → (n : ℕ) × IsAmong n ns × (k ≡ name n) × (s ≡ schema n)
+    pub all : (n : ℕ) → IsAmong n ns → IsTrue (is_some (find (name n) components))
+    pub order : IsInOrder (names_of components)
 
-pub there_more : (ss : List DeclarationOf) (from : ℕ) (name : List ℕ) (s : SchemaOf RefLeaf) (added : Bool) (components after : List Entry) →
-    name ≡ (declaration_at ss from).name → (IsTrue added ↔ (find name components ≡ None)) → after ≡ cond added (with_entry name s components) components → AreThere ss (suc from) components → AreThere ss from after
-there_more ss from name s added components after named new is h d l m = subst (λ es. IsTrue (is_some (find (declaration_at ss d).name es))) (sym is) (by (cases_lt from d))
-  where
-    by : (from < d) ⊎ (d ≤ from) → IsTrue (is_some (find (declaration_at ss d).name (cond added (with_entry name s components) components)))
-    by (inr few) =
-        let same : from ≡ d = omega (arith, l, few) in
-        subst (λ n. IsTrue (is_some (find n (cond added (with_entry name s components) components)))) (named ∙ ap (λ e. (declaration_at ss e).name) same) (there s name components added new)
-    by (inl more) = still (declaration_at ss d).name s name components added new (h d (omega (arith, more)) m)
+  pub known_none : AreKnown [] []
+  unfolding IsStrictlySortedBy
+  known_none = record { known = λ k s e. absurd (none-some s e); all = λ n h. absurd h; order = tt }
+
+  in-front : (n m : ℕ) (ns : List ℕ) → IsAmong n ns → IsAmong n (ns ++ m ∷ [])
+  in-front n m [] h = absurd h
+  in-front n m (k ∷ ns) (inl e) = inl e
+  in-front n m (k ∷ ns) (inr h) = inr (in-front n m ns h)
+
+  at-end : (m : ℕ) (ns : List ℕ) → IsAmong m (ns ++ m ∷ [])
+  at-end m [] = inl refl
+  at-end m (k ∷ ns) = inr (at-end m ns)
+
+  -- the components after the schema of a number was put in under its name
+  entered : (m : ℕ) (ns : List ℕ) (added : Bool) (components : List Entry) → (IsTrue added ↔ (find (name m) components ≡ None)) → AreKnown ns components →
+      AreKnown (ns ++ m ∷ []) (cond added (with_entry (name m) (schema m) components) components)
+  entered m ns added components new h = record { known = known added new; all = all; order = order added new }
+    where
+      known : (b : Bool) → (IsTrue b ↔ (find (name m) components ≡ None)) → (k : List ℕ) (s : SchemaOf RefLeaf) → find k (cond b (with_entry (name m) (schema m) components) components) ≡ Some s →
+          (n : ℕ) × IsAmong n (ns ++ m ∷ []) × (k ≡ name n) × (s ≡ schema n)
+      known false g k s f = let is = h.known k s f in (is.0, in-front is.0 m ns is.1, is.2, is.3)
+      known true g k s f = by (bytes_eq k (name m)) refl (sym (find-entered (name m) (schema m) components (g.0 refl) k) ∙ f)
+        where
+          by : (b : Bool) → bytes_eq k (name m) ≡ b → cond b (Some (schema m)) (find k components) ≡ Some s → (n : ℕ) × IsAmong n (ns ++ m ∷ []) × (k ≡ name n) × (s ≡ schema n)
+          by true u e = (m, at-end m ns, (bytes_eq-Decides k (name m)).0 u, sym (same_Some (schema m) s e))
+          by false u e = let is = h.known k s e in (is.0, in-front is.0 m ns is.1, is.2, is.3)
+
+      all : (n : ℕ) → IsAmong n (ns ++ m ∷ []) → IsTrue (is_some (find (name n) (cond added (with_entry (name m) (schema m) components) components)))
+      all n a = elim (among_cases n ns (m ∷ []) a) [
+        | inl o ↦ still (name n) (schema m) (name m) components added new (h.all n o)
+        | inr o ↦ last n o
+      ]
+        where
+          last : (n : ℕ) → IsAmong n (m ∷ []) → IsTrue (is_some (find (name n) (cond added (with_entry (name m) (schema m) components) components)))
+          last n (inl e) = subst (λ k. IsTrue (is_some (find (name k) (cond added (with_entry (name m) (schema m) components) components)))) (sym e) (there (schema m) (name m) components added new)
+          last n (inr none) = absurd none
+
+      order : (b : Bool) → (IsTrue b ↔ (find (name m) components ≡ None)) → IsInOrder (names_of (cond b (with_entry (name m) (schema m) components) components))
+      order false g = h.order
+      order true g = order-entered (name m) (schema m) components h.order
+
+  -- one turn of the loop over a list of numbers
+  pub known_more : (ns : List ℕ) (i : ℕ) (k : List ℕ) (s : SchemaOf RefLeaf) (added : Bool) (components after : List Entry) → i < length ns → k ≡ name (get_or ns i 0) → s ≡ schema (get_or ns i 0) →
+      (IsTrue added ↔ (find k components ≡ None)) → after ≡ cond added (with_entry k s components) components → AreKnown (take i ns) components → AreKnown (take (i + 1) ns) after
+  known_more ns i k s added components after l n e new is h =
+      let m = get_or ns i 0 in
+      subst (λ xs. AreKnown xs after) (sym (take_more ns i 0 l))
+      (subst (AreKnown (take i ns ++ m ∷ [])) (sym (is ∙ (λ j. cond added (with_entry (n j) (e j) components) components)))
+      (entered m (take i ns) added components (subst (λ q. IsTrue added ↔ (find q components ≡ None)) n new) h))
 
 -- ---- the end
 
--- components that are known, one for each declaration, are those of the declarations
-pub all_entered : (ss : List DeclarationOf) (components : List Entry) → IsDistinct (declaration_names ss) → AreKnown ss components → AreThere ss 0 components → AreComponents ss components
-all_entered ss components distinct h all = record { roots = roots; only = only; order = h.order }
-  where
-    found : (o : Option (SchemaOf RefLeaf)) → IsTrue (is_some o) → (s : SchemaOf RefLeaf) × (o ≡ Some s)
-    found None f = absurd (false≢true f)
-    found (Some s) f = (s, refl)
+one_of-map : (is : List Open) (ns : List ℕ) (t : Open) → IsOneOf t (map (instance_at is) ns) → (n : ℕ) × IsAmong n ns × (t ≡ instance_at is n)
+one_of-map is [] t o = absurd o
+one_of-map is (n ∷ ns) t (inl e) = (n, inl refl, e)
+one_of-map is (n ∷ ns) t (inr o) = let m = one_of-map is ns t o in (m.0, inr m.1, m.2)
 
-    only : (name : List ℕ) → IsTrue (is_some (find name components)) → (d : ℕ) × (d < length ss) × (name ≡ (declaration_at ss d).name)
-    only name f =
-        let s = found (find name components) f in
-        let k = h.known name s.0 s.1 in
-        (k.0, k.1, k.2)
+map-one_of : (is : List Open) (ns : List ℕ) (n : ℕ) → IsAmong n ns → IsOneOf (instance_at is n) (map (instance_at is) ns)
+map-one_of is [] n a = absurd a
+map-one_of is (m ∷ ns) n (inl e) = inl (ap (instance_at is) e)
+map-one_of is (m ∷ ns) n (inr a) = inr (map-one_of is ns n a)
 
-    roots : (d : ℕ) → d < length ss → find (declaration_at ss d).name components ≡ Some (declared_schema ss d)
-    roots d l =
-        let name = (declaration_at ss d).name in
-        let s = found (find name components) (all d (omega arith) l) in
-        let k = h.known name s.0 s.1 in
-        let same : k.0 ≡ d = same_Some k.0 d (sym (root_place ss k.0 distinct k.1) ∙ sym (ap (λ n. place_in n (declaration_names ss)) k.2) ∙ root_place ss d distinct l) in
-        s.1 ∙ ap Some k.3 ∙ ap (λ q. Some (declared_schema ss q)) same
+-- the name and the schema of the instance of a number
+abbrev pub name_at : List DeclarationOf → List Open → ℕ → List ℕ
+name_at ss is n = instance_name ss (instance_at is n)
+
+abbrev pub its_schema : List DeclarationOf → List Open → ℕ → SchemaOf RefLeaf
+its_schema ss is n = instance_schema ss (instance_at is n)
+
+module _ (ss : List DeclarationOf) (is : List Open) (are : AreInstances ss is) (differ : NamesDiffer ss) where
+  -- components that are known are those of their instances
+  pub all_entered : (ns : List ℕ) (components : List Entry) → ((n : ℕ) → IsAmong n ns → IsOneOf (instance_at is n) is) → AreKnown (name_at ss is) (its_schema ss is) ns components → AreEntriesOf ss (map (instance_at is) ns) components
+  all_entered ns components within h = record { held = held; only = only; order = h.order }
+    where
+      found : (o : Option (SchemaOf RefLeaf)) → IsTrue (is_some o) → (s : SchemaOf RefLeaf) × (o ≡ Some s)
+      found None f = absurd (false≢true f)
+      found (Some s) f = (s, refl)
+
+      only : (k : List ℕ) → IsTrue (is_some (find k components)) → (t : Open) × IsOneOf t (map (instance_at is) ns) × (k ≡ instance_name ss t)
+      only k f =
+          let s = found (find k components) f in
+          let n = h.known k s.0 s.1 in
+          (instance_at is n.0, map-one_of is ns n.0 n.1, n.2)
+
+      held : (t : Open) → IsOneOf t (map (instance_at is) ns) → find (instance_name ss t) components ≡ Some (instance_schema ss t)
+      held t o =
+          let n = one_of-map is ns t o in
+          let s = found (find (name_at ss is n.0) components) (h.all n.0 n.1) in
+          let m = h.known (name_at ss is n.0) s.0 s.1 in
+          let same : instance_at is n.0 ≡ instance_at is m.0 = differ (instance_at is n.0) (instance_at is m.0) (are.reached (instance_at is n.0) (within n.0 n.1)) (are.reached (instance_at is m.0) (within m.0 m.1)) m.2 in
+          ap (λ u. find (instance_name ss u) components) n.2 ∙ s.1 ∙ ap Some (m.3 ∙ ap (instance_schema ss) (sym same ∙ sym n.2))

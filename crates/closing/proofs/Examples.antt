@@ -11,9 +11,9 @@ use Rattle.shapes.specs.Declarations.{named_fields, unnamed_fields, fields, Form
 use Rattle.shapes.specs.Terms.{object_of}
 use Rattle.shapes.specs.InstanceNames.{instance_name}
 use Rattle.closing.specs.Closed as closed
-use Rattle.closing.specs.Links.{inline_in, referred_in, targets_at, references_at, instance_inlining, shown_root, shown_inline, IsComponent, referred_component}
-use Rattle.closing.specs.InstanceClosed.{closed_instance, instance_schema}
-use Rattle.closing.specs.InstanceDescribed.{IsInlinePath, HasInline, here, through_target, closed_place}
+use Rattle.closing.specs.Links.{inline_in, referred_in, targets_at, references_at, inlining_of, shown_root, shown_inline, IsComponent, referred_component}
+use Rattle.closing.specs.Closed.{closed, instance_schema}
+use Rattle.closing.specs.Described.{IsInlinePath, HasInline, here, through_target, closed_place}
 
 abbrev pub declares : List ℕ → ℕ → FormOf → DeclarationOf
 declares name parameters form = record { name = name; parameters = parameters; remarks = no_remarks; body = fields form }
@@ -78,7 +78,7 @@ tuples = declares (codes "G") 1 (with_v (at 1 (param 0))) ∷ declares (codes "P
 inline_in_r : (targets_at tuples r ≡ g ∷ []) × (references_at tuples r ≡ []) × (references_at tuples g ≡ p ∷ [])
 inline_in_r = (refl, refl, refl)
 
-numbers : instance_inlining tuples (r ∷ g ∷ p ∷ []) ≡ (1 ∷ []) ∷ [] ∷ [] ∷ []
+numbers : inlining_of tuples (r ∷ g ∷ p ∷ []) ≡ (1 ∷ []) ∷ [] ∷ [] ∷ []
 numbers = refl
 
 a_path : IsInlinePath tuples (r ∷ g ∷ []) × HasInline tuples r g
@@ -88,7 +88,7 @@ p_component : IsComponent tuples false p
 p_component = referred_component g p (shown_inline r g (shown_root 2 (omega arith, refl)) (inl refl)) (inl refl)
 
 -- to depth 0 no schema is made
-depth_zero : (closed_instance tuples 0 g ≡ closed.any_value) × (instance_name tuples g ≡ codes "G_Value")
+depth_zero : (closed tuples 0 g ≡ closed.any_value) × (instance_name tuples g ≡ codes "G_Value")
 depth_zero = (refl, refl)
 
 -- struct V<T>(T, T);  struct W<T>(T, U);  struct U { v: Value }: alike fields count once, and at U only the argument is inline

@@ -4,8 +4,6 @@ use Rattle.schema_trees.specs.Schema.{SchemaOf, leaf, object, array, one_of, all
 use Rattle.component.specs.Leaves.{LeafOf}
 use Rattle.component.specs.References.{ReferenceOf, leaf_references, named_leaves}
 use Rattle.inlining.specs.Inlining.{IsAmong}
-use Rattle.closing.specs.Targets.{inlined_among}
-use Rattle.closing.proofs.Found.{among-append}
 use Rattle.closing.proofs.LeafNames as names
 
 -- ---- two facts at once
@@ -74,26 +72,3 @@ among_cases e (x ∷ xs) ys (inr h) = elim (among_cases e xs ys h) [
   | inl i ↦ inl (inr i)
   | inr i ↦ inr i
 ]
-
-module _ (P : ℕ → Type 0) where
-  -- the fact holds of each declaration that is inline among the leaves
-  abbrev pub AtInlined : List ReferenceOf → Type 0
-  AtInlined rs = (e : ℕ) → IsAmong e (inlined_among rs) → P e
-
-  in_front : (front behind : List ReferenceOf) → AtInlined (front ++ behind) → AtInlined front
-  in_front front behind h e a = h e (subst (IsAmong e) (sym (among-append front behind)) (among-left e (inlined_among front) (inlined_among behind) a))
-
-  in_back : (front behind : List ReferenceOf) → AtInlined (front ++ behind) → AtInlined behind
-  in_back front behind h e a = h e (subst (IsAmong e) (sym (among-append front behind)) (among-right e (inlined_among front) (inlined_among behind) a))
-
-  in_both : (front behind : List ReferenceOf) → AtInlined front → AtInlined behind → AtInlined (front ++ behind)
-  in_both front behind f g e a = elim (among_cases e (inlined_among front) (inlined_among behind) (subst (IsAmong e) (among-append front behind) a)) [
-    | inl h ↦ f e h
-    | inr h ↦ g e h
-  ]
-
-  pub at-leaves : (s : SchemaOf LeafOf) → AtInlined (named_leaves s) → EachLeaf (λ x. AtInlined (leaf_references x)) s
-  at-leaves = names.at-leaves AtInlined in_front in_back
-
-  pub from-leaves : (s : SchemaOf LeafOf) → EachLeaf (λ x. AtInlined (leaf_references x)) s → AtInlined (named_leaves s)
-  from-leaves = names.from-leaves AtInlined (λ e a. absurd a) in_both

@@ -1,36 +1,50 @@
--- Schemas of declarations that are made one after another, each behind those that stand in it.
-use Rattle.std.proofs.Common.{ℕ, zero, suc, ◌+◌, ◌<◌, ◌≤◌, ◌⊎◌, List, [], ◌∷◌, ◌++◌, length, map, take, get_or, set, ◌≡◌, ◌≢◌, refl, ap, sym, subst, ◌∙◌, inl, inr, arith}
-use Rattle.std.proofs.lemmas.List.{take_more, length-map, length-set, get_or-set_other}
+-- Schemas of instances that are made one after another, each behind those that stand in it.
+use Rattle.std.proofs.Common.{ℕ, zero, suc, ◌+◌, ◌<◌, ◌≤◌, ◌⊎◌, List, [], ◌∷◌, ◌++◌, length, map, take, get_or, set, Bool, true, false, IsTrue, Option, Some, ◌≡◌, ◌≢◌, refl, ap, sym, subst, ◌∙◌, inl, inr, arith}
+use Rattle.std.specs.List.{filter_map}
+use Rattle.std.proofs.lemmas.Bool.{false≢true}
+use Rattle.std.proofs.lemmas.List.{take_more, map-set, length-set, length-map, get_or-map, get_or-set_other}
 use Rattle.schema_trees.specs.declared.tree.RefLeaf.{RefLeaf}
 use Rattle.schema_trees.specs.declared.tree.Tree.{Tree}
-use Rattle.schema_trees.specs.Schema.{SchemaOf, schema_view, bind}
-use Rattle.component.specs.Leaves.{term_view}
+use Rattle.schema_trees.specs.Schema.{SchemaOf, schema_view, leaf, bind}
+use Rattle.component.specs.Leaves.{LeafOf, term_view, param}
 use Rattle.component.specs.declared.term.TermLeaf.{TermLeaf}
-use Rattle.shapes.specs.Declarations.{DeclarationOf, declaration_at, body_types, AreWithin}
-use Rattle.shapes.specs.Plain.{StandsInOne}
-use Rattle.shapes.specs.Terms.{term}
-use Rattle.inlining.specs.Inlining.{targets_of, IsAmong, AreOnce, IsAtMost}
-use Rattle.closing.specs.Targets.{inlining_of, most_inlined}
-use Rattle.closing.specs.Closed.{any_value, put, closed, schema_in, declared_schema}
-use Rattle.closing.proofs.Described.{all-within}
+use Rattle.open_types.specs.Open.{Open}
+use Rattle.open_types.specs.Laws.{SameIsEqual, SubstitutedNone}
+use Rattle.shapes.specs.Declarations.{DeclarationOf}
+use Rattle.shapes.specs.InstanceShape.{IsReachable}
+use Rattle.shapes.specs.Instances.{instance_term}
+use Rattle.inlining.specs.Inlining.{targets_of, IsAmong, AreOnce}
+use Rattle.inlining.specs.Marks.{mark}
+use Rattle.instances.specs.Lists.{IsOneOf, number_in, instance_at, AreInstances}
+use Rattle.closing.specs.Closed.{any_value, schema_in}
+use Rattle.closing.specs.Closed.{put, instance_schema, schema_of, made_at}
+use Rattle.closing.specs.Described.{AreShallow}
+use Rattle.closing.specs.Links.{targets_at, inlining_of}
+use Rattle.closing.specs.Made.{AreAlong}
 use Rattle.closing.proofs.Leaves.{among-left, among-right, among_cases}
-use Rattle.closing.proofs.Targets.{IsShort, targets-are, as_many-targets, shorter, all-short, same-term, closed-stays}
+use Rattle.closing.proofs.InstanceDepth.{made-in-order}
+use Rattle.closing.proofs.InstanceDescribed.{target-reachable}
+use Rattle.closing.proofs.InstanceNumbers.{HasNumber, with_number, found-among, of-number}
 
--- the schemas of these declarations are made
-abbrev pub AreMade : List DeclarationOf → List (Tree RefLeaf) → List ℕ → Type 0
-AreMade ss made ds = (d : ℕ) → IsAmong d ds → schema_in (map schema_view made) d ≡ declared_schema ss d
+-- ---- a list of schemas
 
 pub schema_at : (made : List (Tree RefLeaf)) (d : ℕ) (x : Tree RefLeaf) → d < length made → schema_in (map schema_view made) d ≡ schema_view (get_or made d x)
 schema_at [] d x l = absurd (omega arith)
 schema_at (s ∷ made) zero x l = refl
 schema_at (s ∷ made) (suc d) x l = schema_at made d x (omega arith)
 
+-- past the end nothing is said
+pub schema_past : (made : List (Tree RefLeaf)) (d : ℕ) → length made ≤ d → schema_in (map schema_view made) d ≡ any_value
+schema_past [] d l = refl
+schema_past (s ∷ made) zero l = absurd (omega arith)
+schema_past (s ∷ made) (suc d) l = schema_past made d (omega arith)
+
 put_in : (made : List (Tree RefLeaf)) (i : ℕ) (s : Tree RefLeaf) → i < length made → schema_in (map schema_view (set made i s)) i ≡ schema_view s
 put_in [] i s l = absurd (omega arith)
 put_in (y ∷ made) zero s l = refl
 put_in (y ∷ made) (suc i) s l = put_in made i s (omega arith)
 
-kept : (made : List (Tree RefLeaf)) (i d : ℕ) (s : Tree RefLeaf) → (d ≡ i) ⊎ (schema_in (map schema_view (set made i s)) d ≡ schema_in (map schema_view made) d)
+pub kept : (made : List (Tree RefLeaf)) (i d : ℕ) (s : Tree RefLeaf) → (d ≡ i) ⊎ (schema_in (map schema_view (set made i s)) d ≡ schema_in (map schema_view made) d)
 kept [] i d s = inr refl
 kept (y ∷ made) zero zero s = inl refl
 kept (y ∷ made) zero (suc d) s = inr refl
@@ -42,56 +56,14 @@ kept (y ∷ made) (suc i) (suc d) s = by (kept made i d s)
     by (inl e) = inl (ap suc e)
     by (inr e) = inr e
 
--- one schema more
-pub made_more : (ss : List DeclarationOf) (made : List (Tree RefLeaf)) (ds : List ℕ) (i : ℕ) (s : Tree RefLeaf) → i < length ds → get_or ds i 0 < length made → schema_view s ≡ declared_schema ss (get_or ds i 0) → AreMade ss made (take i ds) →
-    AreMade ss (set made (get_or ds i 0) s) (take (i + 1) ds)
-made_more ss made ds i s h l e all d among = by (kept made (get_or ds i 0) d s) (among_cases d (take i ds) (get_or ds i 0 ∷ []) (subst (IsAmong d) (take_more ds i 0 h) among))
-  where
-    here : d ≡ get_or ds i 0 → schema_in (map schema_view (set made (get_or ds i 0) s)) d ≡ declared_schema ss d
-    here same = subst (λ k. schema_in (map schema_view (set made (get_or ds i 0) s)) k ≡ declared_schema ss k) (sym same) (put_in made (get_or ds i 0) s l ∙ e)
+-- ---- an order
 
-    by : (d ≡ get_or ds i 0) ⊎ (schema_in (map schema_view (set made (get_or ds i 0) s)) d ≡ schema_in (map schema_view made) d) → IsAmong d (take i ds) ⊎ IsAmong d (get_or ds i 0 ∷ []) →
-        schema_in (map schema_view (set made (get_or ds i 0) s)) d ≡ declared_schema ss d
-    by (inl same) j = here same
-    by (inr other) (inl j) = other ∙ all d j
-    by (inr other) (inr (inl same)) = here same
-    by (inr other) (inr (inr none)) = absurd none
-
--- where the schemas of its targets are made, so is that of a declaration
-pub schema_is : (ss : List DeclarationOf) → ((d e : ℕ) → StandsInOne e (body_types (declaration_at ss d).body) → e < length ss) → IsAtMost most_inlined (inlining_of ss) → (made : List (Tree RefLeaf)) (d : ℕ) → d < length ss →
-    AreMade ss made (targets_of (inlining_of ss) d) → bind (put ss (schema_in (map schema_view made))) (term (declaration_at ss d)) ≡ declared_schema ss d
-schema_is ss within most made d l all =
-    same-term ss within (schema_in (map schema_view made)) (closed ss 31) (λ e. (schema_in (map schema_view made) e ≡ declared_schema ss e) × IsShort ss 31 e)
-    (λ e k t. t.0 ∙ closed-stays ss within 31 e k t.1) d
-    (λ e among. (all e (subst (IsAmong e) (sym (targets-are ss d)) among), shorter ss 31 d l (all-short ss most d) e among))
-
--- past the end nothing is said
-pub schema_past : (made : List (Tree RefLeaf)) (d : ℕ) → length made ≤ d → schema_in (map schema_view made) d ≡ any_value
-schema_past [] d l = refl
-schema_past (s ∷ made) zero l = absurd (omega arith)
-schema_past (s ∷ made) (suc d) l = schema_past made d (omega arith)
-
--- ---- terms
-
--- the terms of declarations that are not among these are still there
-abbrev pub AreWaiting : List DeclarationOf → List (Tree TermLeaf) → List ℕ → Type 0
-AreWaiting ss terms ds = (d : ℕ) → d < length terms → ¬ (IsAmong d ds) → (x : Tree TermLeaf) → x ≡ get_or terms d x → term_view x ≡ term (declaration_at ss d)
-
--- one that is let go is among those that are done
-pub waiting_more : (ss : List DeclarationOf) (terms : List (Tree TermLeaf)) (ds : List ℕ) (i : ℕ) (t : Tree TermLeaf) → i < length ds → AreWaiting ss terms (take i ds) → AreWaiting ss (set terms (get_or ds i 0) t) (take (i + 1) ds)
-waiting_more ss terms ds i t h waiting d l none x at =
-    let p = get_or ds i 0 in
-    let more : take (i + 1) ds ≡ take i ds ++ p ∷ [] = take_more ds i 0 h in
-    let other : d ≢ p = λ same. none (subst (IsAmong d) (sym more) (among-right d (take i ds) (p ∷ []) (inl same))) in
-    let fresh : ¬ (IsAmong d (take i ds)) = λ among. none (subst (IsAmong d) (sym more) (among-left d (take i ds) (p ∷ []) among)) in
-    waiting d (subst (λ n. d < n) (length-set terms p t) l) fresh x (at ∙ get_or-set_other terms p d t x other)
-
-among_at : (ds : List ℕ) (i : ℕ) → i < length ds → IsAmong (get_or ds i 0) ds
+pub among_at : (ds : List ℕ) (i : ℕ) → i < length ds → IsAmong (get_or ds i 0) ds
 among_at [] i h = absurd (omega arith)
 among_at (d ∷ ds) zero h = inl refl
 among_at (d ∷ ds) (suc i) h = inr (among_at ds i (omega arith))
 
--- of an order, a declaration is not among those before it
+-- of a list that has each once, a number is not among those before it
 pub fresh_at : (ds : List ℕ) (i : ℕ) → AreOnce ds → i < length ds → ¬ (IsAmong (get_or ds i 0) (take i ds))
 fresh_at [] i once h = absurd (omega arith)
 fresh_at (d ∷ ds) zero once h = λ none. none
@@ -101,45 +73,107 @@ fresh_at (d ∷ ds) (suc i) once h = by (fresh_at ds i once.1 (omega arith))
     by before (inl same) = once.0 (subst (λ e. IsAmong e ds) same (among_at ds i (omega arith)))
     by before (inr among) = before among
 
-module _ {A : Type 0} (view : A → DeclarationOf) where
-  term_at : (terms : List (Tree TermLeaf)) (ds : List A) (d : ℕ) (x : Tree TermLeaf) → map term_view terms ≡ map (λ s. term (view s)) ds → d < length terms → term_view (get_or terms d x) ≡ term (declaration_at (map view ds) d)
-  term_at [] ds d x e l = absurd (omega arith)
-  term_at (t ∷ terms) [] d x e l = cc
-  term_at (t ∷ terms) (s ∷ ds) zero x e l = cc
-  term_at (t ∷ terms) (s ∷ ds) (suc d) x e l = let rest : map term_view terms ≡ map (λ s. term (view s)) ds = cc in term_at terms ds d x rest (omega arith)
+-- what is not among some of the list is not the next one either
+pub not_next : (ds : List ℕ) (i n : ℕ) → i < length ds → ¬ (IsAmong n (take (i + 1) ds)) → (n ≢ get_or ds i 0) × (¬ (IsAmong n (take i ds)))
+not_next ds i n h none =
+    let p = get_or ds i 0 in
+    let more : take (i + 1) ds ≡ take i ds ++ p ∷ [] = take_more ds i 0 h in
+    (λ same. none (subst (IsAmong n) (sym more) (among-right n (take i ds) (p ∷ []) (inl same))), λ among. none (subst (IsAmong n) (sym more) (among-left n (take i ds) (p ∷ []) among)))
 
-  pub as_many_terms : (terms : List (Tree TermLeaf)) (ds : List A) → map term_view terms ≡ map (λ s. term (view s)) ds → length terms ≡ length ds
-  as_many_terms terms ds e = sym (length-map terms term_view) ∙ ap length e ∙ length-map ds (λ s. term (view s))
+-- ---- marks and what is made
 
-  -- at first all terms wait
-  pub all_wait : (terms : List (Tree TermLeaf)) (ds : List A) → map term_view terms ≡ map (λ s. term (view s)) ds → AreWaiting (map view ds) terms []
-  all_wait terms ds e d l none x at = ap term_view at ∙ term_at terms ds d x e l
+module _ (ss : List DeclarationOf) (is : List Open) (marks : List Bool) where
+  -- the schemas of these instances are made, where they are marked
+  abbrev pub AreMade : List (Tree RefLeaf) → List ℕ → Type 0
+  AreMade made ds = (n : ℕ) → IsAmong n ds → IsTrue (mark marks n) → schema_in (map schema_view made) n ≡ instance_schema ss (instance_at is n)
 
-  -- the schema that is put together at a place of the order
-  pub next_schema : (ds : List A) (terms : List (Tree TermLeaf)) (made now : List (Tree RefLeaf)) (done : List ℕ) (d : ℕ) (x : Tree TermLeaf) (s : SchemaOf RefLeaf) → AreWaiting (map view ds) terms done → ¬ (IsAmong d done) → d < length terms →
-      AreWithin (length (map view ds)) (map view ds) → IsAtMost most_inlined (inlining_of (map view ds)) → d < length ds → AreMade (map view ds) made (targets_of (inlining_of (map view ds)) d) →
-      now ≡ made → x ≡ get_or terms d x → s ≡ bind (put (map view ds) (schema_in (map schema_view now))) (term_view x) → s ≡ declared_schema (map view ds) d
-  next_schema ds terms made now done d x s waiting fresh here within most l all same at is =
-      let ss = map view ds in
-      is
-      ∙ ap (λ m. bind (put ss (schema_in (map schema_view m))) (term_view x)) same
-      ∙ ap (bind (put ss (schema_in (map schema_view made)))) (waiting d here fresh x at)
-      ∙ schema_is ss (all-within ss within) most made d (subst (λ n. d < n) (sym (length-map ds view)) l) all
+  -- one schema more
+  pub made_more : (made : List (Tree RefLeaf)) (ds : List ℕ) (i : ℕ) (s : Tree RefLeaf) → i < length ds → get_or ds i 0 < length made → schema_view s ≡ instance_schema ss (instance_at is (get_or ds i 0)) → AreMade made (take i ds) →
+      AreMade (set made (get_or ds i 0) s) (take (i + 1) ds)
+  made_more made ds i s h l e all n among m = by (kept made (get_or ds i 0) n s) (among_cases n (take i ds) (get_or ds i 0 ∷ []) (subst (IsAmong n) (take_more ds i 0 h) among))
+    where
+      here : n ≡ get_or ds i 0 → schema_in (map schema_view (set made (get_or ds i 0) s)) n ≡ instance_schema ss (instance_at is n)
+      here same = ap (schema_in (map schema_view (set made (get_or ds i 0) s))) same ∙ put_in made (get_or ds i 0) s l ∙ e ∙ ap (λ k. instance_schema ss (instance_at is k)) (sym same)
 
-  -- a place of the order is that of a declaration
-  pub declaration_place : (ds : List A) (d : ℕ) → d < length (inlining_of (map view ds)) → d < length ds
-  declaration_place ds d l = subst (λ n. d < n) (as_many-targets (map view ds) ∙ length-map ds view) l
+      by : (n ≡ get_or ds i 0) ⊎ (schema_in (map schema_view (set made (get_or ds i 0) s)) n ≡ schema_in (map schema_view made) n) → IsAmong n (take i ds) ⊎ IsAmong n (get_or ds i 0 ∷ []) →
+          schema_in (map schema_view (set made (get_or ds i 0) s)) n ≡ instance_schema ss (instance_at is n)
+      by (inl same) j = here same
+      by (inr other) (inl j) = other ∙ all n j m
+      by (inr other) (inr (inl same)) = here same
+      by (inr other) (inr (inr none)) = absurd none
 
-  pub declaration_place_back : (ds : List A) (d : ℕ) → d < length ds → d < length (inlining_of (map view ds))
-  declaration_place_back ds d l = subst (λ n. d < n) (sym (as_many-targets (map view ds) ∙ length-map ds view)) l
+  -- one that is not marked is passed
+  pub made_over : (made : List (Tree RefLeaf)) (ds : List ℕ) (i : ℕ) → i < length ds → ¬ IsTrue (mark marks (get_or ds i 0)) → AreMade made (take i ds) → AreMade made (take (i + 1) ds)
+  made_over made ds i h unmarked all n among m = by (among_cases n (take i ds) (get_or ds i 0 ∷ []) (subst (IsAmong n) (take_more ds i 0 h) among))
+    where
+      by : IsAmong n (take i ds) ⊎ IsAmong n (get_or ds i 0 ∷ []) → schema_in (map schema_view made) n ≡ instance_schema ss (instance_at is n)
+      by (inl j) = all n j m
+      by (inr (inl same)) = absurd (unmarked (subst (λ k. IsTrue (mark marks k)) same m))
+      by (inr (inr none)) = absurd none
 
--- ---- the last schema
+  -- the terms of those that are not among these are still there, where they are marked
+  abbrev pub AreWaiting : List (Tree TermLeaf) → List ℕ → Type 0
+  AreWaiting terms ds = (n : ℕ) → n < length is → IsTrue (mark marks n) → ¬ (IsAmong n ds) → get_or (map term_view terms) n (leaf (param 0)) ≡ instance_term ss (instance_at is n)
 
-pub in_front : (made : List (Tree RefLeaf)) (s : Tree RefLeaf) (d : ℕ) → d < length made → schema_in (map schema_view (made ++ s ∷ [])) d ≡ schema_in (map schema_view made) d
-in_front [] s d l = absurd (omega arith)
-in_front (y ∷ made) s zero l = refl
-in_front (y ∷ made) s (suc d) l = in_front made s d (omega arith)
+  -- one that is let go is among those that are done
+  pub waiting_more : (terms : List (Tree TermLeaf)) (ds : List ℕ) (i : ℕ) (t : Tree TermLeaf) → i < length ds → AreWaiting terms (take i ds) → AreWaiting (set terms (get_or ds i 0) t) (take (i + 1) ds)
+  waiting_more terms ds i t h waiting n l m none =
+      let p = get_or ds i 0 in
+      let other = not_next ds i n h none in
+      ap (λ xs. get_or xs n (leaf (param 0))) (map-set term_view terms p t) ∙ get_or-set_other (map term_view terms) p n (term_view t) (leaf (param 0)) other.0 ∙ waiting n l m other.1
 
-pub at_end : (made : List (Tree RefLeaf)) (s : Tree RefLeaf) → schema_in (map schema_view (made ++ s ∷ [])) (length made) ≡ schema_view s
-at_end [] s = refl
-at_end (y ∷ made) s = at_end made s
+  -- the term that waits
+  pub waiting_at : (terms : List (Tree TermLeaf)) (ds : List ℕ) (n : ℕ) (x : Tree TermLeaf) → AreWaiting terms ds → n < length is → n < length terms → IsTrue (mark marks n) → ¬ (IsAmong n ds) → x ≡ get_or terms n x → term_view x ≡ instance_term ss (instance_at is n)
+  waiting_at terms ds n x waiting l here m none at = ap term_view at ∙ sym (get_or-map term_view terms n x (leaf (param 0)) here) ∙ waiting n l m none
+
+  -- the schemas of those that are not among these are still there
+  abbrev pub AreLeft : List (Tree RefLeaf) → List ℕ → Type 0
+  AreLeft made ds = (n : ℕ) → n < length is → IsTrue (mark marks n) → ¬ (IsAmong n ds) → schema_in (map schema_view made) n ≡ instance_schema ss (instance_at is n)
+
+  pub left_more : (made : List (Tree RefLeaf)) (ds : List ℕ) (i : ℕ) (s : Tree RefLeaf) → i < length ds → AreLeft made (take i ds) → AreLeft (set made (get_or ds i 0) s) (take (i + 1) ds)
+  left_more made ds i s h left n l m none = by (kept made (get_or ds i 0) n s)
+    where
+      by : (n ≡ get_or ds i 0) ⊎ (schema_in (map schema_view (set made (get_or ds i 0) s)) n ≡ schema_in (map schema_view made) n) → schema_in (map schema_view (set made (get_or ds i 0) s)) n ≡ instance_schema ss (instance_at is n)
+      by (inl same) = absurd ((not_next ds i n h none).0 same)
+      by (inr other) = other ∙ left n l m (not_next ds i n h none).1
+
+pub one-at : (is : List Open) (n : ℕ) → n < length is → IsOneOf (instance_at is n) is
+one-at [] n l = absurd (omega (arith, l))
+one-at (i ∷ is) zero l = inl refl
+one-at (i ∷ is) (suc n) l = inr (one-at is n (omega (arith, l)))
+
+-- there are as many lists of targets as instances
+pub as-many : (ss : List DeclarationOf) (is : List Open) → length (inlining_of ss is) ≡ length is
+as-many ss is = length-map is (λ t. filter_map (number_in is) (targets_at ss t))
+
+-- ---- the schema that is put together
+
+module _ (same : SameIsEqual) (none : SubstitutedNone) (ss : List DeclarationOf) (is : List Open) (are : AreInstances ss is) (shallow : AreShallow ss) (marks : List Bool) (along : AreAlong marks (inlining_of ss is)) where
+  abbrev row : Open → List ℕ
+  row t = filter_map (number_in is) (targets_at ss t)
+
+  -- where the schemas of its targets are made, so is that of an instance
+  pub schema_is : (made : List (Tree RefLeaf)) (p : ℕ) → p < length is → IsTrue (mark marks p) → AreMade ss is marks made (targets_of (inlining_of ss is) p) →
+      bind (put ss (made_at is (map schema_view made))) (instance_term ss (instance_at is p)) ≡ instance_schema ss (instance_at is p)
+  schema_is made p l m all = made-in-order ss shallow t reached (made_at is (map schema_view made)) each
+    where
+      t : Open
+      t = instance_at is p
+
+      reached : IsReachable ss t
+      reached = are.reached t (one-at is p l)
+
+      each : (u : Open) → IsOneOf u (targets_at ss t) → made_at is (map schema_view made) u ≡ instance_schema ss u
+      each u o =
+          let n : (k : ℕ) × HasNumber is u k = with_number same is u (are.all u (target-reachable none ss t u reached o)) in
+          let among : IsAmong n.0 (targets_of (inlining_of ss is) p) = subst (IsAmong n.0) (sym (of-number row is p l)) (found-among (number_in is) (targets_at ss t) u n.0 o n.1.found) in
+          ap (schema_of (map schema_view made)) n.1.found ∙ all n.0 among (along p n.0 m among) ∙ ap (instance_schema ss) n.1.is_at
+
+  -- the same, of the term that waits
+  pub next_schema : (terms : List (Tree TermLeaf)) (made now : List (Tree RefLeaf)) (done : List ℕ) (p : ℕ) (x : Tree TermLeaf) (s : SchemaOf RefLeaf) → AreWaiting ss is marks terms done → ¬ (IsAmong p done) → p < length terms → p < length is → IsTrue (mark marks p) →
+      AreMade ss is marks made (targets_of (inlining_of ss is) p) → now ≡ made → x ≡ get_or terms p x → s ≡ bind (put ss (made_at is (map schema_view now))) (term_view x) → s ≡ instance_schema ss (instance_at is p)
+  next_schema terms made now done p x s waiting fresh here l m all now-made at e =
+      e
+      ∙ ap (λ xs. bind (put ss (made_at is (map schema_view xs))) (term_view x)) now-made
+      ∙ ap (bind (put ss (made_at is (map schema_view made)))) (waiting_at ss is marks terms done p x waiting l here m fresh at)
+      ∙ schema_is made p l m all

@@ -1,30 +1,46 @@
--- The components of declarations, and what their document says.
-use Rattle.std.specs.Prelude.{◌≡◌, ◌<◌, ◌↔◌, ℕ, List, length, Some, is_some, IsTrue}
+-- The components of instances, and what their document says.
+use Rattle.std.specs.Prelude.{◌≡◌, ◌<◌, ◌↔◌, ℕ, List, [], ◌∷◌, length, Bool, true, false, None, Some, is_some, IsTrue}
 use Rattle.acceptance.specs.Json.{Json}
 use Rattle.acceptance.specs.Acceptance.{component_schema, Accepts}
 use Rattle.acceptance.specs.References.{EachReference}
 use Rattle.schema_trees.specs.declared.notes.Annotations.{Annotations as Notes}
-use Rattle.schema_trees.specs.Schema.{leaf, bind}
+use Rattle.schema_trees.specs.declared.tree.RefLeaf.{RefLeaf}
+use Rattle.schema_trees.specs.Schema.{SchemaOf, leaf, bind}
 use Rattle.schema_core.specs.Form.{form}
 use Rattle.schema_core.specs.Document.{Entry, document}
 use Rattle.schema_core.specs.Entries.{find, names_of, IsInOrder}
-use Rattle.texts.specs.Names.{IsDistinct}
-use Rattle.shapes.specs.Declarations.{DeclarationOf, declaration_at, declaration_names, AreApartBodies, AreWithin}
-use Rattle.shapes.specs.Shape.{HasShape}
-use Rattle.shapes.specs.Plain.{IsPlain}
-use Rattle.shapes.specs.Terms.{term}
-use Rattle.inlining.specs.Inlining.{AreTargets, IsAtMost}
-use Rattle.closing.specs.Targets.{inlining_of, most_inlined}
-use Rattle.closing.specs.Closed.{put, declared_schema}
+use Rattle.open_types.specs.Open.{Open}
+use Rattle.component.specs.Places.{place}
+use Rattle.shapes.specs.Declarations.{DeclarationOf, AreApartBodies}
+use Rattle.shapes.specs.Shape.{type_shape}
+use Rattle.shapes.specs.Plain.{IsPlainType}
+use Rattle.shapes.specs.Instances.{instance_term}
+use Rattle.shapes.specs.InstanceNames.{instance_name}
+use Rattle.shapes.specs.InstanceShape.{shape, HasShape, IsPlain, IsReachable}
+use Rattle.inlining.specs.Inlining.{IsAtMost}
+use Rattle.closing.specs.Closed.{most_inlined}
+use Rattle.instances.specs.Lists.{IsOneOf, AreInstances}
+use Rattle.closing.specs.Links.{inline_in, referred_in, targets_at, references_at, IsComponent, inlining_of}
+use Rattle.closing.specs.Closed.{put, closed, instance_schema}
 
--- no two declarations have one name, and their bodies are apart
-abbrev pub IsApart : List DeclarationOf → Type 0
-IsApart ss = IsDistinct (declaration_names ss) × AreApartBodies ss
+-- An inline path: instances of which each is a target of the one before.
+abbrev pub IsInlinePath : List DeclarationOf → List Open → Type 0
+IsInlinePath ss [] = Unit {0}
+IsInlinePath ss (t ∷ []) = Unit {0}
+IsInlinePath ss (t ∷ u ∷ us) = IsOneOf u (targets_at ss t) × IsInlinePath ss (u ∷ us)
 
--- The components of the declarations: each is a root, under its name, and there are no others; in byte order of the names.
-pub record AreComponents (ss : List DeclarationOf) (components : List Entry) : Type 0 where
-  pub roots : (d : ℕ) → d < length ss → find (declaration_at ss d).name components ≡ Some (declared_schema ss d)
-  pub only : (name : List ℕ) → IsTrue (is_some (find name components)) → (d : ℕ) × (d < length ss) × (name ≡ (declaration_at ss d).name)
+-- no inline path that begins with a reachable instance has more instances than may be
+abbrev pub AreShallow : List DeclarationOf → Type 0
+AreShallow ss = (t : Open) (path : List Open) → IsReachable ss t → IsInlinePath ss (t ∷ path) → length path < most_inlined
+
+-- two reachable instances of one name are one
+abbrev pub NamesDiffer : List DeclarationOf → Type 0
+NamesDiffer ss = (t u : Open) → IsReachable ss t → IsReachable ss u → instance_name ss t ≡ instance_name ss u → t ≡ u
+
+-- The components of the declarations: each component is under its name, and there are no others; in byte order of the names.
+pub record AreComponents (ss : List DeclarationOf) (all : Bool) (components : List Entry) : Type 0 where
+  pub held : (t : Open) → IsComponent ss all t → find (instance_name ss t) components ≡ Some (instance_schema ss t)
+  pub only : (name : List ℕ) → IsTrue (is_some (find name components)) → (t : Open) × IsComponent ss all t × (name ≡ instance_name ss t)
   pub order : IsInOrder (names_of components)
 
 -- ---- what a document says of declarations
@@ -32,31 +48,62 @@ pub record AreComponents (ss : List DeclarationOf) (components : List Entry) : T
 abbrev pub HasComponent : Json → List ℕ → Type 0
 HasComponent doc name = IsTrue (is_some (component_schema doc name))
 
--- Every root and every reference has its component, and the component of each plain declaration accepts exactly what has its shape.
-pub record Describes (ss : List DeclarationOf) (doc : Json) : Type 0 where
-  pub roots : (d : ℕ) → d < length ss → HasComponent doc (declaration_at ss d).name
+-- Each component and each reference has its entry, each name is that of a component, and the component of each plain reachable instance accepts exactly what has its shape.
+pub record Describes (ss : List DeclarationOf) (all : Bool) (doc : Json) : Type 0 where
+  pub components : (t : Open) → IsComponent ss all t → HasComponent doc (instance_name ss t)
+  pub only : (name : List ℕ) → HasComponent doc name → (t : Open) × IsComponent ss all t × (name ≡ instance_name ss t)
   pub references : (name : List ℕ) (s : Json) → component_schema doc name ≡ Some s → EachReference (HasComponent doc) s
-  pub accepts : (d : ℕ) → d < length ss → IsPlain ss d → (s v : Json) → component_schema doc (declaration_at ss d).name ≡ Some s → Accepts doc s v ↔ HasShape ss d v
+  pub accepts : (t : Open) → IsReachable ss t → IsPlain ss t → (s v : Json) → component_schema doc (instance_name ss t) ≡ Some s → Accepts doc s v ↔ HasShape ss t v
 
--- The law: a document of components describes the declarations, where each name leads to one of them, and no inline path is longer than it may be.
+-- The law: a document of components describes the declarations, where names are apart and no inline path is longer than it may be.
 abbrev pub ComponentsDescribe : Type 0
-ComponentsDescribe = (ss : List DeclarationOf) (components : List Entry) → IsApart ss → AreWithin (length ss) ss → IsAtMost most_inlined (inlining_of ss) → AreComponents ss components → Describes ss (document components)
+ComponentsDescribe = (ss : List DeclarationOf) (all : Bool) (components : List Entry) → AreApartBodies ss → NamesDiffer ss → AreShallow ss → AreComponents ss all components →
+    Describes ss all (document components)
 
--- The law: what is inline in the terms of declarations is declared, where each name leads to one of them.
-abbrev pub TargetsAreDeclared : Type 0
-TargetsAreDeclared = (ss : List DeclarationOf) → AreWithin (length ss) ss → AreTargets (inlining_of ss)
+-- ---- any instance
 
--- The law: a reference to the component of a declaration accepts what the schema of that component accepts, whatever its notes are.
+-- the instance itself, and what stands inline in it
+pub data HasInline (ss : List DeclarationOf) : Open → Open → Type 0 where
+  here : (t : Open) → HasInline ss t t
+  through_target : (t u w : Open) → IsOneOf u (targets_at ss t) → HasInline ss u w → HasInline ss t w
+
+-- the references of the instance, and of what stands inline in it, are components
+abbrev pub LeadsToComponents : List DeclarationOf → Bool → Open → Type 0
+LeadsToComponents ss all t = (u w : Open) → HasInline ss t u → IsOneOf w (references_at ss u) → IsComponent ss all w
+
+-- The law: the schema of a plain reachable instance, whose references lead to components, accepts in their document exactly what has its shape.
+abbrev pub SchemasDescribe : Type 0
+SchemasDescribe = (ss : List DeclarationOf) (all : Bool) (components : List Entry) → AreApartBodies ss → AreShallow ss → AreComponents ss all components →
+    (t : Open) → IsReachable ss t → IsPlain ss t → LeadsToComponents ss all t → (v : Json) → Accepts (document components) (form (instance_schema ss t)) v ↔ HasShape ss t v
+
+-- The law: a reference to the component of an instance accepts what the schema of that component accepts, whatever its notes are.
 abbrev pub ReferencesAccept : Type 0
-ReferencesAccept = (ss : List DeclarationOf) (components : List Entry) → AreComponents ss components → (d : ℕ) → d < length ss → (notes : Notes) (s v : Json) → component_schema (document components) (declaration_at ss d).name ≡ Some s →
-    Accepts (document components) (form (leaf (record { name = (declaration_at ss d).name; notes = notes }))) v ↔ Accepts (document components) s v
+ReferencesAccept = (ss : List DeclarationOf) (components : List Entry) (t : Open) (notes : Notes) (s v : Json) →
+    component_schema (document components) (instance_name ss t) ≡ Some s → Accepts (document components) (form (leaf (record { name = instance_name ss t; notes = notes }))) v ↔ Accepts (document components) s v
 
--- The law: what stands in the schema of a component, where a declaration is inline, is the whole schema of that declaration's component.
-abbrev pub ComponentsStandInline : Type 0
-ComponentsStandInline = (ss : List DeclarationOf) → AreWithin (length ss) ss → IsAtMost most_inlined (inlining_of ss) → (d : ℕ) → d < length ss →
-    declared_schema ss d ≡ bind (put ss (declared_schema ss)) (term (declaration_at ss d))
+-- The law: where the paths of numbers are not longer than they may be, neither are those of reachable instances.
+abbrev pub ShallowByNumbers : Type 0
+ShallowByNumbers = (ss : List DeclarationOf) (is : List Open) → AreInstances ss is → IsAtMost most_inlined (inlining_of ss is) → AreShallow ss
 
--- The law: a reference to the component of a declaration accepts what the schema accepts that stands where the declaration is inline, whatever the reference's notes are.
-abbrev pub InlinedAccept : Type 0
-InlinedAccept = (ss : List DeclarationOf) (components : List Entry) → AreComponents ss components → (d : ℕ) → d < length ss → (notes : Notes) (v : Json) →
-    Accepts (document components) (form (leaf (record { name = (declaration_at ss d).name; notes = notes }))) v ↔ Accepts (document components) (form (declared_schema ss d)) v
+-- the schema of a place of a closed type, as that of a field or, inline, as that of an argument at a parameter's place
+abbrev pub closed_place : List DeclarationOf → Bool → Open → SchemaOf RefLeaf
+closed_place ss inline t = bind (put ss (closed ss most_inlined)) (place false inline false None t)
+
+-- The law: a place of a plain type accepts exactly what has the shape of the type, where what it refers to is a plain component, and what is inline there a plain reachable instance whose references lead to components.
+abbrev pub PlacesDescribe : Type 0
+PlacesDescribe = (ss : List DeclarationOf) (all : Bool) (components : List Entry) → AreApartBodies ss → AreShallow ss → AreComponents ss all components →
+    (inline : Bool) (t : Open) → IsPlainType ss t →
+    ((u : Open) → IsOneOf u (referred_in (place false inline false None t)) → IsComponent ss all u × IsPlain ss u) →
+    ((u : Open) → IsOneOf u (inline_in (place false inline false None t)) → IsReachable ss u × IsPlain ss u × LeadsToComponents ss all u) → (v : Json) →
+    Accepts (document components) (form (closed_place ss inline t)) v ↔ ((depth : ℕ) × IsTrue (type_shape (shape ss depth) t v))
+
+-- The law: a place of any type accepts the same inline and not, where what it refers to is a component.
+abbrev pub PlacesAgree : Type 0
+PlacesAgree = (ss : List DeclarationOf) (all : Bool) (components : List Entry) → AreApartBodies ss → AreComponents ss all components →
+    (t : Open) → ((u : Open) → IsOneOf u (referred_in (place false false false None t)) → IsComponent ss all u) → (v : Json) →
+    Accepts (document components) (form (closed_place ss true t)) v ↔ Accepts (document components) (form (closed_place ss false t)) v
+
+-- The law: the term of an instance, with the schemas of its targets put in, is the schema of the instance.
+abbrev pub MadeInOrder : Type 0
+MadeInOrder = (ss : List DeclarationOf) → AreShallow ss → (t : Open) → IsReachable ss t → (made : Open → SchemaOf RefLeaf) → ((u : Open) → IsOneOf u (targets_at ss t) → made u ≡ instance_schema ss u) →
+    bind (put ss made) (instance_term ss t) ≡ instance_schema ss t

@@ -1,85 +1,72 @@
-//! The schemas of declarations, in which those of others stand.
+//! The schemas of instances, in which those of others stand.
 
-ghost use Rattle.std.specs.Prelude.{◌≡◌, ◌<◌, ℕ, length, map, get_or, IfOk};
+ghost use Rattle.std.specs.Prelude.{◌≡◌, ◌<◌, ℕ, length, map, IfOk};
 ghost use Rattle.schema_trees.specs.Schema.{schema_view, leaf};
 ghost use Rattle.open_types.specs.Open.{open_view};
 ghost use Rattle.component.specs.Leaves.{term_view};
-ghost use Rattle.shapes.specs.Declarations.{DeclarationOf, declaration_at, AreWithin};
-ghost use Rattle.shapes.specs.Terms.{term};
-ghost use Rattle.inlining.specs.Inlining.{IsAtMost, IsOrder};
-ghost use Rattle.closing.specs.Targets.{inlining_of, most_inlined};
-ghost use Rattle.closing.specs.Closed.{any_value, name_of, schema_of, schema_in, declared_schema};
+ghost use Rattle.shapes.specs.Declarations.{DeclarationOf};
+ghost use Rattle.shapes.specs.InstanceNames.{instance_name};
+ghost use Rattle.inlining.specs.Inlining.{IsOrder};
+ghost use Rattle.instances.specs.Lists.{AreInstances};
+ghost use Rattle.closing.specs.Closed.{any_value, schema_in};
+ghost use Rattle.closing.specs.Closed.{made_at};
+ghost use Rattle.closing.specs.Described.{AreShallow};
+ghost use Rattle.closing.specs.Links.{inlining_of};
+ghost use Rattle.closing.specs.Made.{AreAlong, AreTerms, AreSchemas};
 
 use component::{Term, TermLeaf};
 use filling::{Fill, copy_schema, filled};
+use instances::{Reach, instance_name};
 use open_types::OpenType;
 use schema_trees::{Notes, Object, RefLeaf, Schema, Tree, TypeWord};
 use shapes::Declared;
 use std::alloc::{AllocError, Global};
-use texts::{List, Text};
 
-/// What stands at the leaves of a term: the schemas of declarations, as far as they are made, and references to components.
+/// What stands at the leaves of a term: the schemas of instances, as far as they are made, and references to components.
 #[derive(Drop)]
-pub(crate) struct Closing<'s, D> {
-    pub(crate) declared: &'s [D],
-    /// The schema of each declaration; of one that is not made yet, one that says nothing.
-    pub(crate) made: &'s [Schema],
-}
-
-/// The name of the component of the declaration at a place; past the end, an empty one.
-fn name_at<D: Declared>(alloc: Global, declared: &[D], place: usize) -> Result<Text, AllocError>
-    ensures { IfOk result
-        (λ name. name ≡ (declaration_at (map D.declaration declared.now) place).name) }
-{
-    if place < declared.len() {
-        declared[place].name().copy(alloc)
-    } else {
-        Text::new(alloc, "")
-    }
-}
-
-/// The name of the component of the type's declaration; of another type, an empty one.
-fn name_of<D: Declared>(alloc: Global, declared: &[D], ty: &OpenType) -> Result<Text, AllocError>
-    ensures { IfOk result
-        (λ name. name ≡ name_of (map D.declaration declared.now) (open_view ty.now)) }
-{
-    match ty {
-        OpenType::Named(place, _) => name_at(alloc, declared, *place),
-        _ => Text::new(alloc, ""),
-    }
+struct Closing<'s, D> {
+    declared: &'s [D],
+    reach: &'s Reach,
+    /// The schema of each instance; of one that is not made yet, one that says nothing.
+    made: &'s [Schema],
 }
 
 /// A schema that says nothing.
-fn any_value(alloc: Global) -> Result<Schema, AllocError>
+pub(crate) fn any_value(alloc: Global) -> Result<Schema, AllocError>
     ensures { IfOk result (λ s. schema_view s ≡ any_value) }
 {
     let object = Object::new(alloc, TypeWord::Any, Notes::new());
     Ok(Tree::Object(Box::new(alloc, object)?))
 }
 
-/// The schema of the declaration at a place; past the end, one that says nothing.
-fn schema_at(alloc: Global, made: &[Schema], place: usize) -> Result<Schema, AllocError>
-    ensures { IfOk result (λ s. schema_view s ≡ schema_in (map schema_view made.now) place) }
+/// The schema of the instance of a number; past the end, one that says nothing.
+fn schema_at(alloc: Global, made: &[Schema], number: usize) -> Result<Schema, AllocError>
+    ensures { IfOk result (λ s. schema_view s ≡ schema_in (map schema_view made.now) number) }
 {
-    if place < made.len() {
-        copy_schema(alloc, &made[place])
+    if number < made.len() {
+        copy_schema(alloc, &made[number])
     } else {
         any_value(alloc)
     }
 }
 
-/// The schema of the type's declaration; of another type, one that says nothing.
-fn schema_of(alloc: Global, made: &[Schema], ty: &OpenType) -> Result<Schema, AllocError>
-    ensures { IfOk result
-        (λ s. schema_view s ≡ schema_of (schema_in (map schema_view made.now)) (open_view ty.now)) }
+/// The schema of the instance; where it has no number, one that says nothing.
+fn made_at(
+    alloc: Global,
+    reach: &Reach,
+    made: &[Schema],
+    ty: &OpenType,
+) -> Result<Schema, AllocError>
+    ensures { IfOk result (λ s. schema_view s
+        ≡ made_at reach.now (map schema_view made.now) (open_view ty.now)) }
 {
-    match ty {
-        OpenType::Named(place, _) => schema_at(alloc, made, *place),
-        _ => any_value(alloc),
+    match reach.number(ty) {
+        Some(number) => schema_at(alloc, made, number),
+        None => any_value(alloc),
     }
 }
 
-/// A reference with the notes to the component of the type's declaration.
+/// A reference with the notes to the component of the instance.
 fn reference_to<D: Declared>(
     alloc: Global,
     declared: &[D],
@@ -89,13 +76,13 @@ fn reference_to<D: Declared>(
     ensures { IfOk result
         (λ s. schema_view s
         ≡ leaf (record {
-          name = name_of (map D.declaration declared.now) (open_view ty.now);
+          name = instance_name (map D.declaration declared.now) (open_view ty.now);
           notes =
               notes.now;
         })) }
 {
     Ok(Tree::Leaf(RefLeaf {
-        name: name_of(alloc, declared, ty)?,
+        name: instance_name(alloc, declared, ty)?,
         notes: notes.copy(alloc)?,
     }))
 }
@@ -105,7 +92,7 @@ impl<D: Declared> Fill for Closing<'_, D> {
     ghost use Rattle.schema_trees.specs.declared.tree.RefLeaf.{RefLeaf as AnyReference};
     ghost use Rattle.schema_trees.specs.Schema.{schema_view};
     ghost use Rattle.component.specs.Leaves.{LeafOf, leaf_view};
-    ghost use Rattle.closing.specs.Closed.{put, schema_in};
+    ghost use Rattle.closing.specs.Closed.{put, made_at};
 
     type Hole = TermLeaf;
 
@@ -119,14 +106,15 @@ impl<D: Declared> Fill for Closing<'_, D> {
 
     ghost meaning = { λ l. l };
 
-    ghost put = { λ c l. put (map D.declaration c.declared.now) (schema_in (map schema_view c.made.now)) l };
+    ghost put = { λ c l. put (map D.declaration c.declared.now)
+        (made_at c.reach.now (map schema_view c.made.now)) l };
 
     fn fill(&self, alloc: Global, leaf: &TermLeaf) -> Result<Schema, AllocError> {
         match leaf {
             TermLeaf::Param(_) => any_value(alloc),
             TermLeaf::Named { of, inline, notes } => {
                 if *inline {
-                    schema_of(alloc, self.made, of)
+                    made_at(alloc, self.reach, self.made, of)
                 } else {
                     reference_to(alloc, self.declared, of, notes)
                 }
@@ -146,34 +134,46 @@ fn none_made(alloc: Global, count: usize) -> Result<Vec<Schema>, AllocError>
     Ok(made)
 }
 
-/// The schema of each declaration, where `order` has each behind those whose schemas stand in its own. A term is let go as
-/// soon as its schema is made.
+/// The schema of each instance that is marked, where `order` has each behind those whose schemas stand in its own, and these
+/// are marked too. A term is let go as soon as its place in the order is passed.
 pub(crate) fn closed<D: Declared>(
     alloc: Global,
     declared: &[D],
+    reach: &Reach,
     mut terms: Vec<Term>,
     order: &[usize],
+    marks: &[bool],
 ) -> Result<Vec<Schema>, AllocError>
-    requires terms { map term_view terms.items ≡ map (λ s. term (D.declaration s)) declared.now }
-    requires within { AreWithin (length (map D.declaration declared.now))
-        (map D.declaration declared.now) }
-    requires depth { IsAtMost most_inlined (inlining_of (map D.declaration declared.now)) }
-    requires order { IsOrder (inlining_of (map D.declaration declared.now)) order.now }
-    ensures many { IfOk result (λ made. length made.items ≡ length declared.now) }
-    ensures schemas { IfOk result (λ made. (d : ℕ) → d < length declared.now
-        → schema_in (map schema_view made.items) d
-        ≡ declared_schema (map D.declaration declared.now) d) }
+    requires instances { AreInstances (map D.declaration declared.now) reach.now }
+    requires shallow { AreShallow (map D.declaration declared.now) }
+    requires order { IsOrder (inlining_of (map D.declaration declared.now) reach.now)
+        order.now }
+    requires along { AreAlong marks.now
+        (inlining_of (map D.declaration declared.now) reach.now) }
+    requires as_many { length terms.items ≡ length reach.now }
+    requires marked { length marks.now ≡ length reach.now }
+    requires terms { AreTerms (map D.declaration declared.now) reach.now marks.now
+        (map term_view terms.items) }
+    ensures many { IfOk result (λ made. length made.items ≡ length reach.now) }
+    ensures schemas { IfOk result
+        (λ made. AreSchemas (map D.declaration declared.now) reach.now marks.now
+        (map schema_view made.items)) }
 {
     inlining::orders_stand();
-    let mut made = none_made(alloc, declared.len())?;
-    for place in order {
-        let closing = Closing {
-            declared,
-            made: made.as_slice(),
-        };
-        let schema = filled(alloc, &terms[*place], &closing)?;
-        made[*place] = schema;
-        terms[*place] = Tree::Leaf(TermLeaf::Param(0));
+    open_types::same_types_are_equal();
+    open_types::types_stay_without_arguments();
+    let mut made = none_made(alloc, reach.len())?;
+    for number in order {
+        let term = std::mem::replace(&mut terms[*number], Tree::Leaf(TermLeaf::Param(0)));
+        if marks[*number] {
+            let closing = Closing {
+                declared,
+                reach,
+                made: made.as_slice(),
+            };
+            let schema = filled(alloc, &term, &closing)?;
+            made[*number] = schema;
+        }
     }
     Ok(made)
 }

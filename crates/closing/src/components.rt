@@ -1,41 +1,59 @@
 //! The components of declarations.
 
-ghost use Rattle.std.specs.Prelude.{◌≡◌, length, map, IfOk};
-ghost use Rattle.texts.specs.Names.{IsDistinct};
+ghost use Rattle.std.specs.Prelude.{◌≡◌, ◌<◌, ℕ, length, map, IfOk, IsTrue};
 ghost use Rattle.component.specs.Leaves.{term_view};
-ghost use Rattle.shapes.specs.Declarations.{declaration_names, AreWithin};
-ghost use Rattle.shapes.specs.Terms.{term};
-ghost use Rattle.inlining.specs.Inlining.{IsAtMost, IsOrder};
-ghost use Rattle.closing.specs.Targets.{inlining_of, most_inlined};
-ghost use Rattle.closing.specs.Described.{AreComponents};
+ghost use Rattle.inlining.specs.Inlining.{AreOnce, IsAmong, IsOrder};
+ghost use Rattle.inlining.specs.Marks.{mark};
+ghost use Rattle.instances.specs.Lists.{AreInstances, instance_at};
+ghost use Rattle.instances.specs.Names.{NamesDiffer, names_of};
+ghost use Rattle.closing.specs.Described.{AreShallow};
+ghost use Rattle.closing.specs.Links.{inlining_of};
+ghost use Rattle.closing.specs.Made.{AreAlong, AreTerms, AreEntriesOf};
 
-use crate::closed::closed;
+use crate::closed::{any_value, closed};
 use component::Term;
+use inlining::Shown;
+use instances::Reach;
 use schema_core::Components;
 use shapes::Declared;
 use std::alloc::{AllocError, Global};
+use texts::Text;
 
-/// The components of the declarations, whose names are distinct, where `terms` has their terms, and `order` each declaration
-/// behind those whose schemas stand in its own.
+/// The components of the instances, where `names` has the names of all, which differ, `terms` the terms of those that are
+/// shown, and `order` each instance behind those whose schemas stand in its own.
 pub fn components_of<D: Declared>(
     alloc: Global,
     declared: &[D],
+    reach: &Reach,
+    names: &[Text],
     terms: Vec<Term>,
     order: &[usize],
+    shown: &Shown,
 ) -> Result<Components, AllocError>
-    requires terms { map term_view terms.items ≡ map (λ s. term (D.declaration s)) declared.now }
-    requires within { AreWithin (length (map D.declaration declared.now))
-        (map D.declaration declared.now) }
-    requires depth { IsAtMost most_inlined (inlining_of (map D.declaration declared.now)) }
-    requires order { IsOrder (inlining_of (map D.declaration declared.now)) order.now }
-    requires distinct { IsDistinct (declaration_names (map D.declaration declared.now)) }
-    ensures { IfOk result
-        (λ components. AreComponents (map D.declaration declared.now) components) }
+    requires instances { AreInstances (map D.declaration declared.now) reach.now }
+    requires shallow { AreShallow (map D.declaration declared.now) }
+    requires order { IsOrder (inlining_of (map D.declaration declared.now) reach.now)
+        order.now }
+    requires along { AreAlong shown.now.marks
+        (inlining_of (map D.declaration declared.now) reach.now) }
+    requires as_many { length terms.items ≡ length reach.now }
+    requires marked { length shown.now.marks ≡ length reach.now }
+    requires terms { AreTerms (map D.declaration declared.now) reach.now shown.now.marks
+        (map term_view terms.items) }
+    requires names { names.now ≡ names_of (map D.declaration declared.now) reach.now }
+    requires differ { NamesDiffer (map D.declaration declared.now) }
+    requires once { AreOnce shown.now.components }
+    requires within { (n : ℕ) → IsAmong n shown.now.components → n < length reach.now }
+    requires shown { (n : ℕ) → IsAmong n shown.now.components → IsTrue (mark shown.now.marks n) }
+    ensures { IfOk result (AreEntriesOf (map D.declaration declared.now)
+        (map (instance_at reach.now) shown.now.components)) }
 {
-    let mut made = closed(alloc, declared, terms, order)?;
+    let marks = shown.marks.as_slice();
+    let mut made = closed(alloc, declared, reach, terms, order, marks)?;
     let mut components = Components::new(alloc);
-    while let Some(schema) = made.pop() {
-        let name = declared[made.len()].name().copy(alloc)?;
+    for number in shown.components.as_slice() {
+        let schema = std::mem::replace(&mut made[*number], any_value(alloc)?);
+        let name = names[*number].copy(alloc)?;
         components.insert(name, schema)?;
     }
     Ok(components)

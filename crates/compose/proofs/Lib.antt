@@ -1,4 +1,4 @@
-pub mod Along
 pub mod Bounded
-pub mod Terms
+pub mod Counts
+pub mod Placed
 pub mod TypesFound

@@ -9,11 +9,11 @@ use Rattle.syntax.specs.Items.{DeclaredItem}
 use Rattle.syntax.specs.Source.{Reads, IsUnreadable, IsTooDeep, NestsTooDeep}
 use Rattle.scopes.specs.Names.{declared_idents, IsGivenTwice}
 use Rattle.configuration.specs.Configuration.{Configuration}
-use Rattle.shapes.specs.Declarations.{DeclarationOf}
+use Rattle.shapes.specs.Declarations.{DeclarationOf, AreApartBodies}
 use Rattle.derive_decl.specs.Faults.{AreUnderivable, AreDerivable, AreFaultyItems}
 use Rattle.derive_decl.specs.Whole.{resolved_declarations}
-use Rattle.closing.specs.Described.{IsApart, AreComponents}
-use Rattle.compose.specs.Bounds.{AreBounded, IsUnbounded}
+use Rattle.closing.specs.Described.{AreComponents}
+use Rattle.compose.specs.Bounds.{AreBounded, IsUnbounded, collects_all}
 
 -- ---- the answers
 
@@ -42,7 +42,7 @@ IsFaultySource c source e = (ds : List DeclaredItem) × Reads source ds × ((spa
 abbrev pub IsRefused : Configuration → List ℕ → DeriveError → Type 0
 IsRefused c source e = IsTooDeep source e ⊎ IsUnreadable source e ⊎ IsFaultySource c source e
 
--- The components are those of the declarations that the source declares, and no condition of a refusal holds.
+-- The components are those of the instances that the source's declarations reach, and no condition of a refusal holds.
 pub record IsDerived (c : Configuration) (source : List ℕ) (components : List Entry) : Type 0 where
   pub declarations : List DeclaredItem
   pub read : Reads source declarations
@@ -50,6 +50,6 @@ pub record IsDerived (c : Configuration) (source : List ℕ) (components : List 
   pub clear : AreClear c.renames declarations
   pub resolved : List DeclarationOf
   pub resolves : resolved_declarations c.renames declarations ≡ Some resolved
-  pub bounded : AreBounded c (declared_idents declarations) resolved
-  pub apart : IsApart resolved
-  pub components_are : AreComponents resolved components
+  pub bounded : AreBounded c resolved
+  pub apart : AreApartBodies resolved
+  pub components_are : AreComponents resolved (collects_all c.collect) components

@@ -1,4 +1,6 @@
 pub mod Bounds
 pub mod Faults
+pub mod Sets
 pub mod Settled
 pub mod Types
+pub mod Within

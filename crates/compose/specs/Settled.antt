@@ -1,11 +1,10 @@
 -- What is known of declarations whose types are resolved.
-use Rattle.std.specs.Prelude.{◌≡◌, List, length, Some}
+use Rattle.std.specs.Prelude.{◌≡◌, List, Some}
 use Rattle.diag.specs.declared.rename_row.RenameRow.{RenameRow}
 use Rattle.syntax.specs.Items.{DeclaredItem}
 use Rattle.scopes.specs.Names.{declared_names}
-use Rattle.shapes.specs.Declarations.{DeclarationOf, declaration_names, AreWithin}
+use Rattle.shapes.specs.Declarations.{DeclarationOf, declaration_names, AreApartBodies, AreFitting}
 use Rattle.derive_decl.specs.Whole.{resolved_declarations}
-use Rattle.closing.specs.Described.{IsApart}
 use Rattle.compose.specs.Faults.{AreClear}
 
 -- declarations that have declarations, where no condition of a refusal holds
@@ -13,5 +12,5 @@ pub record IsSettled (rows : List RenameRow) (ds : List DeclaredItem) (ss : List
   pub resolves : resolved_declarations rows ds ≡ Some ss
   pub clear : AreClear rows ds
   pub names : declaration_names ss ≡ declared_names ds
-  pub apart : IsApart ss
-  pub within : AreWithin (length ss) ss
+  pub apart : AreApartBodies ss
+  pub fitting : AreFitting ss

@@ -1,152 +1,128 @@
 //! The bounds on instances.
 
-ghost use Rattle.std.specs.Prelude.{◌≡◌, ◌<◌, ◌≤◌, length, map, IfOk};
-ghost use Rattle.diag.specs.Refusal.{IsErrorFor, IsRefusal, Refuses};
+ghost use Rattle.std.specs.Prelude.{◌≡◌, ◌<◌, ◌≤◌, ◌⊎◌, ℕ, length, map, IfOk};
+ghost use Rattle.diag.specs.Refusal.{IsRefusal, Refuses};
 ghost use Rattle.texts.specs.Span.{no_span};
-ghost use Rattle.shapes.specs.Declarations.{declaration_names};
+ghost use Rattle.resolving.specs.Resolved.{most_names};
+ghost use Rattle.shapes.specs.Declarations.{AreFitting, declaration_names};
 ghost use Rattle.derive_decl.specs.Views.{resolved_view};
-ghost use Rattle.inlining.specs.Inlining.{AreTargets, IsAtMost, IsOrder, IsPath, all_copies};
-ghost use Rattle.closing.specs.Targets.{inlining_of, most_inlined};
-ghost use Rattle.compose.specs.Bounds.{AreBounded, IsCrowded, IsDeep, IsUnbounded, IsRefusalOf, crowded_message, deep_message, copied_message, names_along};
+ghost use Rattle.inlining.specs.Inlining.{AreTargets, IsAmong, IsAtMost, IsOrder, copies, sum_of};
+ghost use Rattle.instances.specs.Lists.{AreInstances};
+ghost use Rattle.instances.specs.Names.{NamesDiffer, names_of};
+ghost use Rattle.instances.specs.Walk.{AreReached};
+ghost use Rattle.closing.specs.Links.{inlining_of};
+ghost use Rattle.closing.specs.Closed.{most_inlined};
+ghost use Rattle.compose.specs.Bounds.{ArePlaced, IsCrowded, IsLarge, IsClash, IsDeep, copied_message};
 
+use crate::refusals::{clash, too_deep, too_large, too_many_copies, too_many_instances};
 use configuration::Config;
 use derive_decl::Resolved;
-use diag::{DeriveError, Diagnostics, Kind};
+use diag::{DeriveError, Kind};
 use inlining::{Depth, are_more_copies, inline_order};
-use std::alloc::{AllocError, Global};
-use texts::{List, Span};
+use instances::{Names, Naming, Reach, WalkError, names_of, reach_of};
+use resolving::MAX_NAMES;
+use std::alloc::Global;
+use texts::List;
 use written_types::Ident;
 
-/// An inline path has at most so many declarations.
+/// An inline path has at most so many instances.
 const MOST_INLINED: usize = 32;
 
-/// The refusal of more instances than may be reachable, at the name of one.
-fn too_many_instances(alloc: Global, span: Span, limit: usize) -> Result<DeriveError, AllocError>
-    ensures { IfOk result
-        (IsErrorFor (IsRefusal Kind.TooManyInstances span (crowded_message limit))) }
-{
-    let message = format!(in alloc; "more than {} instances are reachable", limit)?;
-    let kind = Kind::TooManyInstances;
-    Ok(DeriveError::refusal(alloc, kind, span, message.as_str()))
-}
-
-/// Refuses more declarations than instances may be reachable: each is one.
-fn few_instances(alloc: Global, idents: &[Ident], config: &Config) -> Result<(), DeriveError>
-    ensures few { IfOk result (λ _. length idents.now ≤ config.now.limit) }
-    ensures refused { Refuses result
-        (IsCrowded config.now idents.now) }
-{
-    let limit = config.limit();
-    if idents.len() <= limit {
-        return Ok(());
-    }
-    Err(too_many_instances(alloc, idents[limit].span, limit)?)
-}
-
-/// The refusal of an inline path that is too long, whose instances are the names along it.
-fn inline_depth(
-    alloc: Global,
-    span: Span,
-    resolved: &[Resolved],
-    path: &[usize],
-) -> Result<DeriveError, AllocError>
-    requires { IsPath (inlining_of (map resolved_view resolved.now)) path.now }
-    ensures { IfOk result
-        (IsRefusalOf Kind.InlineDepth span deep_message
-        (names_along (map resolved_view resolved.now) path.now)) }
-{
-    let message = "types are inlined deeper than 32";
-    let mut diagnostics = Diagnostics::with_span(alloc, Kind::InlineDepth, span, message)?;
-    for place in path {
-        diagnostics = diagnostics.instance(resolved[*place].name.as_str())?;
-    }
-    Ok(DeriveError::Refused(diagnostics))
-}
-
-/// An order in which each declaration stands behind its targets; refuses an inline path that is too long.
-fn shallow_order(
+/// The reachable instances of the declarations with these names; refuses more than may be, and one of more names than may be.
+pub(crate) fn few_instances(
     alloc: Global,
     idents: &[Ident],
     resolved: &[Resolved],
-    targets: &[List<usize>],
-) -> Result<List<usize>, DeriveError>
-    requires names { declaration_names (map resolved_view resolved.now)
-        ≡ map (λ i. i.text) idents.now }
-    requires targets { targets.now ≡ inlining_of (map resolved_view resolved.now) }
-    requires declared { AreTargets targets.now }
-    ensures shallow { IfOk result (λ _. IsAtMost most_inlined targets.now) }
-    ensures order { IfOk result (λ order. IsOrder targets.now order) }
+    config: &Config,
+) -> Result<Reach, DeriveError>
+    requires fitting { AreFitting (map resolved_view resolved.now) }
+    requires many { length idents.now ≡ length resolved.now }
+    ensures reached { IfOk result
+        (AreReached (map resolved_view resolved.now) config.now.limit most_names) }
+    ensures placed { IfOk result (ArePlaced (length idents.now)) }
     ensures refused { Refuses result
-        (IsDeep idents.now (map resolved_view resolved.now)) }
+        (λ e. IsCrowded config.now idents.now (map resolved_view resolved.now) e
+        ⊎ IsLarge idents.now (map resolved_view resolved.now) e) }
 {
-    match inline_order(alloc, targets, MOST_INLINED)? {
-        Depth::Within(order) => Ok(order),
-        Depth::Beyond(path) => {
-            let path = path.as_slice();
-            let span = idents[path[0]].span;
-            Err(inline_depth(alloc, span, resolved, path)?)
+    instances::reachable_fit();
+    let limit = config.limit();
+    match reach_of(alloc, resolved, limit, MAX_NAMES) {
+        Ok(reach) => Ok(reach),
+        Err(WalkError::Memory) => Err(DeriveError::Memory),
+        Err(WalkError::TooMany(place)) => {
+            Err(too_many_instances(alloc, idents[place].span, limit)?)
+        }
+        Err(WalkError::TooLarge(place)) => Err(too_large(alloc, idents[place].span)),
+    }
+}
+
+/// The names of the instances; refuses two of one name.
+pub(crate) fn names_apart(
+    alloc: Global,
+    idents: &[Ident],
+    resolved: &[Resolved],
+    reach: &Reach,
+) -> Result<Names, DeriveError>
+    requires instances { AreInstances (map resolved_view resolved.now) reach.now }
+    requires placed { ArePlaced (length idents.now) reach.now }
+    ensures names { IfOk result
+        (λ names. names ≡ names_of (map resolved_view resolved.now) reach.now) }
+    ensures differ { IfOk result (λ _. NamesDiffer (map resolved_view resolved.now)) }
+    ensures refused { Refuses result (IsClash idents.now (map resolved_view resolved.now)) }
+{
+    instances::distinct_names_differ();
+    match names_of(alloc, resolved, reach)? {
+        Naming::Apart(names) => Ok(names),
+        Naming::Clash(first, second) => {
+            Err(clash(alloc, idents, resolved, reach, first, second)?)
         }
     }
 }
 
-/// The refusal of more copies than may be inlined.
-fn too_many_copies(alloc: Global, copies: usize) -> Result<DeriveError, AllocError>
-    ensures { IfOk result
-        (IsErrorFor (IsRefusal Kind.TooManyCopies no_span (copied_message copies))) }
+/// An order in which each instance stands behind its targets; refuses an inline path that is too long.
+pub(crate) fn shallow_order(
+    alloc: Global,
+    idents: &[Ident],
+    resolved: &[Resolved],
+    reach: &Reach,
+    targets: &[List<usize>],
+) -> Result<List<usize>, DeriveError>
+    requires instances { AreInstances (map resolved_view resolved.now) reach.now }
+    requires placed { ArePlaced (length idents.now) reach.now }
+    requires targets { targets.now
+        ≡ inlining_of (map resolved_view resolved.now) reach.now }
+    ensures shallow { IfOk result (λ _. IsAtMost most_inlined targets.now) }
+    ensures order { IfOk result (λ order. IsOrder targets.now order) }
+    ensures refused { Refuses result (IsDeep idents.now (map resolved_view resolved.now)) }
 {
-    let message = format!(in alloc; "more than {} copies are inlined", copies)?;
-    let kind = Kind::TooManyCopies;
-    Ok(DeriveError::refusal(alloc, kind, Span::nowhere(), message.as_str()))
+    closing::numbers_stand();
+    closing::paths_by_numbers();
+    match inline_order(alloc, targets, MOST_INLINED)? {
+        Depth::Within(order) => Ok(order),
+        Depth::Beyond(path) => Err(too_deep(alloc, idents, reach, path.as_slice())?),
+    }
 }
 
-/// Refuses more copies than may be inlined.
-fn few_copies(
+/// Refuses more copies than may be inlined in the components.
+pub(crate) fn few_copies(
     alloc: Global,
     targets: &[List<usize>],
     order: &[usize],
+    components: &[usize],
     config: &Config,
 ) -> Result<(), DeriveError>
     requires shallow { IsAtMost most_inlined targets.now }
     requires order { IsOrder targets.now order.now }
-    ensures few { IfOk result (λ _. all_copies targets.now most_inlined ≤ config.now.copies) }
-    ensures refused { Refuses result (λ e. (config.now.copies < all_copies targets.now most_inlined)
+    requires within { (n : ℕ) → IsAmong n components.now → n < length targets.now }
+    ensures few { IfOk result (λ _. sum_of (copies targets.now most_inlined) components.now
+        ≤ config.now.copies) }
+    ensures refused { Refuses result
+        (λ e. (config.now.copies < sum_of (copies targets.now most_inlined) components.now)
         × IsRefusal Kind.TooManyCopies no_span (copied_message config.now.copies) e) }
 {
     let copies = config.copies();
-    if are_more_copies(alloc, targets, order, MOST_INLINED, copies)? {
+    if are_more_copies(alloc, targets, order, components, MOST_INLINED, copies)? {
         return Err(too_many_copies(alloc, copies)?);
     }
     Ok(())
-}
-
-/// The declarations, which have these names, in an order in which each stands behind those whose schemas stand in its own,
-/// where `targets` has these for each declaration.
-///
-/// A refusal is of kind `TooManyInstances`, at a declaration's name, where more instances are reachable than the
-/// configuration's limit; else `InlineDepth`, at the name of the first of 33 declarations of which the schema of each stands
-/// in that of the one before, and which are the instances of the refusal; else `TooManyCopies`, without a span, where more
-/// schemas stand in the components than the configuration's copies.
-pub fn inline_order_of(
-    alloc: Global,
-    idents: &[Ident],
-    resolved: &[Resolved],
-    targets: &[List<usize>],
-    config: &Config,
-) -> Result<List<usize>, DeriveError>
-    requires names { declaration_names (map resolved_view resolved.now)
-        ≡ map (λ i. i.text) idents.now }
-    requires targets { targets.now ≡ inlining_of (map resolved_view resolved.now) }
-    requires declared { AreTargets targets.now }
-    ensures bounded { IfOk result
-        (λ _. AreBounded config.now idents.now
-        (map resolved_view resolved.now)) }
-    ensures order { IfOk result (IsOrder (inlining_of (map resolved_view resolved.now))) }
-    ensures refused { Refuses result
-        (IsUnbounded config.now idents.now
-        (map resolved_view resolved.now)) }
-{
-    few_instances(alloc, idents, config)?;
-    let order = shallow_order(alloc, idents, resolved, targets)?;
-    few_copies(alloc, targets, order.as_slice(), config)?;
-    Ok(order)
 }

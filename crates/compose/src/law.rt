@@ -5,4 +5,7 @@ ghost use Rattle.compose.specs.Bounds.{BoundedAreNotRefused};
 /// Where nothing is beyond its bound, no error refuses the instances.
 pub fn bounded_are_not_refused()
     ensures { BoundedAreNotRefused }
-{}
+{
+    instances::none_are_more();
+    closing::no_more_in_all();
+}

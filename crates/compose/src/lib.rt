@@ -1,13 +1,17 @@
 //! From a source to the components of its declarations, which describe the JSON that serde reads for them, within the bounds
-//! on instances: how many are reachable, how deep their schemas are inlined, and how many copies that makes.
+//! on instances: how many are reachable, how large they are, that their names differ, how deep their schemas are inlined, and
+//! how many copies that makes.
 #![tactic(auto)]
 
 mod bounds;
 mod derive;
 mod law;
+mod refusals;
+mod sets;
 mod types;
+mod within;
 
-pub use bounds::inline_order_of;
-pub use closing::{components_describe, inlined_accept, references_accept};
+pub use closing::{references_accept, components_describe, places_agree, places_describe};
 pub use derive::{Derived, derive_components};
 pub use law::bounded_are_not_refused;
+pub use sets::{InstanceSet, TermSet, compose, instances, terms};

@@ -13,8 +13,7 @@ use Rattle.serde_rules.specs.Container.{rename_rule, IsContainerRefusal}
 use Rattle.written_types.specs.declared.written.Ident.{Ident}
 use Rattle.syntax.specs.declared.item.Variant.{Variant}
 use Rattle.syntax.specs.Items.{FieldItems, named, unnamed, unit, VariantItem, variant_view}
-use Rattle.open_types.specs.declared.open_type.OpenType.{OpenType}
-use Rattle.open_types.specs.Open.{open_view}
+use Rattle.open_types.specs.Open.{Open}
 use Rattle.scopes.specs.Names.{texts}
 use Rattle.shapes.specs.declared.tagging.Tagging.{Tagging}
 use Rattle.shapes.specs.Declarations.{no_fields, VariantOf, types_of, variant_names, variant_types, AreApartVariants}
@@ -41,10 +40,10 @@ variant_types-push [] x = append-nil (types_of x.form)
 variant_types-push (y ∷ ys) x = ap (λ ts. types_of y.form ++ ts) (variant_types-push ys x) ∙ sym (append_assoc (types_of y.form) (variant_types ys) (types_of x.form))
 
 -- the types of the variants so far, and of one more
-pub types_more : (vs : List MixedEnumVariant) (i : ℕ) (v : MixedEnumVariant) (types more : List OpenType) → i < length vs → v ≡ get_or vs i v → map open_view types ≡ variant_types (map variant_schema_view (take i vs)) →
-    map open_view more ≡ types_of (form_view v.form) → map open_view (types ++ more) ≡ variant_types (map variant_schema_view (take (i + 1) vs))
-types_more vs i v types more l is e g =
-    map-append open_view types more
+pub types_more : {A : Type 0} (view : A → Open) (vs : List MixedEnumVariant) (i : ℕ) (v : MixedEnumVariant) (types more : List A) → i < length vs → v ≡ get_or vs i v → map view types ≡ variant_types (map variant_schema_view (take i vs)) →
+    map view more ≡ types_of (form_view v.form) → map view (types ++ more) ≡ variant_types (map variant_schema_view (take (i + 1) vs))
+types_more view vs i v types more l is e g =
+    map-append view types more
     ∙ (λ j. e j ++ g j)
     ∙ sym (variant_types-push (map variant_schema_view (take i vs)) (variant_schema_view v))
     ∙ ap (λ (x : MixedEnumVariant). variant_types (map variant_schema_view (take i vs) ++ variant_schema_view x ∷ [])) is

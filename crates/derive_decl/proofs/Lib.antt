@@ -7,5 +7,5 @@ pub mod Rules
 pub mod TagLaws
 pub mod Texts
 pub mod EnumLaws
-pub mod Within
+pub mod Over
 pub mod Faultless

@@ -23,59 +23,79 @@ pub struct Resolved {
 }
 
 /// The types of the members.
-fn member_types(alloc: Global, members: &[Member]) -> Result<List<OpenType>, AllocError>
-    ensures { IfOk result (λ ts. map open_view ts ≡ member_types (map member_view members.now)) }
+fn member_types(alloc: Global, members: &[Member]) -> Result<Vec<&OpenType>, AllocError>
+    ensures { IfOk result (λ ts. map (λ ty. open_view ty.now) ts.items
+        ≡ member_types (map member_view members.now)) }
 {
-    let mut types = List::new(alloc);
+    let mut types = Vec::new(alloc);
     for member in members {
-        types.push(member.ty.copy(alloc)?)?;
+        types.push(&member.ty)?;
     }
     Ok(types)
 }
 
-/// Other types that are equal.
-fn copied_types(alloc: Global, types: &[OpenType]) -> Result<List<OpenType>, AllocError>
-    ensures { IfOk result (λ ts. map open_view ts ≡ map open_view types.now) }
+/// Each of the types.
+fn each_type(alloc: Global, types: &[OpenType]) -> Result<Vec<&OpenType>, AllocError>
+    ensures { IfOk result
+        (λ ts. map (λ ty. open_view ty.now) ts.items ≡ map open_view types.now) }
 {
-    let mut copies = List::new(alloc);
+    let mut each = Vec::new(alloc);
     for ty in types {
-        copies.push(ty.copy(alloc)?)?;
+        each.push(ty)?;
     }
-    Ok(copies)
+    Ok(each)
 }
 
-fn types_of(alloc: Global, form: &FormSchema) -> Result<List<OpenType>, AllocError>
-    ensures { IfOk result (λ ts. map open_view ts ≡ types_of (form_view form.now)) }
+fn types_of(alloc: Global, form: &FormSchema) -> Result<Vec<&OpenType>, AllocError>
+    ensures { IfOk result
+        (λ ts. map (λ ty. open_view ty.now) ts.items ≡ types_of (form_view form.now)) }
 {
     match form {
         FormSchema::Named(form) => member_types(alloc, form.members.as_slice()),
-        FormSchema::Unnamed(form) => copied_types(alloc, form.types.as_slice()),
-        FormSchema::Unit(_) => Ok(List::new(alloc)),
+        FormSchema::Unnamed(form) => each_type(alloc, form.types.as_slice()),
+        FormSchema::Unit(_) => Ok(Vec::new(alloc)),
     }
 }
 
-fn variant_types(alloc: Global, variants: &[MixedEnumVariant]) -> Result<List<OpenType>, AllocError>
-    ensures { IfOk result
-        (λ ts. map open_view ts ≡ variant_types (map variant_schema_view variants.now)) }
+fn variant_types(alloc: Global, variants: &[MixedEnumVariant]) -> Result<Vec<&OpenType>, AllocError>
+    ensures { IfOk result (λ ts. map (λ ty. open_view ty.now) ts.items
+        ≡ variant_types (map variant_schema_view variants.now)) }
 {
-    let mut types = List::new(alloc);
+    let mut types = Vec::new(alloc);
     for variant in variants {
-        types.append(types_of(alloc, &variant.form)?)?;
+        let mut of_variant = types_of(alloc, &variant.form)?;
+        types.append(&mut of_variant)?;
     }
     Ok(types)
 }
 
 /// The types of the places, in order.
-pub(crate) fn body_types(alloc: Global, body: &SchemaVariant) -> Result<List<OpenType>, AllocError>
-    ensures { IfOk result (λ ts. map open_view ts ≡ body_types (schema_view body.now)) }
+fn body_types(alloc: Global, body: &SchemaVariant) -> Result<Vec<&OpenType>, AllocError>
+    ensures { IfOk result
+        (λ ts. map (λ ty. open_view ty.now) ts.items ≡ body_types (schema_view body.now)) }
 {
     match body {
         SchemaVariant::Struct(form) => types_of(alloc, form),
-        SchemaVariant::Enum(EnumSchema::Plain(_)) => Ok(List::new(alloc)),
+        SchemaVariant::Enum(EnumSchema::Plain(_)) => Ok(Vec::new(alloc)),
         SchemaVariant::Enum(EnumSchema::Mixed(mixed)) => {
             variant_types(alloc, mixed.variants.as_slice())
         }
     }
+}
+
+/// Other types that are equal to those of the places, in order.
+pub(crate) fn copied_types(
+    alloc: Global,
+    body: &SchemaVariant,
+) -> Result<List<OpenType>, AllocError>
+    ensures { IfOk result (λ ts. map open_view ts ≡ body_types (schema_view body.now)) }
+{
+    let types = body_types(alloc, body)?;
+    let mut copies = List::new(alloc);
+    for ty in types.as_slice() {
+        copies.push(ty.copy(alloc)?)?;
+    }
+    Ok(copies)
 }
 
 impl Declared for Resolved {
@@ -85,6 +105,14 @@ impl Declared for Resolved {
 
     fn name(&self) -> &Text {
         &self.name
+    }
+
+    fn parameters(&self) -> usize {
+        0
+    }
+
+    fn types(&self, alloc: Global) -> Result<Vec<&OpenType>, AllocError> {
+        body_types(alloc, &self.body)
     }
 
     fn term(&self, alloc: Global) -> Result<Term, AllocError> {

@@ -9,7 +9,7 @@ ghost use Rattle.shapes.specs.Declarations.{DeclarationOf, body_types};
 ghost use Rattle.derive_decl.specs.Schemas.{IsFaultySchema, ResolvesTo};
 ghost use Rattle.derive_decl.specs.Views.{resolved_view};
 
-use crate::resolved::{Resolved, body_types};
+use crate::resolved::{Resolved, copied_types};
 use crate::root::Root;
 use crate::schema_variant::SchemaVariant;
 use component::{Term, ToTerm};
@@ -86,7 +86,7 @@ impl<'a> Schema<'a> {
         ensures refused { Refuses result (IsFaultySchema self.now) }
     {
         let resolved = self.resolve(alloc)?;
-        Ok(body_types(alloc, &resolved.body)?)
+        Ok(copied_types(alloc, &resolved.body)?)
     }
 }
 

@@ -1,11 +1,11 @@
 //! All declarations of a source.
 
-ghost use Rattle.std.specs.Prelude.{◌≡◌, length, map, IfOk, Some};
+ghost use Rattle.std.specs.Prelude.{◌≡◌, map, IfOk, Some};
 ghost use Rattle.diag.specs.Refusal.{Refuses, RefusesNone};
 ghost use Rattle.syntax.specs.Items.{declaration_view, declarations_view};
 ghost use Rattle.syntax.specs.Named.{AreNamed, IsNamedBody};
 ghost use Rattle.scopes.specs.Names.{declared_names};
-ghost use Rattle.shapes.specs.Declarations.{declaration_names, AreWithin, IsApartBody, AreApartBodies};
+ghost use Rattle.shapes.specs.Declarations.{declaration_names, AreFitting, IsApartBody, AreApartBodies};
 ghost use Rattle.derive_decl.specs.Resolved.{resolved_of};
 ghost use Rattle.derive_decl.specs.Faults.{IsFaultyItem, AreFaultyItems};
 ghost use Rattle.derive_decl.specs.Views.{known, resolved_view};
@@ -63,15 +63,14 @@ pub fn resolved_declarations(
     ensures names { IfOk result (λ ss. declaration_names (map resolved_view ss)
         ≡ declared_names (declarations_view places.now.declarations.now)) }
     ensures apart { IfOk result (λ ss. AreApartBodies (map resolved_view ss)) }
-    ensures within { IfOk result
-        (λ ss. AreWithin (length (map resolved_view ss)) (map resolved_view ss)) }
+    ensures fitting { IfOk result (λ ss. AreFitting (map resolved_view ss)) }
     ensures faultless { IfOk result
         (λ _. RefusesNone
         (AreFaultyItems config.now.renames (declarations_view places.now.declarations.now))) }
     ensures refused { Refuses result
         (AreFaultyItems config.now.renames (declarations_view places.now.declarations.now)) }
 {
-    resolving::resolved_are_within();
+    resolving::resolved_are_over();
     let mut resolved = List::new(alloc);
     for owner in 0..places.declarations.items.len() {
         let scope = Scope { places, owner };

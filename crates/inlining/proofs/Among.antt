@@ -1,5 +1,5 @@
--- What stands in a list of declarations, and the targets of one.
-use Rattle.std.proofs.Common.{◌≡◌, ◌<◌, ◌≤◌, ◌⊎◌, inl, inr, ℕ, zero, suc, List, [], ◌∷◌, ◌++◌, length, get_or, refl, arith}
+-- What stands in a list of instances, and the targets of one.
+use Rattle.std.proofs.Common.{◌≡◌, ◌<◌, ◌≤◌, ◌⊎◌, inl, inr, ℕ, zero, suc, List, [], ◌∷◌, ◌++◌, length, get_or, refl, ap, sym, ◌∙◌, subst, arith}
 use Rattle.inlining.specs.Inlining.{targets_of, IsAmong}
 
 pub among_at : (ts : List ℕ) (i d : ℕ) → i < length ts → IsAmong (get_or ts i d) ts
@@ -34,3 +34,10 @@ pub targets_past : (g : List (List ℕ)) (d : ℕ) → length g ≤ d → target
 targets_past [] d h = refl
 targets_past (us ∷ g) zero h = absurd (omega arith)
 targets_past (us ∷ g) (suc d) h = targets_past g d (omega arith)
+
+-- the links of one whose number was read
+pub links_read : (g : List (List ℕ)) (d e : ℕ) (ts us : List ℕ) → d < length g → d ≡ e → us ≡ get_or g d ts → us ≡ targets_of g e
+links_read g d e ts us h same is = is ∙ sym (targets_at g d ts h) ∙ ap (targets_of g) same
+
+pub linked_below : (g : List (List ℕ)) (d count n : ℕ) (ts us : List ℕ) → d < length g → us ≡ get_or g d ts → ((e m : ℕ) → IsAmong m (targets_of g e) → m < count) → IsAmong n us → n < count
+linked_below g d count n ts us h is all i = all d n (subst (IsAmong n) (links_read g d d ts us h refl is) i)

@@ -3,7 +3,7 @@ use Rattle.std.proofs.Common.{◌≡◌, ◌<◌, ◌≤◌, ◌↔◌, ◌⊎�
 use Rattle.std.proofs.lemmas.Bool.{cases_eq}
 use Rattle.std.proofs.lemmas.List.{take_more, get_or-set_same, get_or-set_other}
 use Rattle.inlining.specs.Counts.{saturated, count_of}
-use Rattle.inlining.specs.Inlining.{targets_of, IsAmong, AreTargets, IsPath, IsAtMost, sum_of, sum_below, copies, all_copies}
+use Rattle.inlining.specs.Inlining.{targets_of, IsAmong, AreTargets, IsPath, IsAtMost, sum_of, copies}
 use Rattle.inlining.proofs.Among.{among_cases}
 
 -- ---- sums that are saturated
@@ -21,24 +21,27 @@ sum_of-push : (f : ℕ → ℕ) (ts : List ℕ) (t : ℕ) → sum_of f (ts ++ t 
 sum_of-push f [] t = omega arith
 sum_of-push f (u ∷ ts) t = omega (arith, sum_of-push f ts t)
 
+capped_more : (m s x t : ℕ) → t ≡ s + x → min (min s m + x) m ≡ min t m
+capped_more m s x t e = omega arith
+
+sum_of-more : (f : ℕ → ℕ) (ts : List ℕ) (i d : ℕ) → i < length ts → sum_of f (take (i + 1) ts) ≡ sum_of f (take i ts) + f (get_or ts i d)
+sum_of-more f ts i d h = ap (sum_of f) (take_more ts i d h) ∙ sum_of-push f (take i ts) (get_or ts i d)
+
 pub count_more : (counts ts : List ℕ) (i d : ℕ) → i < length ts → saturated (count_of counts (take i ts) + slice_index counts (get_or ts i d)) ≡ count_of counts (take (i + 1) ts)
 count_more counts ts i d h =
     let f = slice_index counts in
-    let grown : sum_of f (take (i + 1) ts) ≡ sum_of f (take i ts) + f (get_or ts i d) = ap (sum_of f) (take_more ts i d h) ∙ sum_of-push f (take i ts) (get_or ts i d) in
-    capped_suc (2 ^ 64 - 1) (sum_of f (take i ts)) (f (get_or ts i d)) (sum_of f (take (i + 1) ts)) grown
+    capped_suc (2 ^ 64 - 1) (sum_of f (take i ts)) (f (get_or ts i d)) (sum_of f (take (i + 1) ts)) (sum_of-more f ts i d h)
+
+pub total_more : (counts ds : List ℕ) (i d : ℕ) → i < length ds → saturated (saturated (sum_of (slice_index counts) (take i ds)) + slice_index counts (get_or ds i d)) ≡ saturated (sum_of (slice_index counts) (take (i + 1) ds))
+total_more counts ds i d h =
+    let f = slice_index counts in
+    capped_more (2 ^ 64 - 1) (sum_of f (take i ds)) (f (get_or ds i d)) (sum_of f (take (i + 1) ds)) (sum_of-more f ds i d h)
 
 capped_sum : (m : ℕ) (f h : ℕ → ℕ) (ts : List ℕ) → ((t : ℕ) → IsAmong t ts → f t ≡ min (h t) m) → min (sum_of f ts) m ≡ min (sum_of h ts) m
 capped_sum m f h [] all = refl
 capped_sum m f h (t ∷ ts) all =
     let here : f t ≡ min (h t) m = all t (inl refl) in
     let rest : min (sum_of f ts) m ≡ min (sum_of h ts) m = capped_sum m f h ts (λ u i. all u (inr i)) in
-    omega arith
-
-capped_below : (m : ℕ) (f h : ℕ → ℕ) (n : ℕ) → ((d : ℕ) → d < n → f d ≡ min (h d) m) → min (sum_below f n) m ≡ min (sum_below h n) m
-capped_below m f h zero all = refl
-capped_below m f h (suc n) all =
-    let here : f n ≡ min (h n) m = all n (omega arith) in
-    let rest : min (sum_below f n) m ≡ min (sum_below h n) m = capped_below m f h n (λ d l. all d (omega arith)) in
     omega arith
 
 -- ---- copies that are no deeper than the paths
@@ -50,7 +53,7 @@ same_sum f h (t ∷ ts) all =
     let rest : sum_of f ts ≡ sum_of h ts = same_sum f h ts (λ u i. all u (inr i)) in
     omega arith
 
--- no path that begins with the declaration has more declarations than these
+-- no path that begins with the instance has more instances than these
 abbrev pub IsAtMostFrom : ℕ → List (List ℕ) → ℕ → Type 0
 IsAtMostFrom n g d = (ds : List ℕ) → IsPath g (d ∷ ds) → length (d ∷ ds) ≤ n
 
@@ -64,17 +67,17 @@ same_deeper g zero d targets h most = let one : length (d ∷ []) ≤ 0 = most [
 same_deeper g (suc n) d targets h most =
     ap suc (same_sum (copies g n) (copies g (suc n)) (targets_of g d) (λ t i. same_deeper g n t targets (targets d t i) (at_most_from_target g n d t h i most)))
 
--- the copies of a declaration are those of its targets, and itself
+-- the copies of an instance are those of its targets, and itself
 pub copies_are : (g : List (List ℕ)) (most d : ℕ) → AreTargets g → IsAtMost most g → d < length g → copies g most d ≡ suc (sum_of (copies g most) (targets_of g d))
 copies_are g most d targets most_is h = same_deeper g most d targets h (λ ds p. most_is (d ∷ ds) p)
 
 -- ---- counts of copies
 
--- the copies of these declarations are counted
+-- the copies of these instances are counted
 abbrev pub AreCounted : List (List ℕ) → ℕ → List ℕ → List ℕ → Type 0
 AreCounted g most counts ds = (d : ℕ) → IsAmong d ds → slice_index counts d ≡ saturated (copies g most d)
 
--- where the copies of the targets are counted, so are those of the declaration
+-- where the copies of the targets are counted, so are those of the instance
 pub count_is : (g : List (List ℕ)) (most : ℕ) (counts : List ℕ) (d : ℕ) → AreTargets g → IsAtMost most g → d < length g → AreCounted g most counts (targets_of g d) → count_of counts (targets_of g d) ≡ saturated (copies g most d)
 count_is g most counts d targets most_is h all =
     capped_next (2 ^ 64 - 1) (sum_of (slice_index counts) (targets_of g d)) (sum_of (copies g most) (targets_of g d)) (capped_sum (2 ^ 64 - 1) (slice_index counts) (copies g most) (targets_of g d) all)
@@ -94,9 +97,7 @@ counted_more g most counts ds i n h l e all d among =
     by (inr other) (inr (inl same)) = absurd (other same)
     by (inr other) (inr (inr none)) = absurd none
 
--- the total says whether there are more copies than a limit
-pub more_copies : (g : List (List ℕ)) (most limit total : ℕ) (counts order : List ℕ) → limit < 2 ^ 64 - 1 → length counts ≡ length g → ((d : ℕ) → d < length g → IsAmong d order) → AreCounted g most counts order →
-    total ≡ saturated (sum_below (slice_index counts) (length counts)) → (limit < total) ↔ (limit < all_copies g most)
-more_copies g most limit total counts order h many all counted is =
-    capped_less (2 ^ 64 - 1) (all_copies g most) limit total h
-    (is ∙ ap (λ n. saturated (sum_below (slice_index counts) n)) many ∙ capped_below (2 ^ 64 - 1) (slice_index counts) (copies g most) (length g) (λ d l. counted d (all d l)))
+-- the total says whether there are more copies of these instances than a limit
+pub more_copies : (g : List (List ℕ)) (most limit total : ℕ) (counts ds : List ℕ) → limit < 2 ^ 64 - 1 → AreCounted g most counts ds → total ≡ saturated (sum_of (slice_index counts) ds) → (limit < total) ↔ (limit < sum_of (copies g most) ds)
+more_copies g most limit total counts ds h counted is =
+    capped_less (2 ^ 64 - 1) (sum_of (copies g most) ds) limit total h (is ∙ capped_sum (2 ^ 64 - 1) (slice_index counts) (copies g most) ds counted)

@@ -1,4 +1,4 @@
--- What marks say of declarations and their targets.
+-- What marks say of instances and their targets.
 use Rattle.std.proofs.Common.{◌≡◌, ◌<◌, ◌≤◌, ◌⊎◌, inl, inr, ℕ, zero, suc, ◌+◌, List, [], ◌∷◌, ◌++◌, length, take, get_or, Bool, true, false, not, ◌&&◌, cond, IsTrue, Option, Some, None, MatchOption, is_some, refl, ap, sym, ◌∙◌, subst, arith}
 use Rattle.std.proofs.lemmas.Bool.{and_parts, and_from, cases_Bool, cases_lt, false≢true, not_from_false, not-false, not-true}
 use Rattle.std.proofs.lemmas.List.{take_more, get_or-map, get_or_push, get_or_append_left, length-map, length_push}

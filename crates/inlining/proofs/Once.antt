@@ -1,4 +1,4 @@
--- Orders in which no declaration stands twice.
+-- Orders in which no instance stands twice.
 use Rattle.std.proofs.Common.{◌⊎◌, inl, inr, ℕ, zero, suc, List, [], ◌∷◌, ◌++◌, length, Bool, true, false, not, ◌&&◌, cond, IsTrue, refl, sym, ◌∙◌, arith}
 use Rattle.std.proofs.lemmas.Bool.{false≢true}
 use Rattle.inlining.specs.Inlining.{IsAmong, AreTargets, AreBehind, AreOnce}
@@ -7,7 +7,7 @@ use Rattle.inlining.proofs.Among.{among_cases}
 use Rattle.inlining.proofs.Marks.{new_at, among_cond, new_are_marked, marked_still}
 use Rattle.inlining.proofs.Orders.{behind_of}
 
-once_append : (ds more : List ℕ) → AreOnce ds → AreOnce more → ((d : ℕ) → IsAmong d ds → IsAmong d more → ⊥) → AreOnce (ds ++ more)
+pub once_append : (ds more : List ℕ) → AreOnce ds → AreOnce more → ((d : ℕ) → IsAmong d ds → IsAmong d more → ⊥) → AreOnce (ds ++ more)
 once_append [] more o m apart = m
 once_append (e ∷ ds) more o m apart = (λ i. here (among_cases e ds more i), once_append ds more o.1 m (λ d i. apart d (inr i)))
   where
@@ -28,7 +28,7 @@ new_once before marks (suc n) =
     let same = (among_cond (mark marks n && not (mark before n)) d n j).0 in
     omega (arith, below, same))
 
--- each declaration of the order is marked
+-- each instance of the order is marked
 abbrev pub AreMarked : List Bool → List ℕ → Type 0
 AreMarked marks order = (d : ℕ) → IsAmong d order → IsTrue (mark marks d)
 

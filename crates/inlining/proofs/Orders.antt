@@ -34,7 +34,7 @@ behind_push : (g : List (List ℕ)) (seen ds : List ℕ) (d : ℕ) → AreBehind
 behind_push g seen [] d b h s = (h, λ t i. seen_none seen t (s t i), tt)
 behind_push g seen (e ∷ ds) d b h s = (b.0, b.1, behind_push g (e ∷ seen) ds d b.2 h (λ t i. seen_on e seen ds t (s t i)))
 
--- more declarations, of which each stands behind its targets
+-- more instances, of which each stands behind its targets
 pub behind_append : (g : List (List ℕ)) (ds more : List ℕ) → AreBehind g [] ds → ((d : ℕ) → IsAmong d more → (d < length g) × ((t : ℕ) → IsAmong t (targets_of g d) → IsAmong t ds)) → AreBehind g [] (ds ++ more)
 behind_append g ds [] b all = rw (append-nil ds) b
 behind_append g ds (d ∷ more) b all =
@@ -43,7 +43,7 @@ behind_append g ds (d ∷ more) b all =
     (behind_append g (ds ++ d ∷ []) more (behind_push g [] ds d b here.0 (λ t i. inr (here.1 t i)))
     (λ e i. let later = all e (inr i) in (later.0, λ t j. among-left t ds (d ∷ []) (later.1 t j))))
 
--- each declaration that is marked stands in the order
+-- each instance that is marked stands in the order
 abbrev pub AreOrdered : List (List ℕ) → List Bool → List ℕ → Type 0
 AreOrdered g marks order = (d : ℕ) → d < length g → IsTrue (mark marks d) → IsAmong d order
 
@@ -88,7 +88,7 @@ behind_at g seen (e ∷ ds) (suc i) b h =
     let later = behind_at g (e ∷ seen) ds i b.2 (omega arith) in
     (later.0, λ t j. seen_back e seen (take i ds) t (later.1 t j))
 
--- where there is an order, each target is a declaration
+-- where there is an order, each target is an instance
 pub order_targets : (g : List (List ℕ)) (order : List ℕ) → IsOrder g order → AreTargets g
 order_targets g order is d t j = by (cases_lt d (length g))
   where

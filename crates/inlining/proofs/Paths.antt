@@ -5,18 +5,18 @@ use Rattle.inlining.specs.Inlining.{targets_of, IsAmong, IsPath, IsAtMost}
 use Rattle.inlining.specs.Marks.{mark, marks_of}
 use Rattle.inlining.proofs.Marks.{mark-none, target_marked}
 
--- the path begins at a declaration
+-- the path begins at an instance
 pub first_of_path : (g : List (List ℕ)) (d : ℕ) (ds : List ℕ) → IsPath g (d ∷ ds) → d < length g
 first_of_path g d [] p = p
 first_of_path g d (e ∷ ds) p = p.0
 
--- one declaration more at the end
+-- one instance more at the end
 pub path_push : (g : List (List ℕ)) (ds : List ℕ) (d e : ℕ) → IsPath g (ds ++ d ∷ []) → e < length g → IsAmong e (targets_of g d) → IsPath g ((ds ++ d ∷ []) ++ e ∷ [])
 path_push g [] d e p h i = (p, i, h)
 path_push g (c ∷ []) d e p h i = (p.0, p.1, path_push g [] d e p.2 h i)
 path_push g (c ∷ b ∷ ds) d e p h i = (p.0, p.1, path_push g (b ∷ ds) d e p.2 h i)
 
--- a path that begins with what is marked has no more declarations than there were rounds
+-- a path that begins with what is marked has no more instances than there were rounds
 bounded : (g : List (List ℕ)) (n d : ℕ) (ds : List ℕ) → IsTrue (mark (marks_of g n) d) → IsPath g (d ∷ ds) → length (d ∷ ds) ≤ n
 bounded g zero d ds m p = absurd (false≢true (sym (mark-none g d) ∙ m))
 bounded g (suc n) d [] m p = omega arith

@@ -1,8 +1,8 @@
--- Marks of declarations, in rounds: each round marks those whose targets all were marked in the round before, so that a
--- declaration is marked in a round just if no inline path that begins with it has more declarations than there were rounds.
+-- Marks of instances, in rounds: each round marks those whose targets all were marked in the round before, so that an
+-- instance is marked in a round just if no inline path that begins with it has more instances than there were rounds.
 use Rattle.std.specs.Prelude.{◌≡◌, ◌<◌, ℕ, zero, suc, List, [], ◌∷◌, ◌++◌, length, map, Bool, true, false, not, ◌&&◌, cond, slice_index_or}
 
--- whether a declaration is marked
+-- whether an instance is marked
 abbrev pub mark : List Bool → ℕ → Bool
 mark marks d = slice_index_or marks d false
 
@@ -26,7 +26,7 @@ marks_of g (suc n) = next_marks g (marks_of g n)
 abbrev pub AreRounds : List (List ℕ) → List (List Bool) → Type 0
 AreRounds g rounds = (n : ℕ) → n < length rounds → slice_index_or rounds n [] ≡ marks_of g n
 
--- the first declarations that are marked and were not before
+-- the first instances that are marked and were not before
 abbrev pub new_marks : List Bool → List Bool → ℕ → List ℕ
 new_marks before marks zero = []
 new_marks before marks (suc n) = new_marks before marks n ++ cond (mark marks n && not (mark before n)) (n ∷ []) []

@@ -2,7 +2,7 @@
 
 ghost use Rattle.inlining.specs.Inlining.{OrdersStand};
 
-/// Each declaration of an order stands behind its targets, by its place.
+/// Each instance of an order stands behind its targets, by its place.
 pub fn orders_stand()
     ensures { OrdersStand }
 {}

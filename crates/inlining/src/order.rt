@@ -8,10 +8,10 @@ ghost use Rattle.inlining.specs.Marks.{mark, are_marked, no_marks, next_marks, m
 use std::alloc::{AllocError, Global};
 use texts::List;
 
-/// How deep declarations stand in each other's schemas.
+/// How deep instances stand in each other's schemas.
 #[derive(Debug, Drop)]
 pub enum Depth {
-    /// No inline path is longer than it may be: each declaration, once, behind those whose schemas stand in its own.
+    /// No inline path is longer than it may be: each instance, once, behind those whose schemas stand in its own.
     Within(List<usize>),
     /// An inline path that is longer by one than it may be.
     Beyond(List<usize>),
@@ -31,7 +31,7 @@ fn unmarked_target(targets: &[usize], marks: &[bool]) -> Option<usize>
     None
 }
 
-/// The first declaration that is not marked.
+/// The first instance that is not marked.
 fn unmarked(marks: &[bool]) -> Option<usize>
     ensures { MatchOption result
         ((d : ℕ) → d < length marks.now → IsTrue (mark marks.now d))
@@ -45,7 +45,7 @@ fn unmarked(marks: &[bool]) -> Option<usize>
     None
 }
 
-/// No marks, for each declaration.
+/// No marks, for each instance.
 fn no_marks(alloc: Global, targets: &[List<usize>]) -> Result<List<bool>, AllocError>
     ensures { IfOk result (λ marks. marks ≡ no_marks targets.now) }
 {
@@ -56,7 +56,7 @@ fn no_marks(alloc: Global, targets: &[List<usize>]) -> Result<List<bool>, AllocE
     Ok(marks)
 }
 
-/// The marks of the next round: of the declarations whose targets are all marked.
+/// The marks of the next round: of the instances whose targets are all marked.
 fn next_marks(
     alloc: Global,
     targets: &[List<usize>],
@@ -73,7 +73,7 @@ fn next_marks(
     Ok(next)
 }
 
-/// Adds the declarations that are marked and were not before.
+/// Adds the instances that are marked and were not before.
 fn push_marked(order: &mut List<usize>, before: &[bool], marks: &[bool]) -> Result<(), AllocError>
     requires { length before.now ≡ length marks.now }
     ensures { OnOk result
@@ -87,7 +87,7 @@ fn push_marked(order: &mut List<usize>, before: &[bool], marks: &[bool]) -> Resu
     Ok(())
 }
 
-/// An inline path that begins with a declaration that no round marked. It is longer by one than there were rounds.
+/// An inline path that begins with an instance that no round marked. It is longer by one than there were rounds.
 fn path_from(
     alloc: Global,
     targets: &[List<usize>],
@@ -117,9 +117,9 @@ fn path_from(
     Ok(path)
 }
 
-/// How deep declarations stand in each other's schemas, where each has its targets: the declarations whose schemas stand in
-/// its own, by their places. An inline path may have at most as many declarations as `most`. Each round goes over all
-/// targets, and there are no more rounds than `most`, nor than the longest inline path has declarations. It can only want
+/// How deep instances stand in each other's schemas, where each has its targets: the instances whose schemas stand in
+/// its own, by their places. An inline path may have at most as many instances as `most`. Each round goes over all
+/// targets, and there are no more rounds than `most`, nor than the longest inline path has instances. It can only want
 /// memory.
 pub fn inline_order(
     alloc: Global,

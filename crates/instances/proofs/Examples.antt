@@ -2,11 +2,11 @@
 use Rattle.std.proofs.Common.{ℕ, zero, suc, ◌<◌, List, [], ◌∷◌, Some, None, true, false, codes, ◌≡◌, refl, sym, subst, inl, inr, arith}
 use Rattle.open_types.specs.Open.{Open, Opens, any_value, free_object, param, named, no_types, more_types}
 use Rattle.open_types.specs.Instances.{StandsInOne}
-use Rattle.shapes.specs.Declarations.{named_fields, fields, DeclarationOf, no_remarks}
+use Rattle.shapes.specs.Declarations.{named_fields, fields, DeclarationOf, no_remarks, AreFitting}
 use Rattle.shapes.specs.Instances.{places_at}
 use Rattle.shapes.specs.InstanceShape.{IsRoot, IsReachable, root, stands}
 use Rattle.instances.specs.Lists.{IsOneOf, number_in, AreDifferent, AreInstances}
-use Rattle.instances.specs.Fitting.{AreFitting, IsFit, AreAllClosed}
+use Rattle.instances.specs.Fitting.{IsFit, AreAllClosed}
 use Rattle.instances.proofs.Lists.{whole-instances}
 
 abbrev a_struct : List ℕ → ℕ → Open → DeclarationOf

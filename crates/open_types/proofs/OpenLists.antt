@@ -1,7 +1,7 @@
 -- Lists of open types, by what they are.
-use Rattle.std.proofs.Common.{◌≡◌, ℕ, zero, suc, ◌<◌, ◌≤◌, List, [], ◌∷◌, ◌++◌, ◌+◌, length, get_or, drop, refl, ap, arith, add-one, drop-cons}
+use Rattle.std.proofs.Common.{◌≡◌, ℕ, zero, suc, ◌<◌, ◌≤◌, List, [], ◌∷◌, ◌++◌, ◌+◌, ◌-◌, length, get_or, drop, refl, ap, ◌∙◌, arith, add-one, drop-cons}
 use Rattle.std.proofs.lemmas.List.{drop_all}
-use Rattle.open_types.specs.Open.{Opens, no_types, more_types, open_view, opens_view, argument_at, substituted, all_substituted, AreClosed, IsClosed}
+use Rattle.open_types.specs.Open.{Opens, no_types, more_types, param, open_view, opens_view, argument_at, substituted, all_substituted, AreClosed, IsClosed}
 use Rattle.open_types.specs.declared.open_type.OpenType.{OpenType}
 
 abbrev pub append : Opens → Opens → Opens
@@ -12,6 +12,14 @@ pub argument_at-views : (ts : List OpenType) (n : ℕ) (d : OpenType) → n < le
 argument_at-views [] n d h = absurd (omega arith)
 argument_at-views (t ∷ ts) zero d h = refl
 argument_at-views (t ∷ ts) (suc n) d h = argument_at-views ts n d (omega arith)
+
+-- past the end the place is counted from there
+pub argument_at-past : (ts : List OpenType) (n : ℕ) → length ts ≤ n → argument_at (opens_view ts) n ≡ param (n - length ts)
+argument_at-past [] n h = let none : n ≡ n - 0 = omega arith in ap param none
+argument_at-past (t ∷ ts) zero h = absurd (omega arith)
+argument_at-past (t ∷ ts) (suc n) h =
+    let less : n - length ts ≡ suc n - suc (length ts) = omega arith in
+    argument_at-past ts n (omega arith) ∙ ap param less
 
 push_views : (ts : List OpenType) (t : OpenType) (us : Opens) → append (opens_view (ts ++ t ∷ [])) us ≡ append (opens_view ts) (more_types (open_view t) us)
 push_views [] t us = refl

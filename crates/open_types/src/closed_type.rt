@@ -77,12 +77,28 @@ pub fn substitute(
     Ok(ClosedType { ty })
 }
 
-fn argument(alloc: Global, arguments: &[ClosedType], place: usize) -> Result<OpenType, AllocError>
-    requires { place < length arguments.now }
-    ensures value { IfOk result (λ t. open_view t ≡ argument_at (opens_view arguments.now) place) }
-    ensures closed { IfOk result (λ t. IsClosed (open_view t)) }
+/// The type with the arguments put in the places of its first parameters. A parameter that has no argument stays, counted
+/// from the end of the arguments.
+pub fn substitute_first(
+    alloc: Global,
+    ty: &OpenType,
+    arguments: &[ClosedType],
+) -> Result<OpenType, AllocError>
+    ensures { IfOk result
+        (λ t. open_view t ≡ substituted (opens_view arguments.now) (open_view ty.now)) }
 {
-    arguments[place].as_open().copy(alloc)
+    substitute_type(alloc, ty, arguments)
+}
+
+fn argument(alloc: Global, arguments: &[ClosedType], place: usize) -> Result<OpenType, AllocError>
+    ensures value { IfOk result (λ t. open_view t ≡ argument_at (opens_view arguments.now) place) }
+    ensures closed { IfOk result (λ t. place < length arguments.now → IsClosed (open_view t)) }
+{
+    if place < arguments.len() {
+        arguments[place].as_open().copy(alloc)
+    } else {
+        Ok(OpenType::Param(place - arguments.len()))
+    }
 }
 
 #[cycle(substitute)]
@@ -91,10 +107,10 @@ fn substitute_type(
     ty: &OpenType,
     arguments: &[ClosedType],
 ) -> Result<OpenType, AllocError>
-    requires { IsOverFirst (length arguments.now) (open_view ty.now) }
     ensures value { IfOk result
         (λ t. open_view t ≡ substituted (opens_view arguments.now) (open_view ty.now)) }
-    ensures closed { IfOk result (λ t. IsClosed (open_view t)) }
+    ensures closed { IfOk result (λ t. IsOverFirst (length arguments.now) (open_view ty.now)
+        → IsClosed (open_view t)) }
 {
     match ty {
         OpenType::Leaf(leaf) => Ok(OpenType::Leaf(*leaf)),
@@ -140,10 +156,10 @@ fn substitute_types(
     types: &[OpenType],
     arguments: &[ClosedType],
 ) -> Result<List<OpenType>, AllocError>
-    requires { AreOverFirst (length arguments.now) (opens_view types.now) }
     ensures value { IfOk result
         (λ ts. opens_view ts ≡ all_substituted (opens_view arguments.now) (opens_view types.now)) }
-    ensures closed { IfOk result (λ ts. AreClosed (opens_view ts)) }
+    ensures closed { IfOk result (λ ts. AreOverFirst (length arguments.now) (opens_view types.now)
+        → AreClosed (opens_view ts)) }
 {
     let mut made = List::new(alloc);
     for ty in types {

@@ -2,4 +2,4 @@ pub mod Counted
 pub mod Stands
 pub mod Right
 pub mod Whole
-pub mod Within
+pub mod Over

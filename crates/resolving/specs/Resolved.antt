@@ -1,5 +1,5 @@
 -- What a written type stands for, and why it may stand for nothing.
-use Rattle.std.specs.Prelude.{◌≡◌, ◌<◌, ◌≤◌, ◌⊎◌, ℕ, List, [], ◌∷◌, ◌++◌, Bool, true, false, not, Option, Some, None, option_map, option_and_then, IsTrue, codes}
+use Rattle.std.specs.Prelude.{◌≡◌, ◌<◌, ◌≤◌, ℕ, List, [], ◌∷◌, ◌++◌, Bool, true, false, not, Option, Some, None, option_map, option_and_then, IsTrue, codes}
 use Rattle.texts.specs.Lists.{Somewhere}
 use Rattle.diag.specs.Refusal.{IsRefusal}
 use Rattle.diag.specs.declared.error.DeriveError.{DeriveError}
@@ -11,7 +11,7 @@ use Rattle.open_types.specs.declared.open_type.ListHead.{ListHead}
 use Rattle.open_types.specs.declared.open_type.ListHead.TheVariants as lists
 use Rattle.open_types.specs.Open.{Open, Opens}
 use Rattle.open_types.specs.Open as types
-use Rattle.open_types.specs.Within.{IsWithin}
+use Rattle.open_types.specs.Within.{IsOver}
 use Rattle.open_types.specs.declared.head.Head.{Head}
 use Rattle.open_types.specs.declared.head.Head.TheVariants as heads
 use Rattle.resolving.specs.declared.meaning.Meaning.{Meaning}
@@ -171,6 +171,7 @@ IsRefusedFor (too_large s) e = IsRefusal TypeSize s (codes "a type has more than
 abbrev pub ResolvedHaveNoFault : Type 0
 ResolvedHaveNoFault = (place_of : List ℕ → Option ℕ) (t : Written) (u : Open) → type_of place_of t ≡ Some u → size t ≤ most_names → (fault : Fault) → ¬ (IsFault place_of t fault)
 
--- The law: where each name's place is below n, each declaration that stands in a resolved type is one of the first n.
-abbrev pub ResolvedAreWithin : Type 0
-ResolvedAreWithin = (place_of : List ℕ → Option ℕ) (n : ℕ) → ((name : List ℕ) (d : ℕ) → place_of name ≡ Some d → d < n) → (t : Written) (u : Open) → type_of place_of t ≡ Some u → IsWithin n u
+-- The law: where each name's place is below n and its declaration has no parameters, a resolved type is over the first n declarations, and none has other arguments than it takes.
+abbrev pub ResolvedAreOver : Type 0
+ResolvedAreOver =
+    (place_of : List ℕ → Option ℕ) (n : ℕ) (parameters : ℕ → ℕ) (m : ℕ) → ((name : List ℕ) (d : ℕ) → place_of name ≡ Some d → (d < n) × (parameters d ≡ 0)) → (t : Written) (u : Open) → type_of place_of t ≡ Some u → IsOver n parameters m u

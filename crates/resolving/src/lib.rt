@@ -8,6 +8,6 @@ mod refusal;
 mod resolve;
 mod size;
 
-pub use law::{resolved_are_within, resolved_have_no_fault};
+pub use law::{resolved_are_over, resolved_have_no_fault};
 pub use meaning::Meaning;
 pub use resolve::{MAX_NAMES, resolve_type};

@@ -11,6 +11,7 @@ use Rattle.files.specs.Held.{IsMissing}
 use Rattle.configuration.specs.Configuration.{Configuration}
 use Rattle.shapes.specs.Declarations.{DeclarationOf}
 use Rattle.closing.specs.Described.{Describes}
+use Rattle.compose.specs.Bounds.{collects_all}
 use Rattle.reporting.specs.Beginning.{Beginning}
 use Rattle.schema_gen.specs.Given.{IsTold, Given, IsConfigured, IsMisconfigured, IsGiven, ResolvesTo}
 use Rattle.schema_gen.specs.Owed.{IsDocument, Owed}
@@ -27,7 +28,7 @@ SoundIsNotRefused = (c : Configuration) (source : List ℕ) (e : DeriveError) �
 
 -- the document of what is given describes what it is resolved to
 pub described : (begun : Beginning) (text : List ℕ) (old new : Option (List ℕ)) → IsDocument begun text → Appends old new text
-    → (given : Given) × (resolved : List DeclarationOf) × (doc : Json) × IsGiven begun given × ResolvesTo given resolved × Describes resolved doc × Appends old new (text_of doc)
+    → (given : Given) × (resolved : List DeclarationOf) × (doc : Json) × IsGiven begun given × ResolvesTo given resolved × Describes resolved (collects_all given.config.collect) doc × Appends old new (text_of doc)
 described begun text old new (given, is_given, of) grown = (
   given,
   of.made.resolved,

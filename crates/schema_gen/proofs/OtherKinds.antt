@@ -7,7 +7,7 @@ use Rattle.diag.specs.declared.diagnostics.DiangosticsInner.{DiangosticsInner}
 use Rattle.diag.specs.declared.error.DeriveError.{DeriveError}
 use Rattle.diag.specs.declared.error.DeriveError.TheVariants.{Refused, Memory}
 use Rattle.diag.specs.declared.kind.Kind.{Kind}
-use Rattle.diag.specs.declared.kind.Kind.TheVariants.{BadConfig, TooLong, TooDeep, Syntax, DuplicateName, UnknownType, Arity, TypeSize, TooManyInstances, InlineDepth, TooManyCopies, MissingRow, SerdeTag, TaggedTuple, BadValue}
+use Rattle.diag.specs.declared.kind.Kind.TheVariants.{BadConfig, TooLong, TooDeep, Syntax, DuplicateName, UnknownType, Arity, TypeSize, TooManyInstances, NameClash, InlineDepth, TooManyCopies, MissingRow, SerdeTag, TaggedTuple, BadValue}
 use Rattle.texts.specs.declared.span.Span.{Span}
 use Rattle.diag.specs.declared.rename_rule.RenameRule.{RenameRule}
 use Rattle.diag.specs.declared.rename_row.RenameRow.{RenameRow}
@@ -72,9 +72,11 @@ module _ (ds : List DiangosticsInner) (first : HasFirst ds (λ d. d.kind ≡ Bad
   nowhere P (x ∷ xs) none (inr there) = nowhere P xs none there
 
   unbounded : (c : Configuration) (items : List Ident) (resolved : List DeclarationOf) → IsUnbounded c items resolved (Refused ds) → ⊥
-  unbounded c items resolved (inl (many, somewhere)) = nowhere _ items (λ d is. other TooManyInstances _ _ (λ e. cc) is) somewhere
-  unbounded c items resolved (inr (inl (few, (path, is_path, long, somewhere)))) = nowhere _ items (λ d is. other_of InlineDepth _ _ _ (λ e. cc) is.1) somewhere
-  unbounded c items resolved (inr (inr (few, shallow, (many, is)))) = other TooManyCopies _ _ (λ e. cc) is
+  unbounded c items resolved (inl (crowded, (t, reachable, (span, at, is)))) = other TooManyInstances _ _ (λ e. cc) is
+  unbounded c items resolved (inr (inl (t, reachable, large, (span, at, is)))) = other TypeSize _ _ (λ e. cc) is
+  unbounded c items resolved (inr (inr (instances, reached, inl (t, u, r, s, differ, name, order, (span, at, is))))) = other_of NameClash _ _ _ (λ e. cc) is
+  unbounded c items resolved (inr (inr (instances, reached, inr (names, inl (t, path, r, p, long, (span, at, is)))))) = other_of InlineDepth _ _ _ (λ e. cc) is
+  unbounded c items resolved (inr (inr (instances, reached, inr (names, inr (shallow, (ts, shown, many, is)))))) = other TooManyCopies _ _ (λ e. cc) is
 
   rowless : (place : RenamePlace) (rows : List RenameRow) (rule : Option RenameRule) (value : SerdeValue) (x : Ident) → IsUnwritten place rows rule value x (Refused ds) → ⊥
   rowless place rows None value x h = h

@@ -11,6 +11,7 @@ pub use Rattle.compose.specs.Faults
 pub use Rattle.configuration.specs.Configuration
 pub use Rattle.configuration.specs.Form
 pub use Rattle.shapes.specs.Declarations
+pub use Rattle.shapes.specs.InstanceShape
 pub use Rattle.shapes.specs.Plain
 pub use Rattle.shapes.specs.Shape
 pub use Rattle.derive_decl.specs.Resolved as ResolvedDeclarations
@@ -21,7 +22,11 @@ pub use Rattle.texts.specs.Span
 pub use Rattle.files.specs.Faults as FileFaults
 pub use Rattle.files.specs.Held
 pub use Rattle.files.specs.Memory as FileMemory
-pub use Rattle.closing.specs.Targets
+pub use Rattle.closing.specs.Copies
+pub use Rattle.closing.specs.Links
+pub use Rattle.instances.specs.Lists as Instances
+pub use Rattle.instances.specs.Names as InstanceNames
+pub use Rattle.instances.specs.Walk
 pub use Rattle.inlining.specs.Inlining
 pub use Rattle.compose.specs.Bounds
 pub use Rattle.reporting.specs.Beginning

@@ -3,6 +3,7 @@ use Rattle.std.specs.Prelude.{◌≡◌, ℕ, List, [], Some, codes}
 use Rattle.schema_core.specs.Document.{Entry, document, text_of}
 use Rattle.configuration.specs.Configuration.{Configuration}
 use Rattle.closing.specs.Described.{Describes}
+use Rattle.compose.specs.Bounds.{collects_all}
 use Rattle.compose.specs.Faults.{IsDerived}
 use Rattle.reporting.specs.Beginning.{Beginning}
 use Rattle.reporting.specs.Bytes.{IsText}
@@ -20,7 +21,7 @@ pub record IsDocumentOf (c : Configuration) (source text : List ℕ) : Type 0 wh
   pub is_text : IsText source
   pub components : List Entry
   pub made : IsDerived c source components
-  pub describes : Describes made.resolved (document components)
+  pub describes : Describes made.resolved (collects_all c.collect) (document components)
   pub text_is : text ≡ text_of (document components)
 
 -- the text is that of the document of what is given

@@ -8,7 +8,6 @@ use Rattle.diag.specs.declared.kind.Kind.{Kind}
 use Rattle.texts.specs.declared.span.Span.{Span}
 use Rattle.syntax.specs.Items.{DeclaredItem}
 use Rattle.syntax.specs.Source.{Reads, NestsTooDeep}
-use Rattle.scopes.specs.Names.{declared_idents}
 use Rattle.configuration.specs.Configuration.{Configuration}
 use Rattle.configuration.specs.Form.{IsBadConfig}
 use Rattle.shapes.specs.Declarations.{DeclarationOf}
@@ -38,7 +37,7 @@ pub record IsSound (c : Configuration) (bytes : List ℕ) : Type 0 where
   pub clear : AreClear c.renames declarations
   pub bounded : (resolved : List DeclarationOf)
       → resolved_declarations c.renames declarations ≡ Some resolved
-      → AreBounded c (declared_idents declarations) resolved
+      → AreBounded c resolved
 
 -- ---- the causes of a run's refusal
 

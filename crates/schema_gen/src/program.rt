@@ -9,6 +9,7 @@ ghost use Rattle.configuration.specs.Configuration.{Configuration};
 ghost use Rattle.files.specs.Held.{IsMissing};
 ghost use Rattle.shapes.specs.Declarations.{DeclarationOf};
 ghost use Rattle.closing.specs.Described.{Describes};
+ghost use Rattle.compose.specs.Bounds.{collects_all};
 ghost use Rattle.reporting.specs.Beginning.{beginning_of};
 ghost use Rattle.reporting.specs.declared.status.Status.{Status as AnyStatus};
 ghost use Rattle.schema_gen.specs.Given.{Given as AnyGiven, IsGiven, IsTold, IsConfigured, IsMisconfigured, ResolvesTo};
@@ -42,12 +43,13 @@ pub fn run<S: Source, F: Files, O: Sink, E: Sink>(
     err: &mut E,
 ) -> Status
     // The bytes that were written are one document. It describes the declarations that the source
-    // is resolved to: each has its component, and so has each reference, and the component of a
-    // plain declaration accepts exactly the JSON that has its shape.
+    // is resolved to: each root has its component, and so has each reference, there are no others,
+    // and the component of a plain instance accepts exactly the JSON that has its shape.
     ensures done { result ≡ Status.Done
         → (given : AnyGiven) × (resolved : List DeclarationOf) × (document : Json)
         × IsGiven (beginning_of S.Source F.Files words.now input.old files.old) given
-        × ResolvesTo given resolved × Describes resolved document
+        × ResolvesTo given resolved
+        × Describes resolved (collects_all given.config.collect) document
         × Appends (O.written out.old) (O.written out.new) (text_of document) }
     // The document is that of the source's components, without others, and no condition of a
     // refusal holds.

@@ -1,4 +1,3 @@
-pub mod Closed
 pub mod Declared
 pub mod PlaceLaws
 pub mod TextLaws

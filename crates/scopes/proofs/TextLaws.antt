@@ -1,16 +1,22 @@
 -- Names at places, ends of tuples and arguments, by what the program's lists are.
-use Rattle.std.proofs.Common.{◌≡◌, ◌≢◌, ℕ, zero, suc, ◌<◌, List, [], ◌∷◌, ◌++◌, length, map, get_or, codes, false, ◌==◌, refl, arith, append_assoc}
+use Rattle.std.proofs.Common.{◌≡◌, ◌≢◌, ℕ, zero, suc, ◌<◌, ◌≤◌, List, [], ◌∷◌, ◌++◌, length, map, get_or, codes, false, ◌==◌, refl, ap, sym, arith, append_assoc}
 use Rattle.std.proofs.lemmas.Bool.{false≢true}
 use Rattle.open_types.specs.declared.open_type.OpenType.{OpenType}
 use Rattle.open_types.specs.Open.{opens_view}
-use Rattle.syntax.specs.declared.item.Declaration.{Declaration}
-use Rattle.syntax.specs.Items.{declaration_view}
+use Rattle.written_types.specs.declared.written.Ident.{Ident}
 use Rattle.scopes.specs.Texts.{name_at, applied_to, tuple_end}
 
-pub name_at-view : (ds : List Declaration) (i : ℕ) (d : Declaration) → i < length (map declaration_view ds) → name_at (map declaration_view ds) i ≡ (get_or ds i d).ident.text
-name_at-view [] i d h = absurd (omega arith)
-name_at-view (x ∷ ds) zero d h = refl
-name_at-view (x ∷ ds) (suc i) d h = name_at-view ds i d (omega arith)
+-- the name of an item that is there
+pub name_at-item : {A : Type 0} (f : A → Ident) (items : List A) (i : ℕ) (x : A) → i < length items → x ≡ get_or items i x → name_at (map f items) i ≡ (f x).text
+name_at-item f [] i x h is = absurd (omega arith)
+name_at-item f (y ∷ items) zero x h is = ap (λ z. (f z).text) (sym is)
+name_at-item f (y ∷ items) (suc i) x h is = name_at-item f items i x (omega arith) is
+
+-- past the end there is no name
+pub name_at-end : {A : Type 0} (f : A → Ident) (items : List A) (i : ℕ) → length items ≤ i → name_at (map f items) i ≡ []
+name_at-end f [] i h = refl
+name_at-end f (y ∷ items) zero h = absurd (omega arith)
+name_at-end f (y ∷ items) (suc i) h = name_at-end f items i (omega arith)
 
 pub one_end : (ts : List OpenType) → length ts ≡ 1 → tuple_end (opens_view ts) ≡ codes ",)"
 one_end [] h = absurd (omega arith)

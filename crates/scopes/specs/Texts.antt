@@ -3,15 +3,15 @@ use Rattle.std.specs.Prelude.{ℕ, zero, suc, List, [], ◌∷◌, ◌++◌, cod
 use Rattle.leaves.specs.Leaves.{name_of}
 use Rattle.open_types.specs.Heads.{list_name, set_name, map_name, through_name}
 use Rattle.open_types.specs.Open.{Open, Opens, leaf, any_value, free_object, unit, tuple, items, set, map_of, option, through, param, named, no_types, more_types}
-use Rattle.syntax.specs.Items.{DeclaredItem}
+use Rattle.written_types.specs.declared.written.Ident.{Ident}
 
 -- ---- names
 
--- the name of the declaration at a place; past the end, none
-abbrev pub name_at : List DeclaredItem → ℕ → List ℕ
+-- the name at a place; past the end, none
+abbrev pub name_at : List Ident → ℕ → List ℕ
 name_at [] d = []
-name_at (x ∷ ds) zero = x.ident.text
-name_at (x ∷ ds) (suc d) = name_at ds d
+name_at (x ∷ xs) zero = x.text
+name_at (x ∷ xs) (suc d) = name_at xs d
 
 -- ---- types
 
@@ -36,22 +36,22 @@ separator zero = []
 separator (suc at) = codes ", "
 
 abbrev mutual
-  -- a parameter has no text: a closed type has none
-  pub type_text : List DeclaredItem → Open → List ℕ
-  type_text ds (leaf x) = name_of x
-  type_text ds any_value = codes "Value"
-  type_text ds free_object = codes "Object"
-  type_text ds unit = codes "()"
-  type_text ds (tuple ts) = codes "(" ++ (texts_from ds 0 ts ++ tuple_end ts)
-  type_text ds (items h t) = applied (list_name h) (type_text ds t)
-  type_text ds (set h t) = applied (set_name h) (type_text ds t)
-  type_text ds (map_of h k t) = applied (map_name h) (type_text ds k ++ (codes ", " ++ type_text ds t))
-  type_text ds (option t) = applied (codes "Option") (type_text ds t)
-  type_text ds (through h t) = applied (through_name h) (type_text ds t)
-  type_text ds (param i) = []
-  type_text ds (named d ts) = applied_to (name_at ds d) ts (texts_from ds 0 ts)
+  -- where the places have these names; a parameter has no text: a closed type has none
+  pub type_text : (ℕ → List ℕ) → Open → List ℕ
+  type_text names (leaf x) = name_of x
+  type_text names any_value = codes "Value"
+  type_text names free_object = codes "Object"
+  type_text names unit = codes "()"
+  type_text names (tuple ts) = codes "(" ++ (texts_from names 0 ts ++ tuple_end ts)
+  type_text names (items h t) = applied (list_name h) (type_text names t)
+  type_text names (set h t) = applied (set_name h) (type_text names t)
+  type_text names (map_of h k t) = applied (map_name h) (type_text names k ++ (codes ", " ++ type_text names t))
+  type_text names (option t) = applied (codes "Option") (type_text names t)
+  type_text names (through h t) = applied (through_name h) (type_text names t)
+  type_text names (param i) = []
+  type_text names (named d ts) = applied_to (names d) ts (texts_from names 0 ts)
 
   -- the types from a place on, with `, ` between them
-  pub texts_from : List DeclaredItem → ℕ → Opens → List ℕ
-  texts_from ds at no_types = []
-  texts_from ds at (more_types t ts) = separator at ++ (type_text ds t ++ texts_from ds (suc at) ts)
+  pub texts_from : (ℕ → List ℕ) → ℕ → Opens → List ℕ
+  texts_from names at no_types = []
+  texts_from names at (more_types t ts) = separator at ++ (type_text names t ++ texts_from names (suc at) ts)

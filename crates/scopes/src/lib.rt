@@ -13,4 +13,4 @@ pub use names::{
     Named, declared_places, duplicate_name, first_places, names_repeat_or_not, places_of,
 };
 pub use scope::{Places, Scope};
-pub use text::type_text;
+pub use text::{text_of_type, type_text};

@@ -3,8 +3,8 @@
 ghost use Rattle.std.specs.Prelude.{◌≡◌, IfOk, Some, length};
 ghost use Rattle.diag.specs.Refusal.{Refuses};
 ghost use Rattle.written_types.specs.Written.{written_view};
-ghost use Rattle.open_types.specs.Open.{open_view, IsClosed};
-ghost use Rattle.open_types.specs.Within.{IsWithin};
+ghost use Rattle.open_types.specs.Open.{open_view};
+ghost use Rattle.open_types.specs.Within.{IsOver};
 ghost use Rattle.resolving.specs.Resolved.{type_of, Fault as AnyFault, IsFault, IsRefusedFor};
 ghost use Rattle.scopes.specs.Names.{place_among};
 ghost use Rattle.scopes.specs.Scopes.{declared_in};
@@ -13,7 +13,7 @@ use crate::scope::Scope;
 use configuration::Config;
 use diag::DeriveError;
 use open_types::OpenType;
-use resolving::{resolve_type, resolved_are_within, resolved_have_no_fault};
+use resolving::{resolve_type, resolved_are_over, resolved_have_no_fault};
 use std::alloc::Global;
 use written_types::WrittenType;
 
@@ -31,13 +31,13 @@ pub fn resolve(
         ≡ Some (open_view t)) }
     ensures faultless { IfOk result (λ _. (fault : AnyFault)
         → ¬ IsFault (place_among (declared_in scope.now)) (written_view ty.now) fault) }
-    ensures within { IfOk result (λ t. IsWithin (length (declared_in scope.now)) (open_view t)) }
-    ensures closed { IfOk result (λ t. IsClosed (open_view t)) }
+    ensures over { IfOk result
+        (λ t. IsOver (length (declared_in scope.now)) (λ _. 0) 0 (open_view t)) }
     ensures refused { Refuses result (λ e. (fault : AnyFault)
         × IsFault (place_among (declared_in scope.now)) (written_view ty.now) fault
         × IsRefusedFor fault e) }
 {
-    resolved_are_within();
+    resolved_are_over();
     resolved_have_no_fault();
     resolve_type(alloc, &scope.places.by_name, ty)
 }

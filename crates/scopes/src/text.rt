@@ -1,37 +1,50 @@
 //! How resolved types read.
 
-ghost use Rattle.std.specs.Prelude.{◌≡◌, ◌<◌, ◌++◌, codes, length, IfOk, OnOk};
+ghost use Rattle.std.specs.Prelude.{◌≡◌, ◌++◌, codes, map, IfOk, OnOk};
 ghost use Rattle.open_types.specs.Open.{open_view, opens_view};
-ghost use Rattle.open_types.specs.Within.{IsWithin, AreWithin};
 ghost use Rattle.syntax.specs.Items.{declarations_view};
+ghost use Rattle.scopes.specs.Names.{declared_idents};
 ghost use Rattle.scopes.specs.Texts.{name_at, applied, applied_to, tuple_end, separator, type_text, texts_from};
 
+use crate::names::Named;
 use open_types::{ClosedType, OpenType};
 use std::alloc::{AllocError, Global};
 use syntax::Declarations;
 use texts::Text;
 
-/// How the type reads, as `Page<Vec<User>>`, where the declarations have the names of its places.
+/// How the type reads, as `Page<Vec<User>>`, where the declarations have the names of its places. A place past the end has
+/// no name.
 pub fn type_text(
     alloc: Global,
     declarations: &Declarations,
     ty: &ClosedType,
 ) -> Result<Text, AllocError>
-    requires { IsWithin (length (declarations_view declarations.now)) (open_view ty.now) }
     ensures { IfOk result
-        (λ text. text ≡ type_text (declarations_view declarations.now) (open_view ty.now)) }
+        (λ text. text ≡ type_text (name_at (declared_idents (declarations_view declarations.now)))
+        (open_view ty.now)) }
+{
+    text_of_type(alloc, declarations.items.as_slice(), ty.as_open())
+}
+
+/// How the type reads, where the items have the names of its places. A parameter has no text, nor has a place past the end
+/// a name.
+pub fn text_of_type<T: Named>(alloc: Global, items: &[T], ty: &OpenType) -> Result<Text, AllocError>
+    ensures { IfOk result
+        (λ text. text ≡ type_text (name_at (map T.ident_of items.now)) (open_view ty.now)) }
 {
     let mut text = Text::new(alloc, "")?;
-    push_type(&mut text, declarations, ty.as_open())?;
+    push_type(&mut text, items, ty)?;
     Ok(text)
 }
 
-/// The name of the declaration at the place.
-fn name_at(declarations: &Declarations, place: usize) -> &str
-    requires { place < length (declarations_view declarations.now) }
-    ensures { result.now ≡ name_at (declarations_view declarations.now) place }
+/// The name at the place; past the end, none.
+fn name_at<T: Named>(items: &[T], place: usize) -> &str
+    ensures { result.now ≡ name_at (map T.ident_of items.now) place }
 {
-    declarations.items.as_slice()[place].ident.text.as_str()
+    match items.get(place) {
+        Some(item) => item.ident().text.as_str(),
+        None => "",
+    }
 }
 
 /// What ends a tuple of these items.
@@ -52,114 +65,101 @@ fn push_opening(text: &mut Text, name: &str) -> Result<(), AllocError>
 
 /// Adds the type at the end of the text.
 #[cycle(text)]
-pub(crate) fn push_type(
+pub(crate) fn push_type<T: Named>(
     text: &mut Text,
-    declarations: &Declarations,
+    names: &[T],
     ty: &OpenType,
 ) -> Result<(), AllocError>
-    requires { IsWithin (length (declarations_view declarations.now)) (open_view ty.now) }
     ensures { OnOk result
-        (text.new ≡ text.old ++ type_text (declarations_view declarations.now) (open_view ty.now)) }
+        (text.new ≡ text.old ++ type_text (name_at (map T.ident_of names.now)) (open_view ty.now)) }
 {
     match ty {
         OpenType::Leaf(leaf) => text.push(leaf.name()),
         OpenType::AnyValue => text.push("Value"),
         OpenType::FreeObject => text.push("Object"),
         OpenType::Unit => text.push("()"),
-        OpenType::Tuple(items) => push_tuple(text, declarations, items.as_slice()),
-        OpenType::Items(head, of) => push_applied(text, declarations, head.name(), of),
-        OpenType::Set(head, of) => push_applied(text, declarations, head.name(), of),
+        OpenType::Tuple(items) => push_tuple(text, names, items.as_slice()),
+        OpenType::Items(head, of) => push_applied(text, names, head.name(), of),
+        OpenType::Set(head, of) => push_applied(text, names, head.name(), of),
         OpenType::Map(head, key, of) => {
             push_opening(text, head.name())?;
-            push_type(text, declarations, key)?;
+            push_type(text, names, key)?;
             text.push(", ")?;
-            push_type(text, declarations, of)?;
+            push_type(text, names, of)?;
             text.push(">")
         }
-        OpenType::Option(of) => push_applied(text, declarations, "Option", of),
-        OpenType::Through(head, of) => push_applied(text, declarations, head.name(), of),
+        OpenType::Option(of) => push_applied(text, names, "Option", of),
+        OpenType::Through(head, of) => push_applied(text, names, head.name(), of),
         OpenType::Param(_) => Ok(()),
         OpenType::Named(place, arguments) => {
-            text.push(name_at(declarations, *place))?;
-            push_arguments(text, declarations, arguments.as_slice())
+            text.push(name_at(names, *place))?;
+            push_arguments(text, names, arguments.as_slice())
         }
     }
 }
 
 #[cycle(text)]
-fn push_tuple(
-    text: &mut Text,
-    declarations: &Declarations,
-    items: &[OpenType],
-) -> Result<(), AllocError>
-    requires { AreWithin (length (declarations_view declarations.now)) (opens_view items.now) }
+fn push_tuple<T: Named>(text: &mut Text, names: &[T], items: &[OpenType]) -> Result<(), AllocError>
     ensures { OnOk result
         (text.new
         ≡ text.old
         ++ (codes
-        "(" ++ (texts_from (declarations_view declarations.now) 0 (opens_view items.now)
+        "(" ++ (texts_from (name_at (map T.ident_of names.now)) 0 (opens_view items.now)
         ++ tuple_end (opens_view items.now)))) }
 {
     text.push("(")?;
-    push_types(text, declarations, items)?;
+    push_types(text, names, items)?;
     text.push(tuple_end(items))
 }
 
 /// Adds a name with one argument.
 #[cycle(text)]
-fn push_applied(
+fn push_applied<T: Named>(
     text: &mut Text,
-    declarations: &Declarations,
+    names: &[T],
     name: &str,
     of: &OpenType,
 ) -> Result<(), AllocError>
-    requires { IsWithin (length (declarations_view declarations.now)) (open_view of.now) }
     ensures { OnOk result
         (text.new
         ≡ text.old ++ applied name.now
-        (type_text (declarations_view declarations.now) (open_view of.now))) }
+        (type_text (name_at (map T.ident_of names.now)) (open_view of.now))) }
 {
     push_opening(text, name)?;
-    push_type(text, declarations, of)?;
+    push_type(text, names, of)?;
     text.push(">")
 }
 
 /// Adds the arguments, if any, to a name that stands at the end.
 #[cycle(text)]
-fn push_arguments(
+fn push_arguments<T: Named>(
     text: &mut Text,
-    declarations: &Declarations,
+    names: &[T],
     arguments: &[OpenType],
 ) -> Result<(), AllocError>
-    requires { AreWithin (length (declarations_view declarations.now)) (opens_view arguments.now) }
     ensures { OnOk result
         (text.new
         ≡ applied_to text.old (opens_view arguments.now)
-        (texts_from (declarations_view declarations.now) 0 (opens_view arguments.now))) }
+        (texts_from (name_at (map T.ident_of names.now)) 0 (opens_view arguments.now))) }
 {
     if arguments.is_empty() {
         return Ok(());
     }
     text.push("<")?;
-    push_types(text, declarations, arguments)?;
+    push_types(text, names, arguments)?;
     text.push(">")
 }
 
 /// Adds the types, with `, ` between them.
 #[cycle(text)]
-fn push_types(
-    text: &mut Text,
-    declarations: &Declarations,
-    types: &[OpenType],
-) -> Result<(), AllocError>
-    requires { AreWithin (length (declarations_view declarations.now)) (opens_view types.now) }
+fn push_types<T: Named>(text: &mut Text, names: &[T], types: &[OpenType]) -> Result<(), AllocError>
     ensures { OnOk result
-        (text.new ≡ text.old ++ texts_from (declarations_view declarations.now) 0
+        (text.new ≡ text.old ++ texts_from (name_at (map T.ident_of names.now)) 0
         (opens_view types.now)) }
 {
     for (at, ty) in types.iter().enumerate() {
         push_separator(text, at)?;
-        push_type(text, declarations, ty)?;
+        push_type(text, names, ty)?;
     }
     Ok(())
 }

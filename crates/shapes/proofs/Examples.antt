@@ -14,7 +14,7 @@ use Rattle.shapes.specs.Declarations.{MemberOf, named_fields, unnamed_fields, no
 use Rattle.shapes.specs.Terms.{object_of, list_of_length, term}
 use Rattle.shapes.specs.Instances.{declared_by, places_at, instance_term}
 use Rattle.shapes.specs.InstanceNames.{instance_name}
-use Rattle.shapes.specs.InstanceShape.{instance_shape}
+use Rattle.shapes.specs.InstanceShape.{shape}
 use Rattle.shapes.specs.Meaning.{leaf_shape}
 
 abbrev pub a_member : List ℕ → Bool → Open → MemberOf
@@ -48,7 +48,7 @@ n_source = a_struct (codes "N") 1 (a_member (codes "v") false (option (param 0))
 n_is : (instance_name n_source at_option ≡ codes "N_Option_i32") × (parameters_in n_source 0 ≡ 1) × (places_at n_source at_i32 ≡ option (leaf I32) ∷ [])
 n_is = (refl, refl, refl)
 
-n_shape : (instance_shape n_source 1 at_i32 empty ≡ true) × (instance_shape n_source 1 at_i32 (with_v null) ≡ true) × (instance_shape n_source 1 at_i32 (with_v (text [])) ≡ false)
+n_shape : (shape n_source 1 at_i32 empty ≡ true) × (shape n_source 1 at_i32 (with_v null) ≡ true) × (shape n_source 1 at_i32 (with_v (text [])) ≡ false)
 n_shape = (refl, refl, refl)
 
 n_term : instance_term n_source at_option ≡ object_of no_notes false [] (property (codes "v") (one_of_null no_notes (leaf_object true no_notes I32)) no_properties)
@@ -61,7 +61,7 @@ null_twice says = (refl, refl)
 abbrev s_source : List DeclarationOf
 s_source = a_struct (codes "S") 1 (a_member (codes "v") true (param 0) ∷ []) ∷ []
 
-s_shape : (instance_shape s_source 1 at_option (with_v null) ≡ true) × (instance_shape s_source 1 at_option empty ≡ false)
+s_shape : (shape s_source 1 at_option (with_v null) ≡ true) × (shape s_source 1 at_option empty ≡ false)
 s_shape = (refl, refl)
 
 s_accepts : (says : LeafOf → Json → Bool) → (tree_accepts says (instance_term s_source at_option) (with_v null) ≡ true) × (tree_accepts says (instance_term s_source at_option) empty ≡ false)
@@ -106,10 +106,10 @@ tag_only name = map (member (codes "t") (text name) no_members)
 abbrev e_u : Open
 e_u = named 0 (one (named 1 no_types))
 
-e_shape : (instance_shape tagged 2 e_u (told (codes "A")) ≡ true) × (instance_shape tagged 2 e_u (tag_only (codes "A")) ≡ false) × (instance_shape tagged 2 e_u (tag_only (codes "C")) ≡ true)
+e_shape : (shape tagged 2 e_u (told (codes "A")) ≡ true) × (shape tagged 2 e_u (tag_only (codes "A")) ≡ false) × (shape tagged 2 e_u (tag_only (codes "C")) ≡ true)
 e_shape = (refl, refl, refl)
 
-e_accepts : (tree_accepts (leaf_shape (instance_shape tagged 1)) (instance_term tagged e_u) (told (codes "A")) ≡ true) × (tree_accepts (leaf_shape (instance_shape tagged 1)) (instance_term tagged e_u) (tag_only (codes "A")) ≡ false)
+e_accepts : (tree_accepts (leaf_shape (shape tagged 1)) (instance_term tagged e_u) (told (codes "A")) ≡ true) × (tree_accepts (leaf_shape (shape tagged 1)) (instance_term tagged e_u) (tag_only (codes "A")) ≡ false)
 e_accepts = (refl, refl)
 
 root_term : instance_term tagged (named 1 no_types) ≡ term (declared_by tagged (named 1 no_types))

@@ -11,7 +11,7 @@ use Rattle.component.specs.Leaves as leaves
 use Rattle.shapes.specs.Declarations.{DeclarationOf}
 use Rattle.shapes.specs.Plain.{IsPlainType}
 use Rattle.shapes.specs.Instances.{places_at, with_arguments}
-use Rattle.shapes.specs.InstanceShape.{instance_shape, HasInstanceShape, Reaches, itself, through_place, IsPlainInstance, IsRoot, IsReachable, root, stands}
+use Rattle.shapes.specs.InstanceShape.{shape, HasShape, Reaches, itself, through_place, IsPlain, IsRoot, IsReachable, root, stands}
 use Rattle.shapes.specs.Meaning.{leaf_shape}
 use Rattle.shapes.proofs.Examples.{a_member, a_struct, one}
 
@@ -34,10 +34,10 @@ a_tree kids = map (member (codes "v") (number (pos 1)) (member (codes "kids") ki
 abbrev two_deep : Json
 two_deep = a_tree (list (item (a_tree (list no_items)) no_items))
 
-one_step : instance_shape trees 1 tree_i32 two_deep ≡ false
+one_step : shape trees 1 tree_i32 two_deep ≡ false
 one_step = refl
 
-two_steps : HasInstanceShape trees tree_i32 two_deep
+two_steps : HasShape trees tree_i32 two_deep
 two_steps = (2, refl)
 
 -- struct Ph<T> { a: bool } at f32: no float is in its places, so it is plain; a place of it is not
@@ -50,7 +50,7 @@ ph_f32 = named 0 (one (leaf F32))
 ph_places : places_at phantoms ph_f32 ≡ leaf BoolLeaf ∷ []
 ph_places = refl
 
-ph_plain : IsPlainInstance phantoms ph_f32
+ph_plain : IsPlain phantoms ph_f32
 ph_plain u (itself t) = ((λ e. cc), tt)
 ph_plain u (through_place t w v (inl s) r) = absurd s
 ph_plain u (through_place t w v (inr s) r) = absurd s

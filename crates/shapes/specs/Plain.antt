@@ -7,31 +7,6 @@ use Rattle.shapes.specs.Declarations.{FormOf, named_fields, unnamed_fields, no_f
 use Rattle.shapes.specs.declared.tagging.Tagging.{Tagging}
 use Rattle.shapes.specs.declared.tagging.Tagging.TheVariants.{External, Internal, Untagged}
 
--- the declaration stands in the type, of a source without type parameters
-abbrev mutual
-  pub StandsIn : ℕ → Open → Type 0
-  StandsIn e (leaf x) = ⊥
-  StandsIn e any_value = ⊥
-  StandsIn e free_object = ⊥
-  StandsIn e unit = ⊥
-  StandsIn e (tuple ts) = StandsAmong e ts
-  StandsIn e (items h t) = StandsIn e t
-  StandsIn e (set h t) = StandsIn e t
-  StandsIn e (map_of h k t) = StandsIn e k ⊎ StandsIn e t
-  StandsIn e (option t) = StandsIn e t
-  StandsIn e (through h t) = StandsIn e t
-  StandsIn e (param i) = ⊥
-  StandsIn e (named d ts) = (e ≡ d) ⊎ StandsAmong e ts
-
-  pub StandsAmong : ℕ → Opens → Type 0
-  StandsAmong e no_types = ⊥
-  StandsAmong e (more_types t ts) = StandsIn e t ⊎ StandsAmong e ts
-
--- the declaration stands in one of the types
-abbrev pub StandsInOne : ℕ → List Open → Type 0
-StandsInOne e [] = ⊥
-StandsInOne e (t ∷ ts) = StandsIn e t ⊎ StandsInOne e ts
-
 -- an enum of which each value is the name of a variant
 abbrev pub IsNames : BodyOf → Type 0
 IsNames (units External names) = Unit {0}
@@ -113,14 +88,3 @@ abbrev pub IsPlainBody : List DeclarationOf → BodyOf → Type 0
 IsPlainBody ss (fields form) = IsPlainForm ss form
 IsPlainBody ss (units tagging names) = KeepsVariant tagging names
 IsPlainBody ss (variants tagging xs) = KeepsVariant tagging xs × ArePlainVariants ss tagging xs
-
--- ---- declarations of a source without type parameters
-
--- places lead from one declaration to another, or to itself
-pub data Reaches (ss : List DeclarationOf) : ℕ → ℕ → Type 0 where
-  itself : (d : ℕ) → Reaches ss d d
-  through_place : (d e f : ℕ) → StandsInOne e (body_types (declaration_at ss d).body) → Reaches ss e f → Reaches ss d f
-
--- the declaration and each that its places reach have plain bodies
-abbrev pub IsPlain : List DeclarationOf → ℕ → Type 0
-IsPlain ss d = (e : ℕ) → Reaches ss d e → IsPlainBody ss (declaration_at ss e).body

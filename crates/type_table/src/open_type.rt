@@ -70,11 +70,10 @@ fn open_types(types: &Types, alloc: Global, tuple: TypeId) -> Result<List<OpenTy
     requires tuple { IsTuple (type_at types.now tuple) }
     ensures { IfOk result (λ items. opens_view items ≡ items_of (type_at types.now tuple)) }
 {
+    let numbers = types.items(alloc, tuple)?;
     let mut items = List::new(alloc);
-    let mut rest = tuple;
-    while let Node::Item(first, behind) = types.node(rest) {
-        items.push(open_type(types, alloc, first)?)?;
-        rest = behind;
+    for number in numbers.as_slice() {
+        items.push(open_type(types, alloc, *number)?)?;
     }
     Ok(items)
 }

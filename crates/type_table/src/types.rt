@@ -1,15 +1,16 @@
 //! The table: its types, their numbers, their parts and their sizes.
 
 ghost use Rattle.std.specs.Prelude.{◌≡◌, ◌<◌, [], length, IfOk, None, map};
-ghost use Rattle.open_types.specs.Instances.{list_size, type_size};
-ghost use Rattle.type_table.specs.Nodes.{node_type, node_parts, HasParts};
-ghost use Rattle.type_table.specs.Types.{type_at, IsFront, AllBelow, IsFound, declaration_of, in_word, parts_of, numbers_in, AreDistinctTypes};
+ghost use Rattle.open_types.specs.Instances.{arguments_of, list_size, type_size};
+ghost use Rattle.type_table.specs.Nodes.{items_of, node_type, node_parts, HasParts, IsTuple};
+ghost use Rattle.type_table.specs.Types.{type_at, types_at, IsFront, AllBelow, IsFound, declaration_of, in_word, parts_of, numbers_in, AreDistinctTypes};
 
 use crate::node::{Key, Node};
 use open_types::ListHead;
 use std::alloc::{AllocError, Global};
 use std::collections::BTreeMap;
 use std::marker::Model;
+use texts::List;
 
 /// The number of a type in a table. Of one table, equal numbers are those of equal types, and the reverse.
 #[derive(Clone, Copy, Debug, PartialEq, Eq)]
@@ -122,6 +123,22 @@ impl Types {
         }
     }
 
+    /// The numbers of the arguments of an instance, in order; of another type, none.
+    pub fn arguments(&self, alloc: Global, id: TypeId) -> Result<List<TypeId>, AllocError>
+        requires { id < length self.now }
+        ensures arguments { IfOk result
+            (λ ns. types_at self.now ns ≡ arguments_of (type_at self.now id)) }
+        ensures below { IfOk result (λ ns. AllBelow id ns) }
+    {
+        match self.node(id) {
+            Node::Named(_, arguments) => {
+                let items = self.items(alloc, arguments)?;
+                Ok(items)
+            }
+            _ => Ok(List::new(alloc)),
+        }
+    }
+
     /// How many names, tuples, units, arrays and slices make up the type; `usize::MAX` where they are more. It takes no memory.
     pub fn size(&self, id: TypeId) -> usize
         requires { id < length self.now }
@@ -138,6 +155,23 @@ impl Types {
         ensures below { AllBelow id (node_parts result) }
     {
         self.entries[id.number].node
+    }
+
+    /// The numbers of the items of a tuple, in order.
+    pub(crate) fn items(&self, alloc: Global, tuple: TypeId) -> Result<List<TypeId>, AllocError>
+        requires within { tuple < length self.now }
+        requires tuple { IsTuple (type_at self.now tuple) }
+        ensures items { IfOk result
+            (λ ns. types_at self.now ns ≡ items_of (type_at self.now tuple)) }
+        ensures below { IfOk result (λ ns. AllBelow tuple ns) }
+    {
+        let mut items = List::new(alloc);
+        let mut rest = tuple;
+        while let Node::Item(first, behind) = self.node(rest) {
+            items.push(first)?;
+            rest = behind;
+        }
+        Ok(items)
     }
 
     /// The number of the node's type, where it is there.

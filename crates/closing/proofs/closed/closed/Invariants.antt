@@ -2,11 +2,11 @@ use Rattle.std.proofs.Common.{◌≡◌, length, map, take}
 use Rattle.closing.proofs.Made.{AreMade, AreWaiting}
 use Rattle.closing.proofs.closed.closed.Given as goal
 
--- the schemas of the declarations so far are made, and the terms of the others wait
-abbrev pub invariant-loop-place : goal.invariant-loop-place
-invariant-loop-place g l = record {
-  terms : length l.terms.items ≡ length l.declared;
-  waiting : AreWaiting (map g.D.Declared.declaration l.declared) l.terms.items (take l.place-index l.order);
-  many : length l.made.items ≡ length l.declared;
-  made : AreMade (map g.D.Declared.declaration l.declared) l.made.items (take l.place-index l.order);
+-- the schemas of the instances so far are made, where they are marked, and the terms of the others wait
+abbrev pub invariant-loop-number : goal.invariant-loop-number
+invariant-loop-number g l = record {
+  terms : length l.terms.items ≡ length l.reach;
+  waiting : AreWaiting (map g.D.Declared.declaration l.declared) l.reach l.marks l.terms.items (take l.number-index l.order);
+  many : length l.made.items ≡ length l.reach;
+  made : AreMade (map g.D.Declared.declaration l.declared) l.reach l.marks l.made.items (take l.number-index l.order);
 }

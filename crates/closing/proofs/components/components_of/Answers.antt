@@ -1,52 +1,90 @@
-use Rattle.std.proofs.Common.{rules, ◌≡◌, ◌<◌, ◌+◌, suc, length, map, get_or, List, arith, ap, ◌∙◌, sym, subst}
-use Rattle.std.proofs.lemmas.List.{length-map}
-use Rattle.schema_trees.specs.declared.tree.RefLeaf.{RefLeaf}
-use Rattle.schema_trees.specs.declared.tree.Tree.{Tree}
+use Rattle.std.proofs.Common.{◌≡◌, ◌<◌, ◌≤◌, ◌+◌, ◌∙◌, ℕ, List, length, map, take, get_or, set, IsTrue, ap, sym, subst, rules, arith}
+use Rattle.std.proofs.lemmas.List.{take_all, length-set, length-map, get_or-map, get_or_default}
+use Rattle.open_types.specs.Open.{unit}
 use Rattle.schema_trees.specs.Schema.{schema_view}
-use Rattle.shapes.specs.Declarations.{DeclarationOf, declaration_at}
-use Rattle.closing.specs.Closed.{schema_in, declared_schema}
-use Rattle.closing.proofs.Made.{in_front, at_end}
-use Rattle.closing.proofs.Entered.{AreKnown, AreThere, known_none, known_more, there_more, all_entered, declaration_at-view}
+use Rattle.shapes.specs.Declarations.{DeclarationOf}
+use Rattle.shapes.specs.InstanceNames.{instance_name}
+use Rattle.inlining.specs.Inlining.{IsAmong}
+use Rattle.inlining.specs.Marks.{mark}
+use Rattle.instances.specs.Lists.{instance_at}
+use Rattle.instances.specs.Names.{names_of}
+use Rattle.closing.specs.Closed.{instance_schema}
+use Rattle.closing.proofs.Made.{AreLeft, schema_at, left_more, one-at, among_at, fresh_at}
+use Rattle.closing.proofs.Entered.{AreKnown, name_at, its_schema, known_none, known_more, all_entered}
 use Rattle.closing.proofs.components.components_of.Goals as goal
 
-pub loop-schema-init : goal.loop-schema-init
-loop-schema-init g c =
-    let view = g.D.Declared.declaration in
-    let ss = map view c.args.declared.now in
+pub loop-number-init : goal.loop-number-init
+loop-number-init g c =
+    let ss = map g.D.Declared.declaration c.args.declared.now in
+    let is = c.args.reach.now in
     record {
-      few = omega (arith, c.in_ok-made.ensures.many);
-      schemas = λ d l. c.in_ok-made.ensures.schemas d (subst (λ n. d < n) c.in_ok-made.ensures.many l);
-      known = subst (AreKnown ss) (sym c.new-components.ensures) (known_none ss);
-      there = λ d from l. absurd (omega (arith, c.in_ok-made.ensures.many, length-map c.args.declared.now view, from, l));
+      many = c.in_ok-made.ensures.many;
+      left = λ n l m none. c.in_ok-made.ensures.schemas n l (subst (λ ms. IsTrue (mark ms n)) (sym c.as_slice-marks.ensures) m);
+      known = subst (AreKnown (name_at ss is) (its_schema ss is) (take 0 c.args.shown.now.components)) (sym c.new-components.ensures) (known_none (name_at ss is) (its_schema ss is));
     }
 
-pub loop-schema-preserved : goal.loop-schema-preserved
-loop-schema-preserved g c =
-    let view = g.D.Declared.declaration in
-    let declared = c.args.declared.now in
-    let ss = map view declared in
-    let left = c.pop.new.self.items in
-    let was = c.in-Some.ensures.items in
-    let many : length left + 1 ≡ length c.loop-schema.made.items = search rules in
-    let at : c.len.result ≡ length left = search rules in
-    let within : length left < length declared = omega (arith, many, c.loop-schema.invariant.few) in
-    let here : length left < length ss = subst (λ n. length left < n) (sym (length-map declared view)) within in
-    let found : view (get_or declared c.len.result c.index-declared-len.result) ≡ declaration_at ss (length left) =
-    sym (declaration_at-view view declared c.len.result c.index-declared-len.result (subst (λ n. n < length declared) (sym at) within)) ∙ ap (declaration_at ss) at in
-    let named : c.in_ok-name.name ≡ (declaration_at ss (length left)).name = c.in_ok-name.ensures ∙ c.name.ensures ∙ ap (λ x. (view x).name) c.index-declared-len.is ∙ ap (λ (s : DeclarationOf). s.name) found in
-    let schema : schema_view c.in-Some.schema ≡ declared_schema ss (length left) =
-    sym (at_end left c.in-Some.schema) ∙ ap (λ (xs : List (Tree RefLeaf)). schema_in (map schema_view xs) (length left)) (sym was) ∙ c.loop-schema.invariant.schemas (length left) (omega (arith, many)) in
+pub index_mut-requires : goal.index_mut-requires
+index_mut-requires g c =
+    let items = c.as_slice-number-items.result.now in
+    let i = c.loop-number.number-index in
+    let among : IsAmong (get_or items i 0) items = among_at items i c.loop-number-test.true in
+    let here : get_or items i 0 < length c.args.reach.now = c.requires.within (get_or items i 0) (subst (IsAmong (get_or items i 0)) c.as_slice-number-items.ensures among) in
+    let within : get_or items i 0 < length c.loop-number.made.items = subst (λ n. get_or items i 0 < n) (sym c.loop-number.invariant.many) here in
+    search rules
+
+pub bounds-names-number : goal.bounds-names-number
+bounds-names-number g c =
+    let ss = map g.D.Declared.declaration c.args.declared.now in
+    let items = c.as_slice-number-items.result.now in
+    let i = c.loop-number.number-index in
+    let among : IsAmong (get_or items i 0) items = among_at items i c.loop-number-test.true in
+    let here : get_or items i 0 < length c.args.reach.now = c.requires.within (get_or items i 0) (subst (IsAmong (get_or items i 0)) c.as_slice-number-items.ensures among) in
+    subst (λ n. get_or items i 0 < n) (sym (ap length c.requires.names ∙ length-map c.args.reach.now (instance_name ss))) here
+
+pub offset_bounds-names-number : goal.offset_bounds-names-number
+offset_bounds-names-number g c =
+    let ss = map g.D.Declared.declaration c.args.declared.now in
+    let items = c.as_slice-number-items.result.now in
+    let i = c.loop-number.number-index in
+    let among : IsAmong (get_or items i 0) items = among_at items i c.loop-number-test.true in
+    let here : get_or items i 0 < length c.args.reach.now = c.requires.within (get_or items i 0) (subst (IsAmong (get_or items i 0)) c.as_slice-number-items.ensures among) in
+    let lt : get_or items i 0 < length c.args.names.now = subst (λ n. get_or items i 0 < n) (sym (ap length c.requires.names ∙ length-map c.args.reach.now (instance_name ss))) here in
+    search rules
+
+pub loop-number-preserved : goal.loop-number-preserved
+loop-number-preserved g c =
+    let ss = map g.D.Declared.declaration c.args.declared.now in
+    let is = c.args.reach.now in
+    let comps = c.args.shown.now.components in
+    let items = c.as_slice-number-items.result.now in
+    let i = c.loop-number.number-index in
+    let made = c.loop-number.made.items in
+    let same : items ≡ comps = c.as_slice-number-items.ensures in
+    let at : i < length comps = subst (λ xs. i < length xs) same c.loop-number-test.true in
+    let place = get_or comps i 0 in
+    let where_is : get_or items i 0 ≡ place = ap (λ xs. get_or xs i 0) same in
+    let among : IsAmong place comps = among_at comps i at in
+    let here : place < length is = c.requires.within place among in
+    let there : place < length made = subst (λ n. place < n) (sym c.loop-number.invariant.many) here in
+    let marked : IsTrue (mark c.args.shown.now.marks place) = c.requires.shown place among in
+    let fresh = fresh_at comps i c.requires.once at in
+    let taken : c.replace-schema.result ≡ get_or made place c.replace-schema.result =
+    c.replace-schema.ensures.value ∙ c.index_mut.ensures.value ∙ ap (λ n. get_or made n c.index_mut.result.now) where_is ∙ get_or_default made place c.index_mut.result.now c.replace-schema.result there in
+    let schema : schema_view c.replace-schema.result ≡ its_schema ss is place =
+    ap schema_view taken ∙ sym (schema_at made place c.replace-schema.result there) ∙ c.loop-number.invariant.left place here marked fresh in
+    let names : c.args.names.now ≡ names_of ss is = c.requires.names in
+    let named : c.in_ok-name.name ≡ name_at ss is place =
+    c.in_ok-name.ensures ∙ c.index-names-number.is ∙ ap (λ n. get_or c.args.names.now n c.index-names-number.result) where_is ∙ ap (λ ns. get_or ns place c.index-names-number.result) names ∙ get_or-map (instance_name ss) is place unit c.index-names-number.result here in
     record {
-      few = omega (arith, within);
-      schemas = λ d l. sym (in_front left c.in-Some.schema d l) ∙ ap (λ (xs : List (Tree RefLeaf)). schema_in (map schema_view xs) d) (sym was) ∙ c.loop-schema.invariant.schemas d (omega (arith, many, l));
-      known = known_more ss (length left) c.in_ok-name.name (schema_view c.in-Some.schema) c.in_ok-insert.field-0 c.loop-schema.components c.insert.new.self here named schema c.in_ok-insert.ensures.new c.in_ok-insert.ensures.entries c.loop-schema.invariant.known;
-      there = there_more ss (length left) c.in_ok-name.name (schema_view c.in-Some.schema) c.in_ok-insert.field-0 c.loop-schema.components c.insert.new.self named c.in_ok-insert.ensures.new c.in_ok-insert.ensures.entries
-          (subst (λ n. AreThere ss n c.loop-schema.components) (let next : length c.loop-schema.made.items ≡ suc (length left) = omega (arith, many) in next) c.loop-schema.invariant.there);
+      many = length-set made (get_or items i 0) c.replace-schema.new.dest ∙ c.loop-number.invariant.many;
+      left = subst (λ n. AreLeft ss is c.args.shown.now.marks (set made n c.replace-schema.new.dest) (take (i + 1) comps)) (sym where_is) (left_more ss is c.args.shown.now.marks made comps i c.replace-schema.new.dest at c.loop-number.invariant.left);
+      known = known_more (name_at ss is) (its_schema ss is) comps i c.in_ok-name.name (schema_view c.replace-schema.result) c.in_ok-insert.field-0 c.loop-number.components c.insert.new.self at named schema c.in_ok-insert.ensures.new c.in_ok-insert.ensures.entries c.loop-number.invariant.known;
     }
 
 pub returns : goal.returns
 returns g c =
-    let view = g.D.Declared.declaration in
-    let ss = map view c.args.declared.now in
-    let none : length c.loop-schema.made.items ≡ 0 = search rules in
-    all_entered ss c.loop-schema.components c.requires.distinct c.loop-schema.invariant.known (subst (λ n. AreThere ss n c.loop-schema.components) none c.loop-schema.invariant.there)
+    let ss = map g.D.Declared.declaration c.args.declared.now in
+    let is = c.args.reach.now in
+    let comps = c.args.shown.now.components in
+    let all : take c.loop-number.number-index comps ≡ comps = take_all c.loop-number.number-index comps (subst (λ (xs : List ℕ). length xs ≤ c.loop-number.number-index) c.as_slice-number-items.ensures (omega arith)) in
+    all_entered ss is c.requires.instances c.requires.differ comps c.loop-number.components (λ n a. one-at is n (c.requires.within n a)) (subst (λ ns. AreKnown (name_at ss is) (its_schema ss is) ns c.loop-number.components) all c.loop-number.invariant.known)

@@ -1,4 +1,4 @@
-use Rattle.closing.proofs.Described.{references_accept}
+use Rattle.closing.proofs.InstanceDescribed.{references_accept}
 use Rattle.closing.proofs.law.references_accept.Goals as goal
 
 pub returns : goal.returns

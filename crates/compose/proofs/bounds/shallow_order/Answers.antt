@@ -1,32 +1,35 @@
-use Rattle.std.proofs.Common.{◌<◌, length, map, get_or, inr, arith, rules}
+use Rattle.std.proofs.Common.{◌≡◌, ◌<◌, ◌∙◌, ℕ, List, suc, length, map, get_or, inl, inr, ap, sym, subst}
 use Rattle.diag.specs.declared.kind.Kind.TheVariants.{InlineDepth}
-use Rattle.written_types.specs.declared.written.Ident.{Ident}
+use Rattle.texts.specs.declared.span.Span.{Span}
 use Rattle.derive_decl.specs.Views.{resolved_view}
-use Rattle.compose.specs.Bounds.{IsFirst, IsRefusalOf, deep_message, names_along}
-use Rattle.compose.proofs.Along.{deep_path, first_along, somewhere_at}
+use Rattle.inlining.specs.Depths.{IsDepth}
+use Rattle.inlining.specs.Inlining.{AreTargets, IsAmong, IsPath}
+use Rattle.instances.specs.Lists.{instance_at}
+use Rattle.closing.specs.Closed.{most_inlined}
+use Rattle.compose.specs.Bounds.{IsAt, instance_text, IsRefusalOf, deep_message}
+use Rattle.compose.proofs.Placed.{path-within, deep-path}
 use Rattle.compose.proofs.bounds.shallow_order.Goals as goal
 
-pub bounds-idents-path : goal.bounds-idents-path
-bounds-idents-path c =
-    (deep_path c.args.resolved.now c.args.idents.now c.args.targets.now c.in_ok-order.field-0 c.in-Beyond.path c.as_slice-path.result.now c.requires.names c.requires.targets c.in_ok-order.ensures c.in-Beyond.is c.as_slice-path.ensures).2
+pub inline_order-requires : goal.inline_order-requires
+inline_order-requires c = subst AreTargets (sym c.requires.targets) (c.numbers_stand.ensures (map resolved_view c.args.resolved.now) c.args.reach.now).0
 
-pub bounds-idents-path-in-Beyond : goal.bounds-idents-path-in-Beyond
-bounds-idents-path-in-Beyond c =
-    (deep_path c.args.resolved.now c.args.idents.now c.args.targets.now c.in_ok-order.field-0 c.in-Beyond.path c.as_slice-path.result.now c.requires.names c.requires.targets c.in_ok-order.ensures c.in-Beyond.is c.as_slice-path.ensures).2
+pub too_deep-requires-clause-within : goal.too_deep-requires-clause-within
+too_deep-requires-clause-within c = λ n among.
+    let ss = map resolved_view c.args.resolved.now in
+    let cause = subst (IsDepth most_inlined c.args.targets.now) c.in-Beyond.is c.in_ok-order.ensures in
+    let there : n < length c.args.targets.now = path-within c.args.targets.now c.in-Beyond.path n cause.0 (subst (IsAmong n) c.as_slice.ensures among) in
+    subst (λ m. n < m) (ap length c.requires.targets ∙ (c.numbers_stand.ensures ss c.args.reach.now).2) there
 
-pub offset_bounds-idents-path : goal.offset_bounds-idents-path
-offset_bounds-idents-path c =
-    let within : get_or c.as_slice-path.result.now 0 0 < length c.args.idents.now = (deep_path c.args.resolved.now c.args.idents.now c.args.targets.now c.in_ok-order.field-0 c.in-Beyond.path c.as_slice-path.result.now c.requires.names c.requires.targets c.in_ok-order.ensures c.in-Beyond.is c.as_slice-path.ensures).2 in
-    search rules
-
-pub returns-in_ok-inline_depth-in-Beyond-clause-refused : goal.returns-in_ok-inline_depth-in-Beyond-clause-refused
-returns-in_ok-inline_depth-in-Beyond-clause-refused c =
-    let resolved = c.args.resolved.now in
+pub returns-in_ok-too_deep-in-Beyond-clause-refused : goal.returns-in_ok-too_deep-in-Beyond-clause-refused
+returns-in_ok-too_deep-in-Beyond-clause-refused c =
     let ds = c.args.idents.now in
-    let names = names_along (map resolved_view resolved) c.as_slice-path.result.now in
-    let path = c.as_slice-path.result.now in
-    let x = c.index-idents-path.result in
-    let deep = deep_path resolved ds c.args.targets.now c.in_ok-order.field-0 c.in-Beyond.path path c.requires.names c.requires.targets c.in_ok-order.ensures c.in-Beyond.is c.as_slice-path.ensures in
-    let Refused : Ident → Type 0 = λ d. IsFirst d.text names × IsRefusalOf InlineDepth d.span deep_message names c.in_ok-inline_depth-in-Beyond.field-0 in
-    let first = first_along resolved ds path 0 x c.requires.names (omega (arith, deep.1)) deep.2 in
-    inr (path, deep.0, deep.1, somewhere_at Refused ds (get_or path 0 0) x deep.2 (first, c.in_ok-inline_depth-in-Beyond.ensures))
+    let ss = map resolved_view c.args.resolved.now in
+    let is = c.args.reach.now in
+    let path = c.in-Beyond.path in
+    let e = c.in_ok-too_deep-in-Beyond.field-0 in
+    let cause = subst (IsDepth most_inlined c.args.targets.now) c.in-Beyond.is c.in_ok-order.ensures in
+    let long : length path ≡ suc most_inlined = cause.1 in
+    let within : (n : ℕ) → IsAmong n path → n < length is =
+    λ n among. subst (λ m. n < m) (ap length c.requires.targets ∙ (c.numbers_stand.ensures ss is).2) (path-within c.args.targets.now path n cause.0 among) in
+    let refusal = subst (λ (ns : List ℕ). (span : Span) × IsAt ds (instance_at is (get_or ns 0 0)) span × IsRefusalOf InlineDepth span deep_message (map (instance_text ds) (map (instance_at is) ns)) e) c.as_slice.ensures c.in_ok-too_deep-in-Beyond.ensures in
+    inr (deep-path ds ss is c.requires.instances path within (c.paths_by_numbers.ensures ss is path (subst (λ g. IsPath g path) c.requires.targets cause.0)) long e refusal)

@@ -4,4 +4,4 @@ use Rattle.derive_decl.proofs.resolved.copied_types.Given as goal
 
 -- the copies so far are equal to the types so far
 abbrev pub invariant-loop-ty : goal.invariant-loop-ty
-invariant-loop-ty l = map open_view l.copies ≡ map open_view (take l.ty-index l.types)
+invariant-loop-ty l = map open_view l.copies ≡ map (λ ty. open_view ty.now) (take l.ty-index l.ty-items)

@@ -5,4 +5,4 @@ use Rattle.derive_decl.proofs.resolved.member_types.Given as goal
 
 -- the types so far are those of the members so far
 abbrev pub invariant-loop-member : goal.invariant-loop-member
-invariant-loop-member l = map open_view l.types ≡ map type_in (take l.member-index l.members)
+invariant-loop-member l = map (λ ty. open_view ty.now) l.types.items ≡ map type_in (take l.member-index l.members)

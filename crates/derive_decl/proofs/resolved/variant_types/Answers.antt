@@ -1,5 +1,6 @@
 use Rattle.std.proofs.Common.{◌<◌, length, arith}
 use Rattle.derive_decl.proofs.EnumLaws.{types_more}
+use Rattle.open_types.specs.Open.{open_view}
 use Rattle.derive_decl.proofs.resolved.variant_types.Goals as goal
 
 pub loop-variant-preserved : goal.loop-variant-preserved
@@ -7,4 +8,4 @@ loop-variant-preserved c =
     let variants = c.args.variants.now in
     let at = c.loop-variant.variant-index in
     let lt : at < length variants = omega arith in
-    rw c.in_ok-append.ensures.ok (types_more variants at c.variant-item.result c.loop-variant.types _ lt c.variant-item.is c.loop-variant.invariant c.in_ok-types_of.ensures)
+    rw c.in_ok-append.ensures.items (types_more (λ ty. open_view ty.now) variants at c.variant-item.result c.loop-variant.types.items _ lt c.variant-item.is c.loop-variant.invariant c.in_ok-of_variant.ensures)

@@ -6,4 +6,4 @@ use Rattle.derive_decl.proofs.resolved.variant_types.Given as goal
 
 -- the types so far are those of the variants so far
 abbrev pub invariant-loop-variant : goal.invariant-loop-variant
-invariant-loop-variant l = map open_view l.types ≡ variant_types (map variant_schema_view (take l.variant-index l.variants))
+invariant-loop-variant l = map (λ ty. open_view ty.now) l.types.items ≡ variant_types (map variant_schema_view (take l.variant-index l.variants))

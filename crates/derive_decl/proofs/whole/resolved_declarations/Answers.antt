@@ -13,7 +13,7 @@ use Rattle.derive_decl.specs.Faults.{IsFaultyItem}
 use Rattle.derive_decl.specs.Views.{resolved_view}
 use Rattle.derive_decl.proofs.Faultless.{none_somewhere}
 use Rattle.derive_decl.proofs.Growing.{all_more, facts_more, fact_at, somewhere, apart-push}
-use Rattle.derive_decl.proofs.Within.{names_are, all_within}
+use Rattle.derive_decl.proofs.Over.{names_are, all_fitting}
 use Rattle.derive_decl.proofs.whole.resolved_declarations.Goals as goal
 
 pub returns-in_err-resolved_of-clause-refused : goal.returns-in_err-resolved_of-clause-refused
@@ -67,12 +67,12 @@ returns-clause-names c =
     let ds = declarations_view c.args.places.now.declarations.now in
     names_are rows ds (map resolved_view c.loop-owner.resolved) (subst (λ xs. all_of (resolved_of (around_of rows ds)) (map declaration_view xs) ≡ Some (map resolved_view c.loop-owner.resolved)) whole c.loop-owner.invariant.0)
 
-pub returns-clause-within : goal.returns-clause-within
-returns-clause-within c =
+pub returns-clause-fitting : goal.returns-clause-fitting
+returns-clause-fitting c =
     let whole : take c.loop-owner.owner c.args.places.now.declarations.now.items ≡ c.args.places.now.declarations.now.items = grind (arith, common_steps) in
     let rows = c.args.config.now.renames in
     let ds = declarations_view c.args.places.now.declarations.now in
-    all_within c.resolved_are_within.ensures rows ds (map resolved_view c.loop-owner.resolved) (subst (λ xs. all_of (resolved_of (around_of rows ds)) (map declaration_view xs) ≡ Some (map resolved_view c.loop-owner.resolved)) whole c.loop-owner.invariant.0)
+    all_fitting c.resolved_are_over.ensures rows ds (map resolved_view c.loop-owner.resolved) (subst (λ xs. all_of (resolved_of (around_of rows ds)) (map declaration_view xs) ≡ Some (map resolved_view c.loop-owner.resolved)) whole c.loop-owner.invariant.0)
 
 pub returns-clause-faultless : goal.returns-clause-faultless
 returns-clause-faultless c =

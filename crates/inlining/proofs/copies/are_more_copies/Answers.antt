@@ -2,7 +2,7 @@ use Rattle.std.proofs.Common.{◌≡◌, ◌<◌, ◌↔◌, ◌∙◌, ℕ, Lis
 use Rattle.std.proofs.lemmas.Bool.{ltb-true, lt-ltb}
 use Rattle.std.proofs.lemmas.List.{take_all, length-set}
 use Rattle.inlining.specs.Counts.{saturated, count_of}
-use Rattle.inlining.specs.Inlining.{targets_of, IsAmong, sum_below, all_copies, copies}
+use Rattle.inlining.specs.Inlining.{targets_of, IsAmong, sum_of, copies}
 use Rattle.inlining.proofs.Among.{targets_at}
 use Rattle.inlining.proofs.Orders.{behind_at, seen_only, order_targets}
 use Rattle.inlining.proofs.Counts.{AreCounted, count_is, counted_more, more_copies}
@@ -52,13 +52,16 @@ loop-place-preserved c =
       counted = counted_more g c.args.most counts order c.loop-place.place-index c.count_of-count.result at within count c.loop-place.invariant.counted;
     }
 
+pub total_of-requires : goal.total_of-requires
+total_of-requires c = λ n i. subst (λ k. n < k) (sym (ap length c.as_slice-2.ensures.value ∙ c.loop-place.invariant.many)) (c.requires.counted n i)
+
 pub returns : goal.returns
 returns c =
     let g = c.args.targets.now in
     let counts = c.loop-place.counts.items in
     let order = c.args.order.now in
-    let counted : AreCounted g c.args.most counts order = subst (AreCounted g c.args.most counts) (take_all c.loop-place.place-index order (omega arith)) c.loop-place.invariant.counted in
-    let total = c.total_of.ensures ∙ ap (λ (ns : List ℕ). saturated (sum_below (slice_index ns) (length ns))) c.as_slice-2.ensures.value in
-    let same : (c.args.limit < c.total_of.result) ↔ (c.args.limit < all_copies g c.args.most) =
-    more_copies g c.args.most c.args.limit c.total_of.result counts order c.requires.limit c.loop-place.invariant.many c.requires.order.all counted total in
+    let all : AreCounted g c.args.most counts order = subst (AreCounted g c.args.most counts) (take_all c.loop-place.place-index order (omega arith)) c.loop-place.invariant.counted in
+    let total = c.total_of.ensures ∙ ap (λ (ns : List ℕ). saturated (sum_of (slice_index ns) c.args.counted.now)) c.as_slice-2.ensures.value in
+    let same : (c.args.limit < c.total_of.result) ↔ (c.args.limit < sum_of (copies g c.args.most) c.args.counted.now) =
+    more_copies g c.args.most c.args.limit c.total_of.result counts c.args.counted.now c.requires.limit (λ n i. all n (c.requires.order.all n (c.requires.counted n i))) total in
     (λ b. same.0 (ltb-true c.args.limit c.total_of.result b), λ l. lt-ltb c.args.limit c.total_of.result (same.1 l))

@@ -5,7 +5,7 @@ use Rattle.inlining.proofs.Once.{AreMarked}
 use Rattle.inlining.proofs.Orders.{AreOrdered}
 use Rattle.inlining.proofs.order.inline_order.Given as goal
 
--- the rounds so far, and each declaration that is marked once, behind its targets
+-- the rounds so far, and each instance that is marked once, behind its targets
 abbrev pub invariant-rounds : goal.invariant-rounds
 invariant-rounds l = record {
   marks : l.marks ≡ marks_of l.targets l.counter;

@@ -5,6 +5,7 @@ use Rattle.diag.specs.declared.error.DeriveError.TheVariants.{Memory}
 use Rattle.schema_core.specs.Document.{Entry, document, text_of}
 use Rattle.configuration.specs.Configuration.{Configuration}
 use Rattle.closing.specs.Described.{Describes}
+use Rattle.compose.specs.Bounds.{collects_all}
 use Rattle.compose.specs.Faults.{IsDerived, IsRefused}
 use Rattle.schema_gen.specs.Owed.{IsDocumentOf}
 use Rattle.reporting.specs.Bytes.{IsText}
@@ -18,7 +19,7 @@ refused_bytes config source bytes e same is_text (inr refused) = inr (inr (inr (
 
 -- the document of the text is that of its bytes
 document_of_bytes : (config : Configuration) (source bytes text : List ℕ) (components : List Entry) → source ≡ bytes → IsText bytes
-    → (made : IsDerived config source components) × Describes made.resolved (document components) → text ≡ text_of (document components) → IsDocumentOf config bytes text
+    → (made : IsDerived config source components) × Describes made.resolved (collects_all config.collect) (document components) → text ≡ text_of (document components) → IsDocumentOf config bytes text
 document_of_bytes config source bytes text components same is_text made text_is =
     subst (λ b. IsDocumentOf config b text) same (record {
       is_text = subst IsText (sym same) is_text;

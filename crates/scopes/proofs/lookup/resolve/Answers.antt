@@ -1,4 +1,4 @@
-use Rattle.std.proofs.Common.{◌≡◌, ◌⊎◌, length, Some, Result, Ok, Err, sym, ◌∙◌, subst, IfOk, IfErr}
+use Rattle.std.proofs.Common.{◌≡◌, ◌⊎◌, length, Some, Result, Ok, Err, refl, sym, ◌∙◌, subst, IfOk, IfErr}
 use Rattle.std.proofs.Math.Path.{fun_ext}
 use Rattle.std.proofs.lemmas.Result.{IfOk-weaker}
 use Rattle.std.specs.BTreeMap.{get_by_text}
@@ -7,7 +7,6 @@ use Rattle.written_types.specs.Written.{written_view}
 use Rattle.open_types.specs.Open.{open_view}
 use Rattle.resolving.specs.Resolved.{type_of, Fault, IsFault, IsRefusedFor}
 use Rattle.scopes.specs.Scopes.{declared_in}
-use Rattle.scopes.proofs.Closed.{type_closed}
 use Rattle.scopes.proofs.Declared.{placed}
 use Rattle.scopes.proofs.lookup.resolve.Goals as goal
 
@@ -27,17 +26,13 @@ returns-clause-faultless c =
     (λ t found small. c.resolved_have_no_fault.ensures (get_by_text c.args.scope.now.places.now.by_name) (written_view c.args.ty.now) (open_view t) found small)
     c.resolve_type.ensures.resolved c.resolve_type.ensures.small)
 
-pub returns-clause-within : goal.returns-clause-within
-returns-clause-within c =
+pub returns-clause-over : goal.returns-clause-over
+returns-clause-over c =
     let ds = declared_in c.args.scope.now in
     let place_of = get_by_text c.args.scope.now.places.now.by_name in
     IfOk-weaker c.resolve_type.result _ _
-    (λ t found. c.resolved_are_within.ensures place_of (length ds) (λ k d is. placed ds k d (sym (c.args.scope.now.places.now.placed k) ∙ is)) (written_view c.args.ty.now) (open_view t) found)
+    (λ t found. c.resolved_are_over.ensures place_of (length ds) (λ _. 0) 0 (λ k d is. (placed ds k d (sym (c.args.scope.now.places.now.placed k) ∙ is), refl)) (written_view c.args.ty.now) (open_view t) found)
     c.resolve_type.ensures.resolved
-
-pub returns-clause-closed : goal.returns-clause-closed
-returns-clause-closed c =
-    IfOk-weaker c.resolve_type.result _ _ (λ t found. type_closed (get_by_text c.args.scope.now.places.now.by_name) (written_view c.args.ty.now) (open_view t) found) c.resolve_type.ensures.resolved
 
 pub returns-clause-refused : goal.returns-clause-refused
 returns-clause-refused c =

@@ -1,45 +1,27 @@
-use Rattle.std.proofs.Common.{arith, rules, ◌≡◌, ◌∙◌, ◌<◌, sym, ap, List, [], ◌∷◌, ◌++◌, map, length}
-use Rattle.std.proofs.lemmas.List.{map_push}
+use Rattle.std.proofs.Common.{arith, rules, ◌≡◌, ◌∙◌, ◌<◌, sym, ap, subst, length, map, get_or, take}
+use Rattle.std.proofs.lemmas.List.{take_all}
 use denote.Param.Weighed.{at_most}
-use Rattle.open_types.specs.Open.{Open, Opens, open_view}
-use Rattle.type_table.specs.Nodes.{items_of}
+use Rattle.open_types.specs.Open.{opens_of, open_view}
 use Rattle.type_table.specs.Types.{type_at}
-use Rattle.type_table.proofs.Chains.{behind, behind-one, behind-none, no-items}
+use Rattle.type_table.proofs.Chains.{types-are}
+use Rattle.type_table.proofs.Fronts.{argument_within}
 use Rattle.type_table.proofs.open_type.+type_of.Goals as goal
-
-pub open_types-loop-first-init : goal.open_types-loop-first-init
-open_types-loop-first-init t c = record {
-  within = omega arith;
-  is_tuple = c.requires.tuple;
-  items = ap (λ ts. behind (map open_view ts) (items_of (type_at c.args.types.now c.args.tuple))) c.new-items.ensures;
-}
-
-pub open_types-node-requires : goal.open_types-node-requires
-open_types-node-requires t c = omega (arith, c.loop-first.invariant.within, c.requires.within)
 
 pub open_types-open_type-requires : goal.open_types-open_type-requires
 open_types-open_type-requires t c =
-    let before : c.in-Item.first < c.loop-first.rest = c.in-Item.ensures.below.0 in
-    let within : c.in-Item.first < length c.args.types.now = omega (arith, before, c.loop-first.invariant.within, c.requires.within) in
+    let numbers = c.in_ok-numbers.numbers in
+    let slice = c.as_slice-number-items.result.now in
+    let at : c.loop-number.number-index < length numbers = subst (λ ns. c.loop-number.number-index < length ns) c.as_slice-number-items.ensures c.loop-number-test.true in
+    let before : c.number-item.result < c.args.tuple =
+    subst (λ n. n < c.args.tuple) (ap (λ ns. get_or ns c.loop-number.number-index c.number-item.result) (sym c.as_slice-number-items.ensures) ∙ sym c.number-item.is)
+    (argument_within c.args.tuple numbers c.loop-number.number-index c.number-item.result c.in_ok-numbers.ensures.below at) in
+    let within : c.number-item.result < length c.args.types.now = omega (arith, before, c.requires.within) in
     (search (rules, at_most), within)
-
-pub open_types-loop-first-preserved : goal.open_types-loop-first-preserved
-open_types-loop-first-preserved t c =
-    let known : List Open = c.args.types.now in
-    let first : Open = type_at known c.in-Item.first in
-    let others : Opens = items_of (type_at known c.in-Item.behind) in
-    let pushed : map open_view c.push.new.self ≡ map open_view c.loop-first.items ++ first ∷ [] =
-    ap (map open_view) c.in_ok-push.ensures.ok ∙ map_push open_view c.loop-first.items c.in_ok-open_type.field-0 ∙ ap (λ s. map open_view c.loop-first.items ++ s ∷ []) c.in_ok-open_type.ensures in
-    record {
-      within = omega (arith, c.loop-first.invariant.within, c.in-Item.ensures.below.1.0);
-      is_tuple = c.in-Item.ensures.parts.1;
-      items = ap (λ ss. behind ss others) pushed ∙ behind-one (map open_view c.loop-first.items) first others ∙ ap (λ t. behind (map open_view c.loop-first.items) (items_of t)) (sym c.in-Item.ensures.is) ∙ c.loop-first.invariant.items;
-    }
 
 pub open_types-returns : goal.open_types-returns
 open_types-returns t c =
-    let known : List Open = c.args.types.now in
-    let none = no-items known c.node.result c.in_default.not-Item in
-    sym (behind-none (map open_view c.loop-first.items))
-    ∙ sym (ap (behind (map open_view c.loop-first.items)) (ap items_of c.node.ensures.is ∙ none))
-    ∙ c.loop-first.invariant.items
+    let known = c.args.types.now in
+    let slice = c.as_slice-number-items.result.now in
+    ap opens_of (c.loop-number.invariant ∙ ap (map (type_at known)) (take_all c.loop-number.number-index slice (omega arith) ∙ c.as_slice-number-items.ensures))
+    ∙ types-are known c.in_ok-numbers.numbers
+    ∙ c.in_ok-numbers.ensures.items

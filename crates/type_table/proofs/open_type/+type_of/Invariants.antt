@@ -1,8 +1,6 @@
-use Rattle.std.proofs.Common.{◌≡◌, ◌+◌, ◌*◌, ◌≤◌, map}
+use Rattle.std.proofs.Common.{◌≡◌, ◌+◌, ◌*◌, map, take}
 use Rattle.open_types.specs.Open.{open_view}
-use Rattle.type_table.specs.Nodes.{items_of, IsTuple}
 use Rattle.type_table.specs.Types.{type_at}
-use Rattle.type_table.proofs.Chains.{behind}
 use Rattle.type_table.proofs.open_type.+type_of.Given as goal
 
 abbrev pub decreases-open_type : goal.decreases-open_type
@@ -11,13 +9,6 @@ decreases-open_type l = 2 * l.id + 1
 abbrev pub decreases-open_types : goal.decreases-open_types
 decreases-open_types l = 2 * l.tuple
 
--- the items so far, and behind them those of the rest
-abbrev pub invariant-open_types-loop-first : goal.invariant-open_types-loop-first
-invariant-open_types-loop-first l = record {
-  within : l.rest ≤ l.fn.tuple;
-  is_tuple : IsTuple (type_at l.types l.rest);
-  items : behind (map open_view l.items) (items_of (type_at l.types l.rest)) ≡ items_of (type_at l.types l.fn.tuple);
-}
-
-abbrev pub decreases-open_types-loop-first : goal.decreases-open_types-loop-first
-decreases-open_types-loop-first l = l.rest
+-- the items so far
+abbrev pub invariant-open_types-loop-number : goal.invariant-open_types-loop-number
+invariant-open_types-loop-number l = map open_view l.items ≡ map (type_at l.types) (take l.number-index l.number-items)

@@ -1,0 +1,42 @@
+use Rattle.std.proofs.Common.{inl, inr}
+use Rattle.std.proofs.lemmas.Result.{err_from_is_err_and}
+use Rattle.compose.proofs.sets.settle.Goals as goal
+
+pub returns-in_err-only_derivable-clause-refused : goal.returns-in_err-only_derivable-clause-refused
+returns-in_err-only_derivable-clause-refused c =
+    let p = err_from_is_err_and c.from_residual.result c.from_residual.ensures.1 in
+    rw (p.1, p.2)
+    (elim c.in_err-only_derivable.ensures.refused [
+      | inl memory ↦ inl memory
+      | inr fault ↦ inr (inl fault)
+    ])
+
+pub returns-in_err-by_name-clause-refused : goal.returns-in_err-by_name-clause-refused
+returns-in_err-by_name-clause-refused c =
+    let p = err_from_is_err_and c.from_residual-in_err-by_name.result c.from_residual-in_err-by_name.ensures.1 in
+    rw (p.1, p.2)
+    (elim c.in_err-by_name.ensures.refused [
+      | inl memory ↦ inl memory
+      | inr twice ↦ inr (inr (c.in_ok-only_derivable.ensures.derivable, inl twice))
+    ])
+
+pub returns-in_err-resolved-clause-refused : goal.returns-in_err-resolved-clause-refused
+returns-in_err-resolved-clause-refused c =
+    let p = err_from_is_err_and c.from_residual-in_err-resolved.result c.from_residual-in_err-resolved.ensures.1 in
+    rw (p.1, p.2)
+    (elim c.in_err-resolved.ensures.refused [
+      | inl memory ↦ inl memory
+      | inr fault ↦ inr (inr (c.in_ok-only_derivable.ensures.derivable, inr fault))
+    ])
+
+pub returns-clause-settled : goal.returns-clause-settled
+returns-clause-settled c = record {
+  resolves = c.in_ok-resolved.ensures.resolved;
+  clear = record {
+    derivable = c.in_ok-only_derivable.ensures.derivable;
+    faultless = λ e h. elim h [ inl twice ↦ c.in_ok-by_name.ensures.once e twice | inr fault ↦ c.in_ok-resolved.ensures.faultless e fault ];
+  };
+  names = c.in_ok-resolved.ensures.names;
+  apart = c.in_ok-resolved.ensures.apart;
+  fitting = c.in_ok-resolved.ensures.fitting;
+}

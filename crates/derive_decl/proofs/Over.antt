@@ -1,0 +1,185 @@
+-- What the resolved declarations of all declarations say: their names, and that their types fit.
+use Rattle.std.proofs.Common.{ℕ, zero, suc, ◌<◌, List, [], ◌∷◌, ◌++◌, Option, Some, None, option_map, option_and_then, Bool, true, false, cond, bytes_eq, length, ◌≡◌, refl, ap, sym, subst, ◌∙◌, arith}
+use Rattle.std.proofs.lemmas.Option.{none-some, same_Some}
+use Rattle.texts.specs.Names.{place_in}
+use Rattle.diag.specs.declared.rename_rule.RenameRule.{RenameRule}
+use Rattle.diag.specs.declared.rename_row.RenameRow.{RenameRow}
+use Rattle.attributes.specs.Attributes.{serde_items}
+use Rattle.attributes.specs.declared.serde_item.SerdeItem.{SerdeItem}
+use Rattle.serde_rules.specs.Container.{rename_rule}
+use Rattle.written_types.specs.declared.written.Ident.{Ident}
+use Rattle.syntax.specs.Items.{FieldItem, FieldItems, named, unnamed, unit, VariantItem, BodyItem, struct_body, enum_body, DeclaredItem}
+use Rattle.open_types.specs.Open.{Open}
+use Rattle.open_types.specs.Within.{AreAllOver}
+use Rattle.resolving.specs.Resolved.{type_of, ResolvedAreOver}
+use Rattle.scopes.specs.Names.{declared_names}
+use Rattle.shapes.specs.Declarations.{MemberOf, FormOf, named_fields, unnamed_fields, no_fields, VariantOf, BodyOf, fields, units, variants, DeclarationOf, member_types, types_of, variant_types, body_types, declaration_names, declaration_at, parameters_in, AreFitting}
+use Rattle.shapes.specs.declared.tagging.Tagging.{Tagging}
+use Rattle.derive_decl.specs.Variants.{tagging_in, are_units, kept_variants, variant_name}
+use Rattle.derive_decl.specs.Fields.{FieldRules, field_rules, kept, written_name}
+use Rattle.derive_decl.specs.Resolved.{Around, around_of, all_of, member_from, member_as, member_of, form_of, variant_from, variant_of, units_of, mixed_of, enum_of, body_of, declaration_from, resolved_of}
+use Rattle.derive_decl.specs.Whole.{resolved_declarations}
+
+-- ---- results that may be missing
+
+-- what stands behind a `Some`
+mapped : {A B : Type 0} (f : A → B) (o : Option A) (y : B) → option_map f o ≡ Some y → (x : A) × (o ≡ Some x) × (f x ≡ y)
+mapped f None y e = absurd (none-some y e)
+mapped f (Some x) y e = (x, refl, same_Some (f x) y e)
+
+joined : {B : Type 0} (o : Option B) (p : Option (List B)) (ys : List B) → option_and_then (λ w. option_map (λ ws. w ∷ ws) p) o ≡ Some ys → (w : B) × (ws : List B) × (o ≡ Some w) × (p ≡ Some ws) × (w ∷ ws ≡ ys)
+joined None p ys e = absurd (none-some ys e)
+joined (Some w) None ys e = absurd (none-some ys e)
+joined (Some w) (Some ws) ys e = (w, ws, refl, refl, same_Some (w ∷ ws) ys e)
+
+-- ---- names
+
+-- a place lies within the names
+below_names : (k : List ℕ) (ns : List (List ℕ)) (p : ℕ) → place_in k ns ≡ Some p → p < length ns
+below_names k [] p e = absurd (none-some p e)
+below_names k (n ∷ ns) p e = by (bytes_eq k n) (place_in k ns) e (below_names k ns)
+  where
+    by : (b : Bool) (o : Option ℕ) → cond b (Some 0) (option_map suc o) ≡ Some p → ((r : ℕ) → o ≡ Some r → r < length ns) → p < suc (length ns)
+    by true o h later = subst (λ q. q < suc (length ns)) (same_Some 0 p h) (omega arith)
+    by false None h later = absurd (none-some p h)
+    by false (Some r) h later = let l = later r refl in subst (λ q. q < suc (length ns)) (same_Some (suc r) p h) (omega (arith, l))
+
+many_names : (ss : List DeclarationOf) → length (declaration_names ss) ≡ length ss
+many_names [] = refl
+many_names (s ∷ ss) = ap suc (many_names ss)
+
+-- ---- members
+
+-- the name and the type of a member
+record IsMember (around : Around) (rules : FieldRules) (f : FieldItem) (m : MemberOf) : Type 0 where
+  ident : Ident
+  is : f.ident ≡ Some ident
+  named : written_name around.rows rules.rule f ident ≡ Some m.name
+  typed : type_of around.place_of f.ty ≡ Some m.of
+
+member_parts : (around : Around) (rules : FieldRules) (f : FieldItem) (m : MemberOf) → member_of around rules f ≡ Some m → IsMember around rules f m
+member_parts around rules f m e = by f.ident refl e
+  where
+    from : (x : Ident) (n : Option (List ℕ)) (t : Option Open) → f.ident ≡ Some x → written_name around.rows rules.rule f x ≡ n → type_of around.place_of f.ty ≡ t →
+        option_and_then (λ name. option_map (member_from rules f name) t) n ≡ Some m → IsMember around rules f m
+    from x None t i p q h = absurd (none-some m h)
+    from x (Some n) None i p q h = absurd (none-some m h)
+    from x (Some n) (Some t) i p q h =
+        let same = same_Some (member_from rules f n t) m h in
+        record { ident = x; is = i; named = p ∙ ap (λ (o : MemberOf). Some o.name) same; typed = q ∙ ap (λ (o : MemberOf). Some o.of) same }
+
+    by : (o : Option Ident) → f.ident ≡ o → member_as around rules f o ≡ Some m → IsMember around rules f m
+    by None i h = absurd (none-some m h)
+    by (Some x) i h = from x (written_name around.rows rules.rule f x) (type_of around.place_of f.ty) i refl refl h
+
+-- ---- declarations
+
+-- the declaration of a declaration
+declaration_parts : (around : Around) (d : DeclaredItem) (s : DeclarationOf) → resolved_of around d ≡ Some s → (s.name ≡ d.ident.text) × (body_of around (serde_items d.attrs) d.body ≡ Some s.body) × (s.parameters ≡ 0)
+declaration_parts around d s e =
+    let m = mapped (declaration_from d.attrs d.ident) (body_of around (serde_items d.attrs) d.body) s e in
+    (sym (ap (λ (r : DeclarationOf). r.name) m.2), m.1 ∙ ap (λ (r : DeclarationOf). Some r.body) m.2, sym (ap (λ (r : DeclarationOf). r.parameters) m.2))
+
+module _ (around : Around) where
+  -- the declarations have the names of the declarations
+  declaration_names-are : (ds : List DeclaredItem) (ss : List DeclarationOf) → all_of (resolved_of around) ds ≡ Some ss → declaration_names ss ≡ declared_names ds
+  declaration_names-are [] ss e = ap declaration_names (sym (same_Some [] ss e))
+  declaration_names-are (d ∷ ds) ss e =
+      let j = joined (resolved_of around d) (all_of (resolved_of around) ds) ss e in
+      sym (ap declaration_names j.4) ∙ ap (λ n. n ∷ declaration_names j.1) (declaration_parts around d j.0 j.2).0 ∙ ap (λ ns. d.ident.text ∷ ns) (declaration_names-are ds j.1 j.3)
+
+  -- a declaration has no parameters, nor has what is past the end
+  no_parameters : (ds : List DeclaredItem) (ss : List DeclarationOf) → all_of (resolved_of around) ds ≡ Some ss → (d : ℕ) → parameters_in ss d ≡ 0
+  no_parameters [] ss e d = subst (λ xs. parameters_in xs d ≡ 0) (same_Some [] ss e) refl
+  no_parameters (x ∷ ds) ss e d =
+      let j = joined (resolved_of around x) (all_of (resolved_of around) ds) ss e in
+      subst (λ xs. parameters_in xs d ≡ 0) j.4 (by j.0 j.1 d (declaration_parts around x j.0 j.2).2 (no_parameters ds j.1 j.3))
+    where
+      by : (s : DeclarationOf) (ss : List DeclarationOf) (d : ℕ) → s.parameters ≡ 0 → ((d : ℕ) → parameters_in ss d ≡ 0) → parameters_in (s ∷ ss) d ≡ 0
+      by s ss zero h later = h
+      by s ss (suc d) h later = later d
+
+  -- ---- types are over the declarations
+
+  module _ (over : ResolvedAreOver) (n : ℕ) (parameters : ℕ → ℕ) (own : ℕ) (below : (k : List ℕ) (d : ℕ) → around.place_of k ≡ Some d → (d < n) × (parameters d ≡ 0)) where
+    abbrev AreTypesOver : List Open → Type 0
+    AreTypesOver ts = AreAllOver n parameters own ts
+
+    members_over : (rules : FieldRules) (fs : List FieldItem) (ms : List MemberOf) → all_of (member_of around rules) fs ≡ Some ms → AreTypesOver (member_types ms)
+    members_over rules [] ms e = subst (λ xs. AreTypesOver (member_types xs)) (same_Some [] ms e) tt
+    members_over rules (f ∷ fs) ms e =
+        let j = joined (member_of around rules f) (all_of (member_of around rules) fs) ms e in
+        let m = member_parts around rules f j.0 j.2 in
+        subst (λ xs. AreTypesOver (member_types xs)) j.4 (over around.place_of n parameters own below f.ty j.0.of m.typed, members_over rules fs j.1 j.3)
+
+    types_over : (fs : List FieldItem) (ts : List Open) → all_of (λ (f : FieldItem). type_of around.place_of f.ty) fs ≡ Some ts → AreTypesOver ts
+    types_over [] ts e = subst AreTypesOver (same_Some [] ts e) tt
+    types_over (f ∷ fs) ts e =
+        let j = joined (type_of around.place_of f.ty) (all_of (λ (g : FieldItem). type_of around.place_of g.ty) fs) ts e in
+        subst AreTypesOver j.4 (over around.place_of n parameters own below f.ty j.0 j.2, types_over fs j.1 j.3)
+
+    form_over : (rules : FieldRules) (fs : FieldItems) (form : FormOf) → form_of around rules fs ≡ Some form → AreTypesOver (types_of form)
+    form_over rules (named fs) form e =
+        let m = mapped (named_fields rules.denies) (all_of (member_of around rules) (kept fs)) form e in subst (λ f. AreTypesOver (types_of f)) m.2 (members_over rules (kept fs) m.0 m.1)
+    form_over rules (unnamed []) form e = absurd (none-some form e)
+    form_over rules (unnamed (f ∷ fs)) form e =
+        let m = mapped unnamed_fields (all_of (λ (g : FieldItem). type_of around.place_of g.ty) (f ∷ fs)) form e in subst (λ x. AreTypesOver (types_of x)) m.2 (types_over (f ∷ fs) m.0 m.1)
+    form_over rules unit form e = subst (λ f. AreTypesOver (types_of f)) (same_Some no_fields form e) tt
+
+    both_over : (ts us : List Open) → AreTypesOver ts → AreTypesOver us → AreTypesOver (ts ++ us)
+    both_over [] us h g = g
+    both_over (t ∷ ts) us h g = (h.0, both_over ts us h.1 g)
+
+    -- the form of a variant is that of its fields
+    variant_over : (rule : Option RenameRule) (tagging : Tagging) (v : VariantItem) (x : VariantOf) → variant_of around rule tagging v ≡ Some x → AreTypesOver (types_of x.form)
+    variant_over rule tagging v x e = by (variant_name around.rows rule tagging v) e
+      where
+        by : (o : Option (List ℕ)) → option_and_then (λ name. option_map (variant_from v name) (form_of around (field_rules (serde_items v.attrs)) v.fields)) o ≡ Some x → AreTypesOver (types_of x.form)
+        by None h = absurd (none-some x h)
+        by (Some name) h =
+            let m = mapped (variant_from v name) (form_of around (field_rules (serde_items v.attrs)) v.fields) x h in
+            subst (λ (y : VariantOf). AreTypesOver (types_of y.form)) m.2 (form_over (field_rules (serde_items v.attrs)) v.fields m.0 m.1)
+
+    variants_over : (rule : Option RenameRule) (tagging : Tagging) (vs : List VariantItem) (xs : List VariantOf) → all_of (variant_of around rule tagging) vs ≡ Some xs → AreTypesOver (variant_types xs)
+    variants_over rule tagging [] xs e = subst (λ ys. AreTypesOver (variant_types ys)) (same_Some [] xs e) tt
+    variants_over rule tagging (v ∷ vs) xs e =
+        let j = joined (variant_of around rule tagging v) (all_of (variant_of around rule tagging) vs) xs e in
+        subst (λ ys. AreTypesOver (variant_types ys)) j.4 (both_over (types_of j.0.form) (variant_types j.1) (variant_over rule tagging v j.0 j.2) (variants_over rule tagging vs j.1 j.3))
+
+    mixed_over : (rule : Option RenameRule) (vs : List VariantItem) (tagging : Tagging) (body : BodyOf) → mixed_of around rule vs tagging ≡ Some body → AreTypesOver (body_types body)
+    mixed_over rule vs tagging body e =
+        let m = mapped (variants tagging) (all_of (variant_of around rule tagging) (kept_variants vs)) body e in
+        subst (λ x. AreTypesOver (body_types x)) m.2 (variants_over rule tagging (kept_variants vs) m.0 m.1)
+
+    enum_over : (rule : Option RenameRule) (vs : List VariantItem) (tagging : Option Tagging) (body : BodyOf) → option_and_then (enum_of around rule vs) tagging ≡ Some body → AreTypesOver (body_types body)
+    enum_over rule vs None body e = absurd (none-some body e)
+    enum_over rule vs (Some tagging) body e = by (are_units vs) e
+      where
+        by : (b : Bool) → cond b (units_of around rule vs tagging) (mixed_of around rule vs tagging) ≡ Some body → AreTypesOver (body_types body)
+        by true h = subst (λ x. AreTypesOver (body_types x)) (mapped (units tagging) (all_of (variant_name around.rows rule tagging) (kept_variants vs)) body h).2 tt
+        by false h = mixed_over rule vs tagging body h
+
+    body_over : (items : List SerdeItem) (b : BodyItem) (body : BodyOf) → body_of around items b ≡ Some body → AreTypesOver (body_types body)
+    body_over items (struct_body fs) body e =
+        let m = mapped fields (form_of around (field_rules items) fs) body e in subst (λ x. AreTypesOver (body_types x)) m.2 (form_over (field_rules items) fs m.0 m.1)
+    body_over items (enum_body vs) body e = enum_over (rename_rule items) vs (tagging_in items) body e
+
+    at_over : (ds : List DeclaredItem) (ss : List DeclarationOf) → all_of (resolved_of around) ds ≡ Some ss → (d : ℕ) → d < length ss → AreTypesOver (body_types (declaration_at ss d).body)
+    at_over [] ss e d l = absurd (subst (λ xs. ¬ (d < length xs)) (same_Some [] ss e) (λ h. omega arith) l)
+    at_over (x ∷ ds) ss e d l =
+        let j = joined (resolved_of around x) (all_of (resolved_of around) ds) ss e in
+        subst (λ xs. d < length xs → AreTypesOver (body_types (declaration_at xs d).body)) j.4
+        (by j.0 j.1 d (body_over (serde_items x.attrs) x.body j.0.body (declaration_parts around x j.0 j.2).1) (at_over ds j.1 j.3)) l
+      where
+        by : (s : DeclarationOf) (ss : List DeclarationOf) (d : ℕ) → AreTypesOver (body_types s.body) → ((d : ℕ) → d < length ss → AreTypesOver (body_types (declaration_at ss d).body)) →
+            d < length (s ∷ ss) → AreTypesOver (body_types (declaration_at (s ∷ ss) d).body)
+        by s ss zero h later l = h
+        by s ss (suc d) h later l = later d (omega arith)
+
+pub names_are : (rows : List RenameRow) (ds : List DeclaredItem) (ss : List DeclarationOf) → resolved_declarations rows ds ≡ Some ss → declaration_names ss ≡ declared_names ds
+names_are rows ds ss e = declaration_names-are (around_of rows ds) ds ss e
+
+pub all_fitting : ResolvedAreOver → (rows : List RenameRow) (ds : List DeclaredItem) (ss : List DeclarationOf) → resolved_declarations rows ds ≡ Some ss → AreFitting ss
+all_fitting over rows ds ss e d l =
+    at_over (around_of rows ds) over (length ss) (parameters_in ss) (parameters_in ss d)
+    (λ k p h. (subst (λ m. p < m) (ap length (sym (names_are rows ds ss e)) ∙ many_names ss) (below_names k (declared_names ds) p h), no_parameters (around_of rows ds) ds ss e p)) ds ss e d l

@@ -1,0 +1,173 @@
+//! Names of instances.
+
+ghost use Rattle.std.specs.Prelude.{◌≡◌, ◌++◌, codes, map, IfOk, OnOk};
+ghost use Rattle.open_types.specs.Open.{open_view, opens_view};
+ghost use Rattle.open_types.specs.TypeNames.{with_name, names_behind};
+ghost use Rattle.shapes.specs.Declarations.{declaration_at};
+ghost use Rattle.shapes.specs.InstanceNames.{instance_name};
+ghost use Rattle.texts.specs.Names.{place_in};
+ghost use Rattle.instances.specs.Naming.{IsNaming};
+
+use crate::reach::Reach;
+use open_types::OpenType;
+use shapes::Declared;
+use std::alloc::{AllocError, Global};
+use std::collections::BTreeMap;
+use std::marker::Model;
+use texts::{List, Text};
+
+/// The names of instances, which are distinct, and the numbers of names. Contracts see the list of names.
+#[derive(Drop)]
+pub struct Names {
+    names: List<Text>,
+    /// The number of each name.
+    numbers: BTreeMap<String, usize>,
+}
+
+impl Model for Names {
+    ghost use Rattle.std.specs.Prelude.{List as Items, ℕ};
+
+    ghost Value = { Items (Items ℕ) };
+
+    ghost use Rattle.std.specs.BTreeMap.{get_by_text};
+    ghost use Rattle.instances.specs.Numbers.{AreNamed};
+
+    ghost view = { λ names. names.names };
+
+    ghost invariant = { λ names. AreNamed (get_by_text names.numbers) names.names };
+}
+
+impl Names {
+    /// The names, by number.
+    pub fn as_slice(&self) -> &[Text]
+        ensures { result.now ≡ self.now }
+    {
+        self.names.as_slice()
+    }
+
+    /// The number of the name, where it is there.
+    pub fn number(&self, name: &str) -> Option<usize>
+        ensures { result ≡ place_in name.now self.now }
+    {
+        match self.numbers.get(name) {
+            Some(number) => Some(*number),
+            None => None,
+        }
+    }
+}
+
+/// What the names of instances are: all distinct, or those of two numbers are equal.
+#[derive(Drop)]
+pub enum Naming {
+    Apart(Names),
+    Clash(usize, usize),
+}
+
+/// The name of each instance, as `instance_name`. Where two are equal, the numbers of two: the second is that of the first
+/// instance whose name stands before it.
+pub fn names_of<D: Declared>(
+    alloc: Global,
+    declared: &[D],
+    reach: &Reach,
+) -> Result<Naming, AllocError>
+    ensures { IfOk result (IsNaming (map D.declaration declared.now) reach.now) }
+{
+    let mut names = List::new(alloc);
+    let mut numbers = BTreeMap::new(alloc);
+    for number in 0..reach.len() {
+        let ty = reach.type_of(alloc, number)?;
+        let name = instance_name(alloc, declared, ty.as_open())?;
+        let key = String::from_str(alloc, name.as_str())?;
+        if let Some(earlier) = numbers.insert(key, number).map_err(AllocError::from)? {
+            return Ok(Naming::Clash(earlier, number));
+        }
+        names.push(name)?;
+    }
+    Ok(Naming::Apart(Names { names, numbers }))
+}
+
+/// The name of the component of an instance, as `Page_Vec_User`: that of its declaration, and behind it those of its arguments.
+/// It recurses as deep as the type nests.
+pub fn instance_name<D: Declared>(
+    alloc: Global,
+    declared: &[D],
+    ty: &OpenType,
+) -> Result<Text, AllocError>
+    ensures { IfOk result (λ name. name
+        ≡ instance_name (map D.declaration declared.now) (open_view ty.now)) }
+{
+    let mut name = Text::new(alloc, "")?;
+    push_type(&mut name, declared, ty)?;
+    Ok(name)
+}
+
+/// The name of the declaration at the place; past the end, none.
+fn declared_name<D: Declared>(declared: &[D], place: usize) -> &str
+    ensures { result.now ≡ (declaration_at (map D.declaration declared.now) place).name }
+{
+    match declared.get(place) {
+        Some(declaration) => declaration.name().as_str(),
+        None => "",
+    }
+}
+
+/// Adds the name of the type at the end of the text.
+#[cycle(name)]
+fn push_type<D: Declared>(text: &mut Text, declared: &[D], ty: &OpenType) -> Result<(), AllocError>
+    ensures { OnOk result (text.new
+        ≡ text.old ++ instance_name (map D.declaration declared.now) (open_view ty.now)) }
+{
+    match ty {
+        OpenType::Leaf(leaf) => text.push(leaf.name()),
+        OpenType::AnyValue => text.push("Value"),
+        OpenType::FreeObject => text.push("Object"),
+        OpenType::Unit => Ok(()),
+        OpenType::Tuple(_) => Ok(()),
+        OpenType::Items(head, of) => push_applied(text, declared, head.name(), of),
+        OpenType::Set(head, of) => push_applied(text, declared, head.name(), of),
+        OpenType::Map(head, key, of) => {
+            push_applied(text, declared, head.name(), key)?;
+            push_applied(text, declared, "", of)
+        }
+        OpenType::Option(of) => push_applied(text, declared, "Option", of),
+        OpenType::Through(head, of) => push_applied(text, declared, head.name(), of),
+        OpenType::Param(_) => Ok(()),
+        OpenType::Named(place, arguments) => {
+            text.push(declared_name(declared, *place))?;
+            push_arguments(text, declared, arguments.as_slice())
+        }
+    }
+}
+
+/// Adds a name, and behind it that of the type.
+#[cycle(name)]
+fn push_applied<D: Declared>(
+    text: &mut Text,
+    declared: &[D],
+    name: &str,
+    of: &OpenType,
+) -> Result<(), AllocError>
+    ensures { OnOk result (text.new ≡ text.old ++ with_name name.now
+        (instance_name (map D.declaration declared.now) (open_view of.now))) }
+{
+    text.push(name)?;
+    text.push("_")?;
+    push_type(text, declared, of)
+}
+
+/// Adds the names of the arguments.
+#[cycle(name)]
+fn push_arguments<D: Declared>(
+    text: &mut Text,
+    declared: &[D],
+    arguments: &[OpenType],
+) -> Result<(), AllocError>
+    ensures { OnOk result (text.new ≡ text.old
+        ++ names_behind (λ d. (declaration_at (map D.declaration declared.now) d).name)
+        (opens_view arguments.now)) }
+{
+    for ty in arguments {
+        push_applied(text, declared, "", ty)?;
+    }
+    Ok(())
+}
