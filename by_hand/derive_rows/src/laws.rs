@@ -32,7 +32,7 @@ fn of_schemas() {
     open_types::closed_types_stay();
     open_types::same_types_are_equal();
     resolving::resolved_have_no_fault();
-    resolving::resolved_are_within();
+    resolving::resolved_are_over();
     type_tree::trees_are_equal_by_text();
     type_tree::formats_are_equal();
     acceptance::accepts_deeper();
@@ -61,10 +61,9 @@ fn of_documents() {
     serde_rules::representations_are_equal();
     inlining::orders_stand();
     compose::bounded_are_not_refused();
-    closing::targets_are_declared();
     closing::components_describe();
     closing::references_accept();
-    closing::inlined_accept();
+    closing::places_agree();
     schema_gen::sound_is_not_refused();
 }
 

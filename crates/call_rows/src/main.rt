@@ -3,6 +3,7 @@
 
 mod accepted;
 mod arguments;
+mod composed;
 mod reported;
 mod single_words;
 mod terms;
@@ -34,6 +35,7 @@ fn told(alloc: Global, row: &Row) -> anyhow::Result<String> {
         "parse_format" => trees::format_value(alloc, given),
         "type_text" => arguments::text(alloc, given),
         "numbers" => arguments::numbers(alloc),
+        "instances" => composed::of_source(alloc, given),
         "terms" | "place" => terms::of_source(alloc, row.call.as_str(), given),
         other => bail!("no call {other}"),
     }

@@ -144,7 +144,7 @@ fn of_first(
     let [first, ..] = places.declarations.items.as_slice() else {
         return Ok(String::from_str(alloc, "no declaration")?);
     };
-    let scope = Scope::new(&*places, 0);
+    let scope = Scope::new(alloc, &*places, 0)?;
     let config = Config::new(alloc);
     let container = Container {
         scope: &scope,

@@ -1,4 +1,5 @@
 pub mod Bounded
 pub mod Counts
+pub mod NamedAlone
 pub mod Placed
 pub mod TypesFound

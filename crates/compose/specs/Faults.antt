@@ -1,4 +1,4 @@
--- Why declarations have no components: an attribute or a parameter that nothing is derived from, a name that two declarations have, a declaration at fault, or what is beyond a bound.
+-- Why declarations have no components: an attribute that nothing is derived from, a name that two declarations have, a declaration at fault, or what is beyond a bound.
 use Rattle.std.specs.Prelude.{◌≡◌, ◌⊎◌, ℕ, List, None, Some}
 use Rattle.diag.specs.Refusal.{RefusesNone}
 use Rattle.diag.specs.declared.error.DeriveError.{DeriveError}
@@ -21,11 +21,11 @@ use Rattle.compose.specs.Bounds.{AreBounded, IsUnbounded, collects_all}
 abbrev pub AreFaulty : List RenameRow → List DeclaredItem → DeriveError → Type 0
 AreFaulty rows ds e = IsGivenTwice (declared_idents ds) e ⊎ AreFaultyItems rows ds e
 
--- the error refuses the declarations for an attribute or a parameter that nothing is derived from, or else for a fault
+-- the error refuses the declarations for an attribute that nothing is derived from, or else for a fault
 abbrev pub AreAtFault : List RenameRow → List DeclaredItem → DeriveError → Type 0
 AreAtFault rows ds e = AreUnderivable ds e ⊎ (AreDerivable ds × AreFaulty rows ds e)
 
--- Something is derived from each attribute and each parameter of the declarations, and there is no fault, where names become what the rows say.
+-- Something is derived from each attribute of the declarations, and there is no fault, where names become what the rows say.
 pub record AreClear (rows : List RenameRow) (ds : List DeclaredItem) : Type 0 where
   pub derivable : AreDerivable ds
   pub faultless : RefusesNone (AreFaulty rows ds)

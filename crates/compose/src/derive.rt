@@ -56,7 +56,15 @@ fn components_within(
     } = bounded;
     closing::components_are_reachable();
     let order = order.as_slice();
-    let components = components_of(alloc, resolved, &reach, names.as_slice(), terms, order, &shown)?;
+    let components = components_of(
+        alloc,
+        resolved,
+        &reach,
+        names.as_slice(),
+        terms,
+        order,
+        &shown,
+    )?;
     let types = types_of(alloc, &reach, &names, components.names())?;
     Ok(Derived { components, types })
 }

@@ -6,12 +6,14 @@
 mod bounds;
 mod derive;
 mod law;
+mod names;
 mod refusals;
 mod sets;
 mod types;
 mod within;
 
-pub use closing::{references_accept, components_describe, places_agree, places_describe};
+pub use closing::{components_describe, places_agree, places_describe, references_accept};
 pub use derive::{Derived, derive_components};
 pub use law::bounded_are_not_refused;
+pub use names::component_name;
 pub use sets::{InstanceSet, TermSet, compose, instances, terms};

@@ -138,7 +138,15 @@ fn ordered_clash(
     let message = format!(in alloc; "two types have the component name {}", name.as_str())?;
     let span = span_of(idents, reach, first);
     let pair = [first, second];
-    refusal_of(alloc, Kind::NameClash, span, message.as_str(), idents, reach, &pair)
+    refusal_of(
+        alloc,
+        Kind::NameClash,
+        span,
+        message.as_str(),
+        idents,
+        reach,
+        &pair,
+    )
 }
 
 /// The refusal of two instances of one name, which are told in byte order of their texts.

@@ -85,22 +85,19 @@ fn settle(
 {
     only_derivable(alloc, declarations)?;
     let by_name = declared_places(alloc, declarations)?;
-    let places = Places {
-        declarations,
-        by_name,
-    };
+    let places = Places::of_names(alloc, declarations, by_name)?;
     let resolved = resolved_declarations(alloc, &places, config)?;
     Ok(resolved)
 }
 
 /// The terms of the declarations.
 ///
-/// A refusal is of kind `Syntax`, at the first attribute of `schema` or `repr` or one of `serde` that flattens, or at the
-/// first type or const parameter: nothing is derived from these. Else it is of kind `DuplicateName`, `SerdeTag`, `BadValue`,
-/// `MissingRow`, `UnknownType`, `Arity`, `TypeSize` or `TaggedTuple`: a name that two declarations have comes first; then,
-/// declaration by declaration, a lifetime given twice, what serde's attributes of a struct, an enum or a variant contradict,
-/// what is wrong with the name of a field or a variant, with a field's type or with a variant's tag, before a name that two
-/// of them have; a form of unnamed fields without a field is `Arity`.
+/// A refusal is of kind `Syntax`, at the first attribute of `schema` or `repr` or one of `serde` that flattens: nothing is
+/// derived from these. Else it is of kind `DuplicateName`, `SerdeTag`, `BadValue`, `MissingRow`, `UnknownType`, `Arity`,
+/// `BadArgument`, `TypeSize` or `TaggedTuple`: a name that two declarations have comes first; then, declaration by
+/// declaration, a parameter given twice, what serde's attributes of a struct, an enum or a variant contradict, what is wrong
+/// with the name of a field or a variant, with a field's type or with a variant's tag, before a name that two of them have; a
+/// form of unnamed fields without a field is `Arity`.
 pub fn terms(
     alloc: Global,
     declarations: &Declarations,
@@ -167,7 +164,11 @@ pub fn compose(
     ensures { IfOk result (λ s. schema_view s
         ≡ instance_schema (declarations_of terms.now) (open_view instance.now)) }
 {
-    let InstanceSet { reach, targets, order } = instances;
+    let InstanceSet {
+        reach,
+        targets,
+        order,
+    } = instances;
     let number = reach.number_of(instance.as_open());
     let resolved = terms.resolved.as_slice();
     let (targets, order) = (targets.as_slice(), order.as_slice());

@@ -67,7 +67,13 @@ pub(crate) fn within_bounds(
     let order = shallow_order(alloc, idents, resolved, &reach, targets)?;
     let all = collects_all(config);
     let shown = shown_of(alloc, resolved, &reach, &links, all)?;
-    few_copies(alloc, targets, order.as_slice(), shown.components.as_slice(), config)?;
+    few_copies(
+        alloc,
+        targets,
+        order.as_slice(),
+        shown.components.as_slice(),
+        config,
+    )?;
     Ok(Bounded {
         all,
         reach,

@@ -2,8 +2,7 @@
 use Rattle.std.proofs.Common.{◌≡◌, ◌∙◌, ◌<◌, ◌+◌, ℕ, suc, List, [], ◌∷◌, ◌++◌, length, drop, get_or, refl, ap, sym, Option, Some, None, Bool, true, false, cond, add-one, drop-cons}
 use Rattle.std.specs.Option.{option_or}
 use Rattle.attributes.specs.Attributes.{AttributeItem}
-use Rattle.syntax.specs.Items.{ParameterItem, lifetime_parameter, type_parameter, const_parameter}
-use Rattle.derive_decl.specs.Faults.{is_other, first_other, first_argued}
+use Rattle.derive_decl.specs.Faults.{is_other, first_other}
 
 pub first_joined : (xs ys : List AttributeItem) → first_other (xs ++ ys) ≡ option_or (first_other xs) (first_other ys)
 first_joined [] ys = refl
@@ -12,12 +11,6 @@ first_joined (a ∷ xs) ys = by (is_other a) (first_joined xs ys)
     by : (b : Bool) → first_other (xs ++ ys) ≡ option_or (first_other xs) (first_other ys) → cond b (Some a.span) (first_other (xs ++ ys)) ≡ option_or (cond b (Some a.span) (first_other xs)) (first_other ys)
     by true h = refl
     by false h = h
-
-pub argued_joined : (ps qs : List ParameterItem) → first_argued (ps ++ qs) ≡ option_or (first_argued ps) (first_argued qs)
-argued_joined [] qs = refl
-argued_joined (lifetime_parameter x ∷ ps) qs = argued_joined ps qs
-argued_joined (type_parameter x ∷ ps) qs = refl
-argued_joined (const_parameter x ∷ ps) qs = refl
 
 -- the first of a list is that of its first item, or else that of the others
 module _ {A B : Type 0} (first : List A → Option B) (one : A → Option B) (split : (x : A) (xs : List A) → first (x ∷ xs) ≡ option_or (one x) (first xs)) where

@@ -8,4 +8,5 @@ pub mod TagLaws
 pub mod Texts
 pub mod EnumLaws
 pub mod Over
+pub mod Owners
 pub mod Faultless

@@ -1,5 +1,5 @@
 -- What the resolved declarations of all declarations say: their names, and that their types fit.
-use Rattle.std.proofs.Common.{ℕ, zero, suc, ◌<◌, List, [], ◌∷◌, ◌++◌, Option, Some, None, option_map, option_and_then, Bool, true, false, cond, bytes_eq, length, ◌≡◌, refl, ap, sym, subst, ◌∙◌, arith}
+use Rattle.std.proofs.Common.{ℕ, zero, suc, ◌<◌, List, [], ◌∷◌, ◌++◌, Option, Some, None, option_map, option_and_then, Bool, true, false, cond, bytes_eq, length, ◌≡◌, refl, ap, sym, subst, ◌∙◌, arith, slice_index}
 use Rattle.std.proofs.lemmas.Option.{none-some, same_Some}
 use Rattle.texts.specs.Names.{place_in}
 use Rattle.diag.specs.declared.rename_rule.RenameRule.{RenameRule}
@@ -12,13 +12,15 @@ use Rattle.syntax.specs.Items.{FieldItem, FieldItems, named, unnamed, unit, Vari
 use Rattle.open_types.specs.Open.{Open}
 use Rattle.open_types.specs.Within.{AreAllOver}
 use Rattle.resolving.specs.Resolved.{type_of, ResolvedAreOver}
-use Rattle.scopes.specs.Names.{declared_names}
+use Rattle.scopes.specs.Names.{declared_names, texts, place_among}
 use Rattle.shapes.specs.Declarations.{MemberOf, FormOf, named_fields, unnamed_fields, no_fields, VariantOf, BodyOf, fields, units, variants, DeclarationOf, member_types, types_of, variant_types, body_types, declaration_names, declaration_at, parameters_in, AreFitting}
 use Rattle.shapes.specs.declared.tagging.Tagging.{Tagging}
 use Rattle.derive_decl.specs.Variants.{tagging_in, are_units, kept_variants, variant_name}
 use Rattle.derive_decl.specs.Fields.{FieldRules, field_rules, kept, written_name}
 use Rattle.derive_decl.specs.Resolved.{Around, around_of, all_of, member_from, member_as, member_of, form_of, variant_from, variant_of, units_of, mixed_of, enum_of, body_of, declaration_from, resolved_of}
-use Rattle.derive_decl.specs.Whole.{resolved_declarations}
+use Rattle.derive_decl.specs.Whole.{resolved_declarations, resolved_among}
+use Rattle.scopes.specs.Parameters.{type_parameters, parameter_counts}
+use Rattle.std.proofs.Math.Path.{fun_ext}
 
 -- ---- results that may be missing
 
@@ -55,12 +57,12 @@ record IsMember (around : Around) (rules : FieldRules) (f : FieldItem) (m : Memb
   ident : Ident
   is : f.ident ≡ Some ident
   named : written_name around.rows rules.rule f ident ≡ Some m.name
-  typed : type_of around.place_of f.ty ≡ Some m.of
+  typed : type_of around.known f.ty ≡ Some m.of
 
 member_parts : (around : Around) (rules : FieldRules) (f : FieldItem) (m : MemberOf) → member_of around rules f ≡ Some m → IsMember around rules f m
 member_parts around rules f m e = by f.ident refl e
   where
-    from : (x : Ident) (n : Option (List ℕ)) (t : Option Open) → f.ident ≡ Some x → written_name around.rows rules.rule f x ≡ n → type_of around.place_of f.ty ≡ t →
+    from : (x : Ident) (n : Option (List ℕ)) (t : Option Open) → f.ident ≡ Some x → written_name around.rows rules.rule f x ≡ n → type_of around.known f.ty ≡ t →
         option_and_then (λ name. option_map (member_from rules f name) t) n ≡ Some m → IsMember around rules f m
     from x None t i p q h = absurd (none-some m h)
     from x (Some n) None i p q h = absurd (none-some m h)
@@ -70,60 +72,65 @@ member_parts around rules f m e = by f.ident refl e
 
     by : (o : Option Ident) → f.ident ≡ o → member_as around rules f o ≡ Some m → IsMember around rules f m
     by None i h = absurd (none-some m h)
-    by (Some x) i h = from x (written_name around.rows rules.rule f x) (type_of around.place_of f.ty) i refl refl h
+    by (Some x) i h = from x (written_name around.rows rules.rule f x) (type_of around.known f.ty) i refl refl h
 
 -- ---- declarations
 
 -- the declaration of a declaration
-declaration_parts : (around : Around) (d : DeclaredItem) (s : DeclarationOf) → resolved_of around d ≡ Some s → (s.name ≡ d.ident.text) × (body_of around (serde_items d.attrs) d.body ≡ Some s.body) × (s.parameters ≡ 0)
+declaration_parts : (around : Around) (d : DeclaredItem) (s : DeclarationOf) → resolved_of around d ≡ Some s → (s.name ≡ d.ident.text) × (body_of around (serde_items d.attrs) d.body ≡ Some s.body) × (s.parameters ≡ around.parameters)
 declaration_parts around d s e =
-    let m = mapped (declaration_from d.attrs d.ident) (body_of around (serde_items d.attrs) d.body) s e in
+    let m = mapped (declaration_from around d.attrs d.ident) (body_of around (serde_items d.attrs) d.body) s e in
     (sym (ap (λ (r : DeclarationOf). r.name) m.2), m.1 ∙ ap (λ (r : DeclarationOf). Some r.body) m.2, sym (ap (λ (r : DeclarationOf). r.parameters) m.2))
 
-module _ (around : Around) where
+module _ (rows : List RenameRow) (all : List DeclaredItem) where
   -- the declarations have the names of the declarations
-  declaration_names-are : (ds : List DeclaredItem) (ss : List DeclarationOf) → all_of (resolved_of around) ds ≡ Some ss → declaration_names ss ≡ declared_names ds
+  declaration_names-are : (ds : List DeclaredItem) (ss : List DeclarationOf) → all_of (resolved_among rows all) ds ≡ Some ss → declaration_names ss ≡ declared_names ds
   declaration_names-are [] ss e = ap declaration_names (sym (same_Some [] ss e))
   declaration_names-are (d ∷ ds) ss e =
-      let j = joined (resolved_of around d) (all_of (resolved_of around) ds) ss e in
-      sym (ap declaration_names j.4) ∙ ap (λ n. n ∷ declaration_names j.1) (declaration_parts around d j.0 j.2).0 ∙ ap (λ ns. d.ident.text ∷ ns) (declaration_names-are ds j.1 j.3)
+      let j = joined (resolved_among rows all d) (all_of (resolved_among rows all) ds) ss e in
+      sym (ap declaration_names j.4) ∙ ap (λ n. n ∷ declaration_names j.1) (declaration_parts (around_of rows all d.generics) d j.0 j.2).0 ∙ ap (λ ns. d.ident.text ∷ ns) (declaration_names-are ds j.1 j.3)
 
-  -- a declaration has no parameters, nor has what is past the end
-  no_parameters : (ds : List DeclaredItem) (ss : List DeclarationOf) → all_of (resolved_of around) ds ≡ Some ss → (d : ℕ) → parameters_in ss d ≡ 0
-  no_parameters [] ss e d = subst (λ xs. parameters_in xs d ≡ 0) (same_Some [] ss e) refl
-  no_parameters (x ∷ ds) ss e d =
-      let j = joined (resolved_of around x) (all_of (resolved_of around) ds) ss e in
-      subst (λ xs. parameters_in xs d ≡ 0) j.4 (by j.0 j.1 d (declaration_parts around x j.0 j.2).2 (no_parameters ds j.1 j.3))
+  -- and as many parameters
+  parameters-are : (ds : List DeclaredItem) (ss : List DeclarationOf) → all_of (resolved_among rows all) ds ≡ Some ss → (d : ℕ) → slice_index (parameter_counts ds) d ≡ parameters_in ss d
+  parameters-are [] ss e d = subst (λ xs. 0 ≡ parameters_in xs d) (same_Some [] ss e) refl
+  parameters-are (x ∷ ds) ss e d =
+      let j = joined (resolved_among rows all x) (all_of (resolved_among rows all) ds) ss e in
+      subst (λ xs. slice_index (parameter_counts (x ∷ ds)) d ≡ parameters_in xs d) j.4 (by j.0 j.1 d (declaration_parts (around_of rows all x.generics) x j.0 j.2).2 (parameters-are ds j.1 j.3))
     where
-      by : (s : DeclarationOf) (ss : List DeclarationOf) (d : ℕ) → s.parameters ≡ 0 → ((d : ℕ) → parameters_in ss d ≡ 0) → parameters_in (s ∷ ss) d ≡ 0
-      by s ss zero h later = h
+      by : (s : DeclarationOf) (ss : List DeclarationOf) (d : ℕ) → s.parameters ≡ length (type_parameters x.generics) → ((d : ℕ) → slice_index (parameter_counts ds) d ≡ parameters_in ss d) → slice_index (parameter_counts (x ∷ ds)) d ≡ parameters_in (s ∷ ss) d
+      by s ss zero h later = sym h
       by s ss (suc d) h later = later d
 
-  -- ---- types are over the declarations
+many_texts : (xs : List Ident) → length (texts xs) ≡ length xs
+many_texts [] = refl
+many_texts (x ∷ xs) = ap suc (many_texts xs)
 
-  module _ (over : ResolvedAreOver) (n : ℕ) (parameters : ℕ → ℕ) (own : ℕ) (below : (k : List ℕ) (d : ℕ) → around.place_of k ≡ Some d → (d < n) × (parameters d ≡ 0)) where
+-- ---- types are over the declarations
+
+module _ (over : ResolvedAreOver) where
+  module _ (around : Around) (n : ℕ) (own : ℕ) (below : (k : List ℕ) (d : ℕ) → around.known.place_of k ≡ Some d → d < n) (within : (k : List ℕ) (i : ℕ) → around.known.parameter_of k ≡ Some i → i < own) where
     abbrev AreTypesOver : List Open → Type 0
-    AreTypesOver ts = AreAllOver n parameters own ts
+    AreTypesOver ts = AreAllOver n around.known.parameters_at own ts
 
     members_over : (rules : FieldRules) (fs : List FieldItem) (ms : List MemberOf) → all_of (member_of around rules) fs ≡ Some ms → AreTypesOver (member_types ms)
     members_over rules [] ms e = subst (λ xs. AreTypesOver (member_types xs)) (same_Some [] ms e) tt
     members_over rules (f ∷ fs) ms e =
         let j = joined (member_of around rules f) (all_of (member_of around rules) fs) ms e in
         let m = member_parts around rules f j.0 j.2 in
-        subst (λ xs. AreTypesOver (member_types xs)) j.4 (over around.place_of n parameters own below f.ty j.0.of m.typed, members_over rules fs j.1 j.3)
+        subst (λ xs. AreTypesOver (member_types xs)) j.4 (over around.known n own below within f.ty j.0.of m.typed, members_over rules fs j.1 j.3)
 
-    types_over : (fs : List FieldItem) (ts : List Open) → all_of (λ (f : FieldItem). type_of around.place_of f.ty) fs ≡ Some ts → AreTypesOver ts
+    types_over : (fs : List FieldItem) (ts : List Open) → all_of (λ (f : FieldItem). type_of around.known f.ty) fs ≡ Some ts → AreTypesOver ts
     types_over [] ts e = subst AreTypesOver (same_Some [] ts e) tt
     types_over (f ∷ fs) ts e =
-        let j = joined (type_of around.place_of f.ty) (all_of (λ (g : FieldItem). type_of around.place_of g.ty) fs) ts e in
-        subst AreTypesOver j.4 (over around.place_of n parameters own below f.ty j.0 j.2, types_over fs j.1 j.3)
+        let j = joined (type_of around.known f.ty) (all_of (λ (g : FieldItem). type_of around.known g.ty) fs) ts e in
+        subst AreTypesOver j.4 (over around.known n own below within f.ty j.0 j.2, types_over fs j.1 j.3)
 
     form_over : (rules : FieldRules) (fs : FieldItems) (form : FormOf) → form_of around rules fs ≡ Some form → AreTypesOver (types_of form)
     form_over rules (named fs) form e =
         let m = mapped (named_fields rules.denies) (all_of (member_of around rules) (kept fs)) form e in subst (λ f. AreTypesOver (types_of f)) m.2 (members_over rules (kept fs) m.0 m.1)
     form_over rules (unnamed []) form e = absurd (none-some form e)
     form_over rules (unnamed (f ∷ fs)) form e =
-        let m = mapped unnamed_fields (all_of (λ (g : FieldItem). type_of around.place_of g.ty) (f ∷ fs)) form e in subst (λ x. AreTypesOver (types_of x)) m.2 (types_over (f ∷ fs) m.0 m.1)
+        let m = mapped unnamed_fields (all_of (λ (g : FieldItem). type_of around.known g.ty) (f ∷ fs)) form e in subst (λ x. AreTypesOver (types_of x)) m.2 (types_over (f ∷ fs) m.0 m.1)
     form_over rules unit form e = subst (λ f. AreTypesOver (types_of f)) (same_Some no_fields form e) tt
 
     both_over : (ts us : List Open) → AreTypesOver ts → AreTypesOver us → AreTypesOver (ts ++ us)
@@ -164,22 +171,32 @@ module _ (around : Around) where
         let m = mapped fields (form_of around (field_rules items) fs) body e in subst (λ x. AreTypesOver (body_types x)) m.2 (form_over (field_rules items) fs m.0 m.1)
     body_over items (enum_body vs) body e = enum_over (rename_rule items) vs (tagging_in items) body e
 
-    at_over : (ds : List DeclaredItem) (ss : List DeclarationOf) → all_of (resolved_of around) ds ≡ Some ss → (d : ℕ) → d < length ss → AreTypesOver (body_types (declaration_at ss d).body)
+  module _ (rows : List RenameRow) (all : List DeclaredItem) (n : ℕ) (below : (k : List ℕ) (d : ℕ) → place_among all k ≡ Some d → d < n) where
+    at_over : (ds : List DeclaredItem) (ss : List DeclarationOf) → all_of (resolved_among rows all) ds ≡ Some ss → (d : ℕ) → d < length ss →
+        AreAllOver n (slice_index (parameter_counts all)) (parameters_in ss d) (body_types (declaration_at ss d).body)
     at_over [] ss e d l = absurd (subst (λ xs. ¬ (d < length xs)) (same_Some [] ss e) (λ h. omega arith) l)
     at_over (x ∷ ds) ss e d l =
-        let j = joined (resolved_of around x) (all_of (resolved_of around) ds) ss e in
-        subst (λ xs. d < length xs → AreTypesOver (body_types (declaration_at xs d).body)) j.4
-        (by j.0 j.1 d (body_over (serde_items x.attrs) x.body j.0.body (declaration_parts around x j.0 j.2).1) (at_over ds j.1 j.3)) l
+        let around = around_of rows all x.generics in
+        let j = joined (resolved_among rows all x) (all_of (resolved_among rows all) ds) ss e in
+        let parts = declaration_parts around x j.0 j.2 in
+        let within : (k : List ℕ) (i : ℕ) → place_in k (texts (type_parameters x.generics)) ≡ Some i → i < length (type_parameters x.generics) =
+        λ k i is. subst (λ m. i < m) (many_texts (type_parameters x.generics)) (below_names k (texts (type_parameters x.generics)) i is) in
+        subst (λ xs. d < length xs → AreAllOver n (slice_index (parameter_counts all)) (parameters_in xs d) (body_types (declaration_at xs d).body)) j.4
+        (by j.0 j.1 d
+        (subst (λ m. AreAllOver n (slice_index (parameter_counts all)) m (body_types j.0.body)) (sym parts.2) (body_over around n (length (type_parameters x.generics)) below within (serde_items x.attrs) x.body j.0.body parts.1))
+        (at_over ds j.1 j.3)) l
       where
-        by : (s : DeclarationOf) (ss : List DeclarationOf) (d : ℕ) → AreTypesOver (body_types s.body) → ((d : ℕ) → d < length ss → AreTypesOver (body_types (declaration_at ss d).body)) →
-            d < length (s ∷ ss) → AreTypesOver (body_types (declaration_at (s ∷ ss) d).body)
+        by : (s : DeclarationOf) (ss : List DeclarationOf) (d : ℕ) → AreAllOver n (slice_index (parameter_counts all)) s.parameters (body_types s.body) →
+            ((d : ℕ) → d < length ss → AreAllOver n (slice_index (parameter_counts all)) (parameters_in ss d) (body_types (declaration_at ss d).body)) →
+            d < length (s ∷ ss) → AreAllOver n (slice_index (parameter_counts all)) (parameters_in (s ∷ ss) d) (body_types (declaration_at (s ∷ ss) d).body)
         by s ss zero h later l = h
         by s ss (suc d) h later l = later d (omega arith)
 
 pub names_are : (rows : List RenameRow) (ds : List DeclaredItem) (ss : List DeclarationOf) → resolved_declarations rows ds ≡ Some ss → declaration_names ss ≡ declared_names ds
-names_are rows ds ss e = declaration_names-are (around_of rows ds) ds ss e
+names_are rows ds ss e = declaration_names-are rows ds ds ss e
 
 pub all_fitting : ResolvedAreOver → (rows : List RenameRow) (ds : List DeclaredItem) (ss : List DeclarationOf) → resolved_declarations rows ds ≡ Some ss → AreFitting ss
 all_fitting over rows ds ss e d l =
-    at_over (around_of rows ds) over (length ss) (parameters_in ss) (parameters_in ss d)
-    (λ k p h. (subst (λ m. p < m) (ap length (sym (names_are rows ds ss e)) ∙ many_names ss) (below_names k (declared_names ds) p h), no_parameters (around_of rows ds) ds ss e p)) ds ss e d l
+    let below : (k : List ℕ) (p : ℕ) → place_among ds k ≡ Some p → p < length ss =
+    λ k p h. subst (λ m. p < m) (ap length (sym (names_are rows ds ss e)) ∙ many_names ss) (below_names k (declared_names ds) p h) in
+    subst (λ counts. AreAllOver (length ss) counts (parameters_in ss d) (body_types (declaration_at ss d).body)) (fun_ext (parameters-are rows ds ds ss e)) (at_over over rows ds (length ss) below ds ss e d l)

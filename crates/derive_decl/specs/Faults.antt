@@ -1,10 +1,10 @@
--- Why a declaration has no schema: an attribute or a parameter that nothing is derived from, a lifetime given twice, serde's items that contradict each other, name a content and no tag, or name a rename rule that there is not, a tag that cannot stand where it should, a name that has no row or that two fields or variants have, a type that stands for nothing or is too large, a form of unnamed fields without a field.
+-- Why a declaration has no schema: an attribute that nothing is derived from, a generic parameter given twice, serde's items that contradict each other, name a content and no tag, or name a rename rule that there is not, a tag that cannot stand where it should, a name that has no row or that two fields or variants have, a type that stands for nothing or is too large, a form of unnamed fields without a field.
 use Rattle.std.specs.Prelude.{◌≡◌, ◌⊎◌, ◌||◌, ℕ, List, [], ◌∷◌, ◌++◌, Bool, cond, Option, Some, None, Ok, codes, take, drop}
 use Rattle.std.specs.List.{flat_map}
 use Rattle.std.specs.Str.{bytes_eq}
 use Rattle.diag.specs.Refusal.{IsRefusal, IsSyntaxRefusal, RefusesNone}
 use Rattle.diag.specs.declared.error.DeriveError.{DeriveError}
-use Rattle.diag.specs.declared.kind.Kind.TheVariants.{Syntax, MissingRow, Arity, SerdeTag}
+use Rattle.diag.specs.declared.kind.Kind.TheVariants.{MissingRow, Arity, SerdeTag}
 use Rattle.diag.specs.declared.rename_rule.RenameRule.{RenameRule}
 use Rattle.diag.specs.declared.rename_row.RenameRow.{RenameRow}
 use Rattle.diag.specs.declared.rename_row.RenamePlace.{RenamePlace}
@@ -19,7 +19,7 @@ use Rattle.serde_rules.specs.declared.value.SerdeValue.{SerdeValue}
 use Rattle.serde_rules.specs.declared.enum_repr.SerdeEnumRepr.TheVariants.{UnfinishedAdjacentlyTagged}
 use Rattle.serde_rules.specs.Container.{representation, rename_rule, IsContainerRefusal}
 use Rattle.serde_rules.specs.Items.{has_item}
-use Rattle.syntax.specs.Items.{FieldItem, FieldItems, named, unnamed, unit, VariantItem, ParameterItem, lifetime_parameter, type_parameter, const_parameter, BodyItem, struct_body, enum_body, DeclaredItem}
+use Rattle.syntax.specs.Items.{FieldItem, FieldItems, named, unnamed, unit, VariantItem, ParameterItem, lifetime_parameter, BodyItem, struct_body, enum_body, DeclaredItem}
 use Rattle.resolving.specs.Resolved.{Fault, IsFault, IsRefusedFor}
 use Rattle.scopes.specs.Names.{IsGivenTwice}
 use Rattle.shapes.specs.Declarations.{FormOf}
@@ -29,6 +29,8 @@ use Rattle.derive_decl.specs.Variants.{tagging_in, value_of_variant, kept_varian
 use Rattle.derive_decl.specs.Fields.{FieldRules, field_rules, value_of, kept, name_by, written_idents}
 use Rattle.derive_decl.specs.Resolved.{Around, around_of, form_of}
 use Rattle.derive_decl.specs.Tags.{IsMisplacedTag}
+use Rattle.scopes.specs.Parameters.{parameters_of}
+use Rattle.scopes.specs.declared.parameters.ParameterKind.TheVariants.{TypesAndConstants}
 
 abbrev pub fields_in : FieldItems → List FieldItem
 fields_in (named fs) = fs
@@ -62,20 +64,6 @@ abbrev pub first_other : List AttributeItem → Option Span
 first_other [] = None
 first_other (a ∷ others) = cond (is_other a) (Some a.span) (first_other others)
 
--- the generic parameters of the declarations, in order
-abbrev pub parameters_among : List DeclaredItem → List ParameterItem
-parameters_among ds = flat_map (λ d. d.generics) ds
-
--- the first of them that is a type or a constant: nothing is derived yet of a declaration that has one
-abbrev pub first_argued : List ParameterItem → Option Ident
-first_argued [] = None
-first_argued (lifetime_parameter x ∷ ps) = first_argued ps
-first_argued (type_parameter x ∷ ps) = Some x
-first_argued (const_parameter x ∷ ps) = Some x
-
-abbrev pub parameter_message : List ℕ → List ℕ
-parameter_message name = codes "type and const parameters are not supported yet: " ++ name
-
 -- a lifetime by its name, without its quote
 abbrev pub unquoted_text : List ℕ → List ℕ
 unquoted_text text = cond (bytes_eq (take 1 text) (codes "'")) (drop 1 text) text
@@ -101,22 +89,17 @@ row_message rule name = codes "no row for " ++ (name_of rule ++ (codes " of " ++
 abbrev pub IsUnderivable : List AttributeItem → DeriveError → Type 0
 IsUnderivable attrs e = (span : Span) × (first_other attrs ≡ Some span) × IsSyntaxRefusal span e
 
--- the error refuses a type or constant parameter, the first of them
-abbrev pub IsArgued : List ParameterItem → DeriveError → Type 0
-IsArgued ps e = (x : Ident) × (first_argued ps ≡ Some x) × IsRefusal Syntax x.span (parameter_message x.text) e
-
--- the error refuses declarations for an attribute that nothing is derived from, or else for such a parameter
+-- the error refuses declarations for an attribute that nothing is derived from
 abbrev pub AreUnderivable : List DeclaredItem → DeriveError → Type 0
-AreUnderivable ds e = IsUnderivable (attributes_among ds) e ⊎ ((first_other (attributes_among ds) ≡ None) × IsArgued (parameters_among ds) e)
+AreUnderivable ds e = IsUnderivable (attributes_among ds) e
 
--- Something is derived from each of these attributes and each parameter of the declarations.
-pub record AreDerivable (ds : List DeclaredItem) : Type 0 where
-  pub attributes : first_other (attributes_among ds) ≡ None
-  pub parameters : first_argued (parameters_among ds) ≡ None
+-- something is derived from each of the attributes of the declarations
+abbrev pub AreDerivable : List DeclaredItem → Type 0
+AreDerivable ds = first_other (attributes_among ds) ≡ None
 
 -- the error refuses the field's type
 abbrev pub IsFaultyType : Around → FieldItem → DeriveError → Type 0
-IsFaultyType around f e = (fault : Fault) × IsFault around.place_of f.ty fault × IsRefusedFor fault e
+IsFaultyType around f e = (fault : Fault) × IsFault around.known f.ty fault × IsRefusedFor fault e
 
 -- the error refuses the identifier: the row of the rule is needed and missing
 abbrev pub IsUnwritten : RenamePlace → List RenameRow → Option RenameRule → SerdeValue → Ident → DeriveError → Type 0
@@ -208,10 +191,14 @@ abbrev pub IsFaultyDeclaration : Around → List AttributeItem → Ident → Bod
 IsFaultyDeclaration around attrs x body e =
     IsUnderivable (attributes_with attrs body) e ⊎ ((first_other (attributes_with attrs body) ≡ None) × IsFaultyBody around (serde_items attrs) x body e)
 
--- the error refuses a lifetime that is given twice, or the declaration for what stands in it
+-- the error refuses a type or constant parameter whose name is given before, or such a lifetime
+abbrev pub AreFaultyParameters : List ParameterItem → DeriveError → Type 0
+AreFaultyParameters ps e = IsGivenTwice (parameters_of TypesAndConstants ps) e ⊎ IsGivenTwice (lifetimes_of ps) e
+
+-- the error refuses a generic parameter that is given twice, or the declaration for what stands in it
 abbrev pub IsFaultyItem : Around → DeclaredItem → DeriveError → Type 0
-IsFaultyItem around d e = IsGivenTwice (lifetimes_of d.generics) e ⊎ IsFaultyDeclaration around d.attrs d.ident d.body e
+IsFaultyItem around d e = AreFaultyParameters d.generics e ⊎ IsFaultyDeclaration around d.attrs d.ident d.body e
 
 -- the error refuses one of the declarations
 abbrev pub AreFaultyItems : List RenameRow → List DeclaredItem → DeriveError → Type 0
-AreFaultyItems rows ds e = Somewhere (λ d. IsFaultyItem (around_of rows ds) d e) ds
+AreFaultyItems rows ds e = Somewhere (λ d. IsFaultyItem (around_of rows ds d.generics) d e) ds

@@ -7,7 +7,6 @@ ghost use Rattle.attributes.specs.Attributes.{attribute_view};
 ghost use Rattle.syntax.specs.Items.{field_view, fields_view, variant_view, body_view, declaration_view, declarations_view};
 ghost use Rattle.derive_decl.specs.Faults.{fields_in, attributes_on, attributes_inside, attributes_with, attributes_in, attributes_among, is_other, first_other, IsUnderivable, AreUnderivable, AreDerivable};
 
-use crate::parameters::only_lifetimes;
 use diag::DeriveError;
 use serde_rules::has_item;
 use std::alloc::Global;
@@ -143,26 +142,14 @@ pub(crate) fn derivable(
     }
 }
 
-/// Refuses declarations that have an attribute from which nothing is derived, at the first one.
-fn only_attributes(alloc: Global, declarations: &Declarations) -> Result<(), DeriveError>
-    ensures derivable { IfOk result
-        (λ _. first_other (attributes_among (declarations_view declarations.now)) ≡ None) }
-    ensures refused { Refuses result
-        (IsUnderivable (attributes_among (declarations_view declarations.now))) }
+/// Refuses declarations that have an attribute from which nothing is derived: one of `schema` or `repr`, or a serde list
+/// with an item `flatten`. The kind is `Syntax`, at the first of these.
+pub fn only_derivable(alloc: Global, declarations: &Declarations) -> Result<(), DeriveError>
+    ensures derivable { IfOk result (λ _. AreDerivable (declarations_view declarations.now)) }
+    ensures refused { Refuses result (AreUnderivable (declarations_view declarations.now)) }
 {
     match first_among(declarations.items.as_slice()) {
         Some(span) => Err(DeriveError::syntax(alloc, span)),
         None => Ok(()),
     }
-}
-
-/// Refuses declarations that have an attribute or a generic parameter from which nothing is derived: an attribute of
-/// `schema` or `repr`, or a serde list with an item `flatten`, at the first of these; a type or a constant parameter, at the
-/// first of these. The kind is `Syntax`.
-pub fn only_derivable(alloc: Global, declarations: &Declarations) -> Result<(), DeriveError>
-    ensures derivable { IfOk result (λ _. AreDerivable (declarations_view declarations.now)) }
-    ensures refused { Refuses result (AreUnderivable (declarations_view declarations.now)) }
-{
-    only_attributes(alloc, declarations)?;
-    only_lifetimes(alloc, declarations)
 }

@@ -100,8 +100,8 @@ impl NamedStructSchema {
     /// The struct with these fields, of which each has a name.
     ///
     /// A refusal is of kind `SerdeTag` or `BadValue`, for serde's attributes of the struct; or, of the fields that are
-    /// kept, `UnknownType`, `Arity` or `TypeSize`, for the type of one; `MissingRow`, at an identifier whose name is that
-    /// of a row that there is not; or `DuplicateName`, at the first identifier whose name stands before it.
+    /// kept, `UnknownType`, `Arity`, `BadArgument` or `TypeSize`, for the type of one; `MissingRow`, at an identifier whose
+    /// name is that of a row that there is not; or `DuplicateName`, at the first identifier whose name stands before it.
     pub(crate) fn new(
         alloc: Global,
         root: &Root<'_>,

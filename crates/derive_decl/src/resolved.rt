@@ -19,6 +19,8 @@ use texts::{List, Text};
 #[derive(Debug, Drop)]
 pub struct Resolved {
     pub name: Text,
+    /// How many type parameters it has.
+    pub parameters: usize,
     pub body: SchemaVariant,
 }
 
@@ -108,7 +110,7 @@ impl Declared for Resolved {
     }
 
     fn parameters(&self) -> usize {
-        0
+        self.parameters
     }
 
     fn types(&self, alloc: Global) -> Result<Vec<&OpenType>, AllocError> {

@@ -53,13 +53,13 @@ impl<'a> Schema<'a> {
     /// The declaration with its types resolved.
     ///
     /// A refusal is of kind `Syntax`, at the first attribute of the declaration, its fields or its variants from which
-    /// nothing is derived. Else it is `UnknownType`, `Arity` or `TypeSize`, for the type of a field; or `Arity`, at the name
-    /// of a declaration or variant whose form is unnamed fields without a field. Of an enum, and of a struct or a variant
-    /// with named fields, it may be `SerdeTag` or `BadValue`, for serde's attributes of it; or, of the fields or variants
-    /// that are kept, `MissingRow`, at an identifier whose name is that of a row that there is not; or `DuplicateName`, at
-    /// the first identifier whose name stands before it. Of a variant that a tag tells it may be `TaggedTuple`, at the
-    /// variant, where the tag should stand among the elements of a list; or `DuplicateName`, at its identifier, where the
-    /// tag has the name of what stands beside it.
+    /// nothing is derived. Else it is `UnknownType`, `Arity`, `BadArgument` or `TypeSize`, for the type of a field; or
+    /// `Arity`, at the name of a declaration or variant whose form is unnamed fields without a field. Of an enum, and of a
+    /// struct or a variant with named fields, it may be `SerdeTag` or `BadValue`, for serde's attributes of it; or, of the
+    /// fields or variants that are kept, `MissingRow`, at an identifier whose name is that of a row that there is not; or
+    /// `DuplicateName`, at the first identifier whose name stands before it. Of a variant that a tag tells it may be
+    /// `TaggedTuple`, at the variant, where the tag should stand among the elements of a list; or `DuplicateName`, at its
+    /// identifier, where the tag has the name of what stands beside it.
     pub fn resolve(&self, alloc: Global) -> Result<Resolved, DeriveError>
         requires { IsNamedBody (body_view self.now.body.now) }
         ensures resolved { IfOk result (λ s. ResolvesTo self.now (resolved_view s)) }
@@ -73,6 +73,7 @@ impl<'a> Schema<'a> {
         Ok(Resolved {
             body: SchemaVariant::new(alloc, self.body, &root)?,
             name: self.ident.text.copy(alloc)?,
+            parameters: self.container.scope.count,
         })
     }
 

@@ -49,7 +49,7 @@ fn resolve_types(
     fields: &[Field],
 ) -> Result<List<OpenType>, DeriveError>
     ensures types { IfOk result
-        (λ ts. all_of (λ f. type_of (known container.now).place_of f.ty) (map field_view fields.now)
+        (λ ts. all_of (λ f. type_of (known container.now).known f.ty) (map field_view fields.now)
         ≡ Some (map open_view ts)) }
     ensures faultless { IfOk result
         (λ _. AllByRecursion (λ f. RefusesNone (IsFaultyType (known container.now) f))
@@ -67,8 +67,8 @@ fn resolve_types(
 impl UnnamedStructSchema {
     /// The struct with these fields.
     ///
-    /// A refusal is of kind `UnknownType`, `Arity` or `TypeSize`, for the type of a field; or `Arity`, at the name of the
-    /// declaration, where there is no field.
+    /// A refusal is of kind `UnknownType`, `Arity`, `BadArgument` or `TypeSize`, for the type of a field; or `Arity`, at the
+    /// name of the declaration, where there is no field.
     pub(crate) fn new(
         alloc: Global,
         root: &Root<'_>,

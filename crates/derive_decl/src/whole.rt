@@ -11,7 +11,7 @@ ghost use Rattle.derive_decl.specs.Faults.{IsFaultyItem, AreFaultyItems};
 ghost use Rattle.derive_decl.specs.Views.{known, resolved_view};
 ghost use Rattle.derive_decl.specs.Whole.{resolved_declarations};
 
-use crate::parameters::distinct_lifetimes;
+use crate::parameters::distinct_parameters;
 use crate::resolved::Resolved;
 use crate::schema::Schema;
 use configuration::Config;
@@ -37,7 +37,7 @@ fn resolved_of(
     ensures refused { Refuses result
         (IsFaultyItem (known container.now) (declaration_view declaration.now)) }
 {
-    distinct_lifetimes(alloc, &declaration.generics)?;
+    distinct_parameters(alloc, &declaration.generics)?;
     let schema = Schema {
         body: &declaration.body,
         attributes: declaration.attrs.as_slice(),
@@ -49,8 +49,8 @@ fn resolved_of(
 
 /// What the declarations are resolved to, in their order, where each field in braces has a name.
 ///
-/// It refuses a declaration in which a lifetime is given twice, with the kind `DuplicateName`, at the first that is; and one
-/// that `Schema::resolve` refuses, as that does.
+/// It refuses a declaration in which a type or constant parameter has the name of one before it, or a lifetime has, with
+/// the kind `DuplicateName`, at the first that has; and one that `Schema::resolve` refuses, as that does.
 pub fn resolved_declarations(
     alloc: Global,
     places: &Places<'_>,
@@ -73,7 +73,7 @@ pub fn resolved_declarations(
     resolving::resolved_are_over();
     let mut resolved = List::new(alloc);
     for owner in 0..places.declarations.items.len() {
-        let scope = Scope { places, owner };
+        let scope = Scope::new(alloc, places, owner)?;
         let container = Container {
             scope: &scope,
             config,

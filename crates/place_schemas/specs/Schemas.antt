@@ -1,11 +1,11 @@
 -- The schema of a place by its written type.
-use Rattle.std.specs.Prelude.{◌≡◌, ℕ, List, [], Bool, map, Option, Some}
+use Rattle.std.specs.Prelude.{◌≡◌, [], Bool, map, Some}
 use Rattle.diag.specs.declared.error.DeriveError.{DeriveError}
 use Rattle.written_types.specs.Written.{written_view}
 use Rattle.open_types.specs.Open.{Open}
 use Rattle.resolving.specs.Resolved.{type_of, Fault, IsFault, IsRefusedFor}
-use Rattle.scopes.specs.Names.{place_among}
-use Rattle.scopes.specs.Scopes.{declared_in}
+use Rattle.resolving.specs.Known.{Known}
+use Rattle.scopes.specs.Scopes.{known_in}
 use Rattle.place_schemas.specs.declared.component_schema.ComponentSchema.{ComponentSchema}
 use Rattle.place_schemas.specs.declared.component_schema.ComponentSchemaProps.{ComponentSchemaProps}
 use Rattle.scopes.specs.Descriptions.{described_by}
@@ -13,19 +13,19 @@ use Rattle.component.specs.Leaves.{term_view}
 use Rattle.component.specs.Places.{place, parameter_type}
 use Rattle.component.specs.References.{reference_view, references}
 
--- the places of the names that are declared
-abbrev pub places_in : ComponentSchemaProps → List ℕ → Option ℕ
-places_in props = place_among (declared_in props.container.now.scope.now)
+-- the names that are known where the type is written
+abbrev pub known_at : ComponentSchemaProps → Known
+known_at props = known_in props.container.now.scope.now
 
 -- The schema is that of the type that is written at the place, with the declarations that it names; where it is a parameter's, an option may not say null.
 pub record IsSchemaOf (option_is_nullable : Bool) (props : ComponentSchemaProps) (made : ComponentSchema) : Type 0 where
   pub of : Open
-  pub resolved : type_of (places_in props) (written_view props.written.now) ≡ Some of
-  pub faultless : (fault : Fault) → ¬ IsFault (places_in props) (written_view props.written.now) fault
+  pub resolved : type_of (known_at props) (written_view props.written.now) ≡ Some of
+  pub faultless : (fault : Fault) → ¬ IsFault (known_at props) (written_view props.written.now) fault
   pub term : term_view made.term ≡ place props.nullable props.inline props.deprecated (described_by props.description) (parameter_type option_is_nullable of)
   pub references : map reference_view made.schema_references ≡ references props.inline (parameter_type option_is_nullable of)
   pub warnings : made.warnings ≡ []
 
 -- the error refuses the type that is written at the place
 abbrev pub IsRefusedPlace : ComponentSchemaProps → DeriveError → Type 0
-IsRefusedPlace props e = (fault : Fault) × IsFault (places_in props) (written_view props.written.now) fault × IsRefusedFor fault e
+IsRefusedPlace props e = (fault : Fault) × IsFault (known_at props) (written_view props.written.now) fault × IsRefusedFor fault e

@@ -86,8 +86,8 @@ fn term_of(
 impl ComponentSchema {
     /// The schema of the place.
     ///
-    /// A refusal is of kind `UnknownType` or `Arity`, at a name of the type, or `TypeSize`, at the type without the
-    /// references around it.
+    /// A refusal is of kind `UnknownType`, `Arity` or `BadArgument`, at a name of the type, or `TypeSize`, at the type
+    /// without the references around it.
     pub fn new(
         alloc: Global,
         props: ComponentSchemaProps<'_, '_>,

@@ -1,12 +1,12 @@
 -- A derivation with the rows of its names is not refused for one that is missing.
-use Rattle.std.proofs.Common.{ℕ, List, [], ◌∷◌, cond, Option, Some, None, IsSome, IsSomeAnd, Result, Ok, Err, ◌≡◌, ap, sym, ◌∙◌, inl, inr, subst}
+use Rattle.std.proofs.Common.{ℕ, List, [], ◌∷◌, cond, Option, Some, None, IsSome, IsSomeAnd, Result, Ok, Err, ◌≡◌, ap, sym, ◌∙◌, inl, inr, subst, length}
 use Rattle.std.specs.List.{AllByRecursion, flat_map}
 use Rattle.diag.specs.Refusal.{IsRefusal, IsHelpRefusal}
 use Rattle.diag.specs.declared.diagnostics.DiangosticsInner.{DiangosticsInner}
 use Rattle.diag.specs.declared.error.DeriveError.{DeriveError}
 use Rattle.diag.specs.declared.error.DeriveError.TheVariants.{Refused, Memory}
 use Rattle.diag.specs.declared.kind.Kind.{Kind}
-use Rattle.diag.specs.declared.kind.Kind.TheVariants.{Syntax, MissingRow, SerdeTag, BadValue, UnknownType, Arity, TypeSize, DuplicateName, TaggedTuple}
+use Rattle.diag.specs.declared.kind.Kind.TheVariants.{Syntax, MissingRow, SerdeTag, BadValue, UnknownType, Arity, TypeSize, DuplicateName, TaggedTuple, BadArgument}
 use Rattle.diag.specs.declared.rename_rule.RenameRule.{RenameRule}
 use Rattle.diag.specs.declared.rename_row.RenamePlace.{RenamePlace}
 use Rattle.diag.specs.declared.rename_row.RenamePlace.TheVariants.{Field, Variant}
@@ -24,7 +24,7 @@ use Rattle.serde_rules.specs.declared.enum_repr.SerdeEnumRepr.TheVariants as ser
 use Rattle.serde_rules.specs.Container.{TagFault, representation, rename_rule, rule_named, unknown_rule, with_item, IsTagRefusal, IsContainerRefusal}
 use Rattle.serde_rules.specs.Names.{by_row, new_name}
 use Rattle.syntax.specs.Items.{FieldItem, FieldItems, named, unnamed, unit, VariantItem, BodyItem, struct_body, enum_body, DeclaredItem}
-use Rattle.resolving.specs.Resolved.{Fault, unknown_type, wrong_arity, too_large, IsRefusedFor}
+use Rattle.resolving.specs.Resolved.{Fault, unknown_type, wrong_arity, too_large, IsRefusedFor, bad_argument}
 use Rattle.scopes.specs.Names.{IsGivenTwice}
 use Rattle.shapes.specs.Declarations.{FormOf}
 use Rattle.shapes.specs.declared.tagging.Tagging.{Tagging}
@@ -41,6 +41,9 @@ use Rattle.renaming.proofs.Keys.{RulesHaveOwnNames}
 use Rattle.renaming.proofs.Lists.{all_front, all_back, all-flat_map, met}
 use Rattle.renaming.proofs.Serving.{as_row-is, all_have_rows}
 use Rattle.renaming.proofs.Wanted.{told_rule}
+use Rattle.resolving.specs.Known.{Known}
+use Rattle.scopes.specs.Scopes.{known_among}
+use Rattle.scopes.specs.Parameters.{type_parameters}
 
 -- ---- refusals of other kinds
 
@@ -77,6 +80,7 @@ module _ (span : Span) (message : List ℕ) (e : DeriveError) (missing : IsRefus
   no_refusal_for : (fault : Fault) → IsRefusedFor fault e → ⊥
   no_refusal_for (unknown_type x) refusal = other_kind UnknownType _ _ (λ same. cc) refusal
   no_refusal_for (wrong_arity x) refusal = other_kind Arity _ _ (λ same. cc) refusal
+  no_refusal_for (bad_argument x) refusal = other_kind BadArgument _ _ (λ same. cc) refusal
   no_refusal_for (too_large s) refusal = other_kind TypeSize _ _ (λ same. cc) refusal
 
   no_type_fault : (around : Around) (f : FieldItem) → IsFaultyType around f e → ⊥
@@ -94,9 +98,9 @@ module _ (span : Span) (message : List ℕ) (e : DeriveError) (missing : IsRefus
 
   -- ---- names that have rows
 
-  module _ (place_of : List ℕ → Option ℕ) (rows : List RenameRow) where
+  module _ (known : Known) (parameters : ℕ) (rows : List RenameRow) where
     abbrev around : Around
-    around = record { place_of = place_of; rows = rows }
+    around = record { known = known; parameters = parameters; rows = rows }
 
     abbrev HasRow : Asked → Type 0
     HasRow a = IsSome (row_to a.rule a.place a.ident.text rows)
@@ -176,13 +180,15 @@ module _ (span : Span) (message : List ℕ) (e : DeriveError) (missing : IsRefus
     no_faulty_body items x (enum_body vs) has (inr (tagging, is, fault)) = no_faulty_told (representation items) (rename_rule items) vs tagging is has fault
 
     no_faulty_item : (d : DeclaredItem) → AllByRecursion HasRow (asked_of_item d) → IsFaultyItem around d e → ⊥
-    no_faulty_item d has (inl twice) = no_name_twice _ twice
+    no_faulty_item d has (inl (inl twice)) = no_name_twice _ twice
+    no_faulty_item d has (inl (inr twice)) = no_name_twice _ twice
     no_faulty_item d has (inr (inl (other, is, refusal))) = other_kind Syntax _ _ (λ same. cc) refusal
     no_faulty_item d has (inr (inr (derivable, fault))) = no_faulty_body (serde_items d.attrs) d.ident d.body has fault
 
-    pub no_faulty_items : (ds : List DeclaredItem) → AllByRecursion HasRow (flat_map asked_of_item ds) → Somewhere (λ d. IsFaultyItem around d e) ds → ⊥
-    no_faulty_items ds has fault =
-        met (λ d. IsFaultyItem around d e) (λ d. AllByRecursion HasRow (asked_of_item d)) ⊥ ds (λ d faulty own. no_faulty_item d own faulty) fault (all-flat_map HasRow asked_of_item ds has)
+  pub no_faulty_items : (rows : List RenameRow) (all ds : List DeclaredItem) → AllByRecursion (λ a. IsSome (row_to a.rule a.place a.ident.text rows)) (flat_map asked_of_item ds) → Somewhere (λ d. IsFaultyItem (around_of rows all d.generics) d e) ds → ⊥
+  no_faulty_items rows all ds has fault =
+      met (λ d. IsFaultyItem (around_of rows all d.generics) d e) (λ d. AllByRecursion (λ a. IsSome (row_to a.rule a.place a.ident.text rows)) (asked_of_item d)) ⊥ ds
+      (λ d faulty own. no_faulty_item (known_among all d.generics) (length (type_parameters d.generics)) rows d own faulty) fault (all-flat_map (λ a. IsSome (row_to a.rule a.place a.ident.text rows)) asked_of_item ds has)
 
 pub rows_suffice : RulesHaveOwnNames → RowsSuffice
-rows_suffice own ds rows are e span message fault missing = no_faulty_items span message e missing (around_of rows ds).place_of rows ds (all_have_rows own (asked_of ds) rows are) fault
+rows_suffice own ds rows are e span message fault missing = no_faulty_items span message e missing rows ds ds (all_have_rows own (asked_of ds) rows are) fault

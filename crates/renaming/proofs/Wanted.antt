@@ -1,5 +1,5 @@
 -- Without rows a derivation is refused for each of its names.
-use Rattle.std.proofs.Common.{ℕ, List, [], ◌∷◌, false, cond, Option, Some, None, Result, Ok, Err, ◌≡◌, refl, ap, sym, inl, inr, subst}
+use Rattle.std.proofs.Common.{ℕ, List, [], ◌∷◌, false, cond, Option, Some, None, Result, Ok, Err, ◌≡◌, refl, ap, sym, inl, inr, subst, length}
 use Rattle.std.specs.List.{AllByRecursion, flat_map}
 use Rattle.std.proofs.lemmas.Bool.{cases_Bool}
 use Rattle.diag.specs.Refusal.{IsRefusal}
@@ -27,6 +27,9 @@ use Rattle.renaming.specs.declared.asked.Asked.{Asked}
 use Rattle.renaming.specs.Asked.{is_given, asked_for, asked_as, asked_of_field, asked_of_fields, asked_of_variant, asked_of_variants, asked_told, asked_of_body, asked_of_item}
 use Rattle.renaming.specs.Law.{IsWanted, RowsAreWanted}
 use Rattle.renaming.proofs.Lists.{all-append, all_weaker, all_lifted}
+use Rattle.resolving.specs.Known.{Known}
+use Rattle.scopes.specs.Scopes.{known_among}
+use Rattle.scopes.specs.Parameters.{type_parameters}
 
 -- the error refuses the name, whose row is missing
 abbrev Misses : Asked → DeriveError → Type 0
@@ -51,9 +54,9 @@ told_rule (Internal tag) rule = rule
 told_rule (Adjacent tag content) rule = rule
 told_rule Untagged rule = None
 
-module _ (place_of : List ℕ → Option ℕ) where
+module _ (known : Known) (parameters : ℕ) where
   abbrev around : Around
-  around = record { place_of = place_of; rows = [] }
+  around = record { known = known; parameters = parameters; rows = [] }
 
   name_wanted : (place : RenamePlace) (rule : Option RenameRule) (value : SerdeValue) (x : Ident) → Refuse (asked_for place rule value x) (IsUnwritten place [] rule value x)
   name_wanted place None value x = tt
@@ -115,5 +118,5 @@ module _ (place_of : List ℕ → Option ℕ) where
 
 pub rows_are_wanted : RowsAreWanted
 rows_are_wanted ds d derivable =
-    all_weaker (λ a. (e : DeriveError) → Misses a e → IsFaultyBody (around_of [] ds) (serde_items d.attrs) d.ident d.body e) (IsWanted ds d) (asked_of_item d)
-    (λ a fault e misses. inr (inr (derivable, fault e misses))) (body_wanted (around_of [] ds).place_of (serde_items d.attrs) d.ident d.body)
+    all_weaker (λ a. (e : DeriveError) → Misses a e → IsFaultyBody (around_of [] ds d.generics) (serde_items d.attrs) d.ident d.body e) (IsWanted ds d) (asked_of_item d)
+    (λ a fault e misses. inr (inr (derivable, fault e misses))) (body_wanted (known_among ds d.generics) (length (type_parameters d.generics)) (serde_items d.attrs) d.ident d.body)

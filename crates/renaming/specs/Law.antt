@@ -37,7 +37,7 @@ RowsSuffice = (ds : List DeclaredItem) (rows : List RenameRow) → AreRowsOf (as
 -- without rows the declaration is refused for the one of the name
 abbrev pub IsWanted : List DeclaredItem → DeclaredItem → Asked → Type 0
 IsWanted ds d a =
-    (e : DeriveError) → IsRefusal MissingRow a.ident.span (row_message a.rule a.ident.text) e → IsFaultyItem (around_of [] ds) d e
+    (e : DeriveError) → IsRefusal MissingRow a.ident.span (row_message a.rule a.ident.text) e → IsFaultyItem (around_of [] ds d.generics) d e
 
 -- The law: no row is idle. Without rows, a declaration from whose attributes all is derived is refused for each of its names.
 abbrev pub RowsAreWanted : Type 0

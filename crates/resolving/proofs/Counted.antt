@@ -1,5 +1,5 @@
 -- Type arguments by their number, and names in lists of types.
-use Rattle.std.proofs.Common.{◌≡◌, ◌≢◌, ◌<◌, ◌≤◌, ◌+◌, ◌⊎◌, inl, inr, ℕ, zero, suc, List, [], ◌∷◌, ◌++◌, Option, Some, None, option_map, option_and_then, map, length, get_or, slice_index_or, ◌-◌, drop, refl, ap, sym, subst, ◌∙◌, arith, add-one, drop-cons, rules, false, ◌==◌}
+use Rattle.std.proofs.Common.{◌≡◌, ◌≢◌, ◌<◌, ◌≤◌, ◌+◌, ◌⊎◌, inl, inr, ℕ, zero, suc, List, [], ◌∷◌, ◌++◌, Option, Some, None, option_map, option_and_then, map, length, get_or, slice_index_or, ◌-◌, drop, refl, ap, sym, subst, ◌∙◌, arith, add-one, drop-cons, rules, false, ◌==◌, true, cond}
 use Rattle.std.proofs.lemmas.List.{drop_all}
 use Rattle.std.proofs.lemmas.Bool.{false≢true}
 use Rattle.written_types.specs.declared.written.WrittenType.{WrittenType}
@@ -17,9 +17,11 @@ use Rattle.open_types.specs.declared.open_type.OpenType.TheVariants as variants
 use Rattle.open_types.specs.Open.{Open, Opens, tuple, open_view, opens_view}
 use Rattle.open_types.specs.Open as types
 use Rattle.open_types.specs.declared.head.Head.{Head}
-use Rattle.resolving.specs.Names.{ident_of, nameless, where_none, meaning, path_size, names_in_path, names_in, names_in_arguments, names_in_argument, names_in_types, names_in_last, names_in_segment, last_size, segment_size}
+use Rattle.resolving.specs.Known.{Known}
+use Rattle.resolving.specs.Names.{ident_of, nameless, where_none, meaning, path_size, names_in_path, names_in, names_in_arguments, names_in_argument, names_in_types, names_in_last, names_in_segment, last_size, segment_size, is_constant_type}
 use Rattle.resolving.specs.Resolved.{contained, alone, meant, tuple_of, type_of, path_type, segment_type, last_type, argument_types, argument_type, all_types}
 use Rattle.texts.specs.Lists.{Somewhere}
+use Rattle.resolving.specs.Bad.{path_holds_bad, last_holds_bad, segment_holds_bad}
 
 -- ---- numbers of type arguments
 
@@ -112,7 +114,7 @@ view-lifetime x = search (rules, argument_lemmas)
 view-constant : (ts : Tokens TokenTree) → argument_view (arguments.Constant ts) ≡ constant_argument (trees_view ts)
 view-constant ts = search (rules, argument_lemmas)
 
-module _ (p : List ℕ → Option ℕ) where
+module _ (p : Known) where
   -- a turn of the loops over types and over arguments, and where they end
   pub types_turn : (whole : Option Opens) (made : List OpenType) (ts : List WrittenType) (i : ℕ) (t : WrittenType) (u : OpenType) → i < length ts → t ≡ get_or ts i t → type_of p (written_view t) ≡ Some (open_view u)
       → whole ≡ after (opens_view made) (all_types p (writtens_view (drop i ts))) → whole ≡ after (opens_view (made ++ u ∷ [])) (all_types p (writtens_view (drop (i + 1) ts)))
@@ -131,12 +133,19 @@ module _ (p : List ℕ → Option ℕ) where
       w ∙ ap (λ vs. after (opens_view made) (argument_types p vs)) (arguments_drop xs i a h e) ∙ ap (λ y. after (opens_view made) (argument_type p y (argument_types p (arguments_view (drop (i + 1) xs))))) v
 
   pub type_turn : (whole : Option Opens) (made : List OpenType) (xs : List GenericArgument) (i : ℕ) (a : GenericArgument) (t : WrittenType) (u : OpenType) → i < length xs → a ≡ get_or xs i a → a ≡ arguments.Ty t
-      → type_of p (written_view t) ≡ Some (open_view u) → whole ≡ after (opens_view made) (argument_types p (arguments_view (drop i xs)))
+      → is_constant_type p (written_view t) ≡ false → type_of p (written_view t) ≡ Some (open_view u) → whole ≡ after (opens_view made) (argument_types p (arguments_view (drop i xs)))
       → whole ≡ after (opens_view (made ++ u ∷ [])) (argument_types p (arguments_view (drop (i + 1) xs)))
-  type_turn whole made xs i a t u h e f r w =
+  type_turn whole made xs i a t u h e f other r w =
       argument_turn whole made xs i a h e w (type_argument (written_view t)) (ap argument_view f ∙ view-type t)
+      ∙ ap (λ b. after (opens_view made) (cond b (argument_types p (arguments_view (drop (i + 1) xs))) (option_and_then (λ v. option_map (types.more_types v) (argument_types p (arguments_view (drop (i + 1) xs)))) (type_of p (written_view t))))) other
       ∙ ap (λ o. after (opens_view made) (option_and_then (λ v. option_map (types.more_types v) (argument_types p (arguments_view (drop (i + 1) xs)))) o)) r
       ∙ after-one made u (argument_types p (arguments_view (drop (i + 1) xs)))
+
+  pub skipped_turn : (whole : Option Opens) (made : List OpenType) (xs : List GenericArgument) (i : ℕ) (a : GenericArgument) (t : WrittenType) → i < length xs → a ≡ get_or xs i a → a ≡ arguments.Ty t
+      → is_constant_type p (written_view t) ≡ true → whole ≡ after (opens_view made) (argument_types p (arguments_view (drop i xs))) → whole ≡ after (opens_view made) (argument_types p (arguments_view (drop (i + 1) xs)))
+  skipped_turn whole made xs i a t h e f constant w =
+      argument_turn whole made xs i a h e w (type_argument (written_view t)) (ap argument_view f ∙ view-type t)
+      ∙ ap (λ b. after (opens_view made) (cond b (argument_types p (arguments_view (drop (i + 1) xs))) (option_and_then (λ v. option_map (types.more_types v) (argument_types p (arguments_view (drop (i + 1) xs)))) (type_of p (written_view t))))) constant
 
   pub lifetime_turn : (whole : Option Opens) (made : List OpenType) (xs : List GenericArgument) (i : ℕ) (a : GenericArgument) (x : Ident) → i < length xs → a ≡ get_or xs i a → a ≡ arguments.Lifetime x
       → whole ≡ after (opens_view made) (argument_types p (arguments_view (drop i xs))) → whole ≡ after (opens_view made) (argument_types p (arguments_view (drop (i + 1) xs)))
@@ -150,22 +159,22 @@ module _ (p : List ℕ → Option ℕ) where
   arguments_end whole made xs i h w = w ∙ ap (λ vs. after (opens_view made) (argument_types p (arguments_view vs))) (drop_all i xs h) ∙ drop-end made
 
 -- names of an item are among those of its list
-pub in_types : (P : Segment → Type 0) (ts : List WrittenType) (i : ℕ) (t : WrittenType) → i < length ts → t ≡ get_or ts i t → Somewhere P (names_in (written_view t)) → Somewhere P (names_in_types (writtens_view ts))
-in_types P ts i t l is q = by ts i l (subst (λ x. Somewhere P (names_in (written_view x))) is q)
+pub in_types : (p : Known) (P : Segment → Type 0) (ts : List WrittenType) (i : ℕ) (t : WrittenType) → i < length ts → t ≡ get_or ts i t → Somewhere P (names_in p (written_view t)) → Somewhere P (names_in_types p (writtens_view ts))
+in_types p P ts i t l is q = by ts i l (subst (λ x. Somewhere P (names_in p (written_view x))) is q)
   where
-    by : (xs : List WrittenType) (j : ℕ) → j < length xs → Somewhere P (names_in (written_view (get_or xs j t))) → Somewhere P (names_in_types (writtens_view xs))
+    by : (xs : List WrittenType) (j : ℕ) → j < length xs → Somewhere P (names_in p (written_view (get_or xs j t))) → Somewhere P (names_in_types p (writtens_view xs))
     by [] j h r = absurd (omega arith)
-    by (x ∷ xs) zero h r = somewhere-left P (names_in (written_view x)) (names_in_types (writtens_view xs)) r
-    by (x ∷ xs) (suc j) h r = somewhere-right P (names_in (written_view x)) (names_in_types (writtens_view xs)) (by xs j (omega arith) r)
+    by (x ∷ xs) zero h r = somewhere-left P (names_in p (written_view x)) (names_in_types p (writtens_view xs)) r
+    by (x ∷ xs) (suc j) h r = somewhere-right P (names_in p (written_view x)) (names_in_types p (writtens_view xs)) (by xs j (omega arith) r)
 
-pub in_arguments : (P : Segment → Type 0) (ys : List GenericArgument) (i : ℕ) (a : GenericArgument) (t : WrittenType) → i < length ys → a ≡ get_or ys i a → a ≡ arguments.Ty t
-    → Somewhere P (names_in (written_view t)) → Somewhere P (names_in_arguments (arguments_view ys))
-in_arguments P ys i a t l is f q = by ys i l (subst (λ x. Somewhere P (names_in_argument (argument_view x))) is (subst (λ y. Somewhere P (names_in_argument y)) (sym (ap argument_view f ∙ view-type t)) q))
+pub in_arguments : (p : Known) (P : Segment → Type 0) (ys : List GenericArgument) (i : ℕ) (a : GenericArgument) (t : WrittenType) → i < length ys → a ≡ get_or ys i a → a ≡ arguments.Ty t
+    → is_constant_type p (written_view t) ≡ false → Somewhere P (names_in p (written_view t)) → Somewhere P (names_in_arguments p (arguments_view ys))
+in_arguments p P ys i a t l is f other q = by ys i l (subst (λ x. Somewhere P (names_in_argument p (argument_view x))) is (subst (λ y. Somewhere P (names_in_argument p y)) (sym (ap argument_view f ∙ view-type t)) (subst (λ b. Somewhere P (cond b [] (names_in p (written_view t)))) (sym other) q)))
   where
-    by : (xs : List GenericArgument) (j : ℕ) → j < length xs → Somewhere P (names_in_argument (argument_view (get_or xs j a))) → Somewhere P (names_in_arguments (arguments_view xs))
+    by : (xs : List GenericArgument) (j : ℕ) → j < length xs → Somewhere P (names_in_argument p (argument_view (get_or xs j a))) → Somewhere P (names_in_arguments p (arguments_view xs))
     by [] j h r = absurd (omega arith)
-    by (x ∷ xs) zero h r = somewhere-left P (names_in_argument (argument_view x)) (names_in_arguments (arguments_view xs)) r
-    by (x ∷ xs) (suc j) h r = somewhere-right P (names_in_argument (argument_view x)) (names_in_arguments (arguments_view xs)) (by xs j (omega arith) r)
+    by (x ∷ xs) zero h r = somewhere-left P (names_in_argument p (argument_view x)) (names_in_arguments p (arguments_view xs)) r
+    by (x ∷ xs) (suc j) h r = somewhere-right P (names_in_argument p (argument_view x)) (names_in_arguments p (arguments_view xs)) (by xs j (omega arith) r)
 
 -- ---- the last segment of a path
 
@@ -188,19 +197,22 @@ module _ (q : Path) (ss : List PathSegment) (s : PathSegment) (e : ss ≡ (out-P
   at_last : {A : Type 0} (f : Segments → A) (g : Segment → A) → ((x : Segment) (rest : Segments) → f (more_segments x rest) ≡ where_none rest (g x) (f rest)) → f (segments_view (out-Path q).segments) ≡ g (segment_view s)
   at_last f g step = subst (λ xs. f (segments_view xs) ≡ g (segment_view s)) e (last_of f g step ss s (length ss - 1) (omega arith) ∙ ap (λ x. g (segment_view x)) (sym is))
 
-  pub path_size-at : path_size (path_view q) ≡ suc (segment_size (segment_view s))
-  path_size-at = ap path_size (view-path q) ∙ ap suc (at_last last_size segment_size (λ x rest. refl))
+  pub path_size-at : (p : Known) → path_size p (path_view q) ≡ suc (segment_size p (segment_view s))
+  path_size-at p = ap (path_size p) (view-path q) ∙ ap suc (at_last (last_size p) (segment_size p) (λ x rest. refl))
 
-  pub path_type-at : (p : List ℕ → Option ℕ) → path_type p (path_view q) ≡ segment_type p (segment_view s)
+  pub path_bad-at : path_holds_bad (path_view q) ≡ segment_holds_bad (segment_view s)
+  path_bad-at = ap path_holds_bad (view-path q) ∙ at_last last_holds_bad segment_holds_bad (λ x rest. refl)
+
+  pub path_type-at : (p : Known) → path_type p (path_view q) ≡ segment_type p (segment_view s)
   path_type-at p =
       ap (path_type p) (view-path q)
-      ∙ subst (λ xs. where_none (segments_view xs) (meant (meaning p (nameless (out-Path q).span)) types.no_types) (last_type p (segments_view xs)) ≡ last_type p (segments_view xs)) e
-      (not_none ss (meant (meaning p (nameless (out-Path q).span)) types.no_types) (last_type p (segments_view ss)) l)
+      ∙ subst (λ xs. where_none (segments_view xs) (meant p (meaning p (nameless (out-Path q).span)) types.no_types) (last_type p (segments_view xs)) ≡ last_type p (segments_view xs)) e
+      (not_none ss (meant p (meaning p (nameless (out-Path q).span)) types.no_types) (last_type p (segments_view ss)) l)
       ∙ at_last (last_type p) (segment_type p) (λ x rest. refl)
 
-  pub path_names-at : names_in_path (path_view q) ≡ segment_view s ∷ names_in_segment (segment_view s)
-  path_names-at =
-      ap names_in_path (view-path q)
-      ∙ subst (λ xs. where_none (segments_view xs) (nameless (out-Path q).span ∷ []) (names_in_last (segments_view xs)) ≡ names_in_last (segments_view xs)) e
-      (not_none ss (nameless (out-Path q).span ∷ []) (names_in_last (segments_view ss)) l)
-      ∙ at_last names_in_last (λ x. x ∷ names_in_segment x) (λ x rest. refl)
+  pub path_names-at : (p : Known) → names_in_path p (path_view q) ≡ segment_view s ∷ names_in_segment p (segment_view s)
+  path_names-at p =
+      ap (names_in_path p) (view-path q)
+      ∙ subst (λ xs. where_none (segments_view xs) (nameless (out-Path q).span ∷ []) (names_in_last p (segments_view xs)) ≡ names_in_last p (segments_view xs)) e
+      (not_none ss (nameless (out-Path q).span ∷ []) (names_in_last p (segments_view ss)) l)
+      ∙ at_last (names_in_last p) (λ x. x ∷ names_in_segment p x) (λ x rest. refl)

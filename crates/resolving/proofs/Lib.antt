@@ -1,4 +1,6 @@
+pub mod Constants
 pub mod Counted
+pub mod Taken
 pub mod Stands
 pub mod Right
 pub mod Whole

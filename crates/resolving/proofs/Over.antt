@@ -1,5 +1,5 @@
 -- The declarations that stand in a resolved type, and their arguments.
-use Rattle.std.proofs.Common.{◌≡◌, ◌<◌, ℕ, List, Bool, true, false, cond, Option, Some, None, option_map, option_and_then, bytes_eq, codes, refl, sym, subst}
+use Rattle.std.proofs.Common.{◌≡◌, ◌<◌, ℕ, List, Bool, true, false, cond, Option, Some, None, option_map, option_and_then, bytes_eq, codes, refl, subst}
 use Rattle.std.proofs.lemmas.Option.{none-some, same_Some}
 use Rattle.leaves.specs.declared.leaf.Leaf.{Leaf}
 use Rattle.leaves.specs.Leaves.{leaf_of}
@@ -11,15 +11,21 @@ use Rattle.open_types.specs.Open as types
 use Rattle.open_types.specs.Heads.{container_of}
 use Rattle.open_types.specs.declared.head.Head.{Head}
 use Rattle.open_types.specs.declared.head.Head.TheVariants as heads
+use Rattle.resolving.specs.Known.{Known}
 use Rattle.resolving.specs.declared.meaning.Meaning.{Meaning}
 use Rattle.resolving.specs.declared.meaning.Meaning.TheVariants as meanings
-use Rattle.resolving.specs.Names.{nameless, where_none, declared_or_unknown, other_meaning, leaf_or, container_or, name_meaning, meaning}
+use Rattle.resolving.specs.Names.{nameless, where_none, declared_or_unknown, parameter_or, other_meaning, leaf_or, container_or, name_meaning, meaning, is_constant_type}
 use Rattle.resolving.specs.Resolved.{small_list, of_one, of_two, contained, alone, meant, tuple_of, type_of, path_type, last_type, segment_type, argument_types, all_types}
 use Rattle.open_types.specs.Within.{IsOver, AreOver}
 use Rattle.resolving.proofs.Stands.{mapped}
-use Rattle.resolving.proofs.Right.{and_some}
+use Rattle.resolving.proofs.Right.{and_some, not_bad}
+use Rattle.resolving.proofs.Taken.{taken, declared-cases}
+use Rattle.resolving.specs.Bad.{are_bad}
 
-module _ (n : ℕ) (parameters : ℕ → ℕ) (own : ℕ) where
+module _ (p : Known) (n : ℕ) (own : ℕ) where
+  abbrev parameters : ℕ → ℕ
+  parameters = p.parameters_at
+
   abbrev IsTypeOver : Open → Type 0
   IsTypeOver t = IsOver n parameters own t
 
@@ -73,31 +79,38 @@ module _ (n : ℕ) (parameters : ℕ → ℕ) (own : ℕ) where
   alone-over a (types.more_types t ts) u w e = absurd (none-some u e)
 
   abbrev IsBelow : Meaning → Type 0
-  IsBelow (meanings.Declared d) = (d < n) × (parameters d ≡ 0)
+  IsBelow (meanings.Declared d) = d < n
+  IsBelow (meanings.Parameter i) = i < own
   IsBelow (meanings.Container h) = Unit {0}
   IsBelow (meanings.Leaf x) = Unit {0}
   IsBelow meanings.Value = Unit {0}
   IsBelow meanings.Object = Unit {0}
   IsBelow meanings.Unknown = Unit {0}
 
-  meant-over : (m : Meaning) (ts : Opens) (u : Open) → IsBelow m → AreTypesOver ts → meant m ts ≡ Some u → IsTypeOver u
+  meant-over : (m : Meaning) (ts : Opens) (u : Open) → IsBelow m → AreTypesOver ts → meant p m ts ≡ Some u → IsTypeOver u
   meant-over (meanings.Container h) ts u b w e = contained-over h ts u w e
   meant-over (meanings.Leaf x) ts u b w e = alone-over (types.leaf x) ts u tt e
   meant-over meanings.Value ts u b w e = alone-over types.any_value ts u tt e
   meant-over meanings.Object ts u b w e = alone-over types.free_object ts u tt e
-  meant-over (meanings.Declared d) ts u b w e = alone-over (types.named d types.no_types) ts u (b.0, sym b.1, tt) e
+  meant-over (meanings.Parameter i) ts u b w e = alone-over (types.param i) ts u b e
+  meant-over (meanings.Declared d) ts u b w e =
+      let t = taken p d ts u e in subst IsTypeOver t.1 (declared-cases IsTypeOver d ts tt (b, t.0, w))
   meant-over meanings.Unknown ts u b w e = absurd (none-some u e)
 
   -- ---- names whose places are below
 
-  module _ (p : List ℕ → Option ℕ) (below : (name : List ℕ) (d : ℕ) → p name ≡ Some d → (d < n) × (parameters d ≡ 0)) where
+  module _ (below : (name : List ℕ) (d : ℕ) → p.place_of name ≡ Some d → d < n) (within : (name : List ℕ) (i : ℕ) → p.parameter_of name ≡ Some i → i < own) where
     by_test : (b : Bool) (m k : Meaning) → IsBelow m → IsBelow k → IsBelow (cond b m k)
     by_test true m k f g = f
     by_test false m k f g = g
 
-    declared-below : (o : Option ℕ) → ((d : ℕ) → o ≡ Some d → (d < n) × (parameters d ≡ 0)) → IsBelow (declared_or_unknown o)
+    declared-below : (o : Option ℕ) → ((d : ℕ) → o ≡ Some d → d < n) → IsBelow (declared_or_unknown o)
     declared-below None h = tt
     declared-below (Some d) h = h d refl
+
+    parameter-below : (o : Option ℕ) (m : Meaning) → ((i : ℕ) → o ≡ Some i → i < own) → IsBelow m → IsBelow (parameter_or o m)
+    parameter-below None m h g = g
+    parameter-below (Some i) m h g = h i refl
 
     leaf-below : (o : Option Leaf) (m : Meaning) → IsBelow m → IsBelow (leaf_or o m)
     leaf-below None m h = h
@@ -106,7 +119,7 @@ module _ (n : ℕ) (parameters : ℕ → ℕ) (own : ℕ) where
     name-below : (k : List ℕ) → IsBelow (name_meaning p k)
     name-below k =
         leaf-below (leaf_of k) (other_meaning p k)
-        (by_test (bytes_eq k (codes "Value")) meanings.Value _ tt (by_test (bytes_eq k (codes "Object")) meanings.Object _ tt (by_test (bytes_eq k (codes "Self")) meanings.Unknown _ tt (declared-below (p k) (below k)))))
+        (by_test (bytes_eq k (codes "Value")) meanings.Value _ tt (by_test (bytes_eq k (codes "Object")) meanings.Object _ tt (by_test (bytes_eq k (codes "Self")) meanings.Unknown _ tt (parameter-below (p.parameter_of k) (declared_or_unknown (p.place_of k)) (within k) (declared-below (p.place_of k) (below k))))))
 
     container-below : (o : Option Head) (m : Meaning) → IsBelow m → IsBelow (container_or o m)
     container-below None m h = h
@@ -123,6 +136,11 @@ module _ (n : ℕ) (parameters : ℕ → ℕ) (own : ℕ) where
     cons-over (Some u) None ts e f g = absurd (none-some ts e)
     cons-over (Some u) (Some us) ts e f g = subst AreTypesOver (same_Some (types.more_types u us) ts e) (f u refl, g us refl)
 
+    skip-over : (b : Bool) (o : Option Open) (r : Option Opens) (ts : Opens) → cond b r (option_and_then (λ u. option_map (types.more_types u) r) o) ≡ Some ts → ((u : Open) → o ≡ Some u → IsTypeOver u) → ((us : Opens) → r ≡ Some us → AreTypesOver us) →
+        AreTypesOver ts
+    skip-over true o r ts e f g = g ts e
+    skip-over false o r ts e f g = cons-over o r ts e f g
+
     tuple-over : (ts : Opens) → AreTypesOver ts → IsTypeOver (tuple_of ts)
     tuple-over types.no_types w = tt
     tuple-over (types.more_types t ts) w = w
@@ -131,7 +149,7 @@ module _ (n : ℕ) (parameters : ℕ → ℕ) (own : ℕ) where
     last_cases s no_segments u e later here = here e
     last_cases s (more_segments t ts) u e later here = later e
 
-    path_cases : (ss : Segments) (s : Span) (u : Open) → where_none ss (meant (meaning p (nameless s)) types.no_types) (last_type p ss) ≡ Some u → (last_type p ss ≡ Some u → IsTypeOver u) → IsTypeOver u
+    path_cases : (ss : Segments) (s : Span) (u : Open) → where_none ss (meant p (meaning p (nameless s)) types.no_types) (last_type p ss) ≡ Some u → (last_type p ss ≡ Some u → IsTypeOver u) → IsTypeOver u
     path_cases no_segments s u e later = meant-over (meaning p (nameless s)) types.no_types u (meaning-below (nameless s)) tt e
     path_cases (more_segments t ts) s u e later = later e
 
@@ -154,14 +172,15 @@ module _ (n : ℕ) (parameters : ℕ → ℕ) (own : ℕ) where
       segment_over : (s : Segment) (u : Open) → segment_type p s ≡ Some u → IsTypeOver u
       segment_over (plain x) u e = meant-over (meaning p (plain x)) types.no_types u (meaning-below (plain x)) tt e
       segment_over (applied x args) u e =
-          let found = and_some (meant (meaning p (applied x args))) (argument_types p args) u e in
+          let good = not_bad (are_bad p (applied x args)) (option_and_then (meant p (meaning p (applied x args))) (argument_types p args)) u e in
+          let found = and_some (meant p (meaning p (applied x args))) (argument_types p args) u good.1 in
           meant-over (meaning p (applied x args)) found.0 u (meaning-below (applied x args)) (arguments_over args found.0 found.1) found.2
 
       arguments_over : (args : Arguments) (ts : Opens) → argument_types p args ≡ Some ts → AreTypesOver ts
       arguments_over no_arguments ts e = subst AreTypesOver (same_Some types.no_types ts e) tt
       arguments_over (more_arguments (lifetime_argument x) rest) ts e = arguments_over rest ts e
       arguments_over (more_arguments (constant_argument c) rest) ts e = arguments_over rest ts e
-      arguments_over (more_arguments (type_argument w) rest) ts e = cons-over (type_of p w) (argument_types p rest) ts e (type_over w) (arguments_over rest)
+      arguments_over (more_arguments (type_argument w) rest) ts e = skip-over (is_constant_type p w) (type_of p w) (argument_types p rest) ts e (type_over w) (arguments_over rest)
 
       types_over : (ws : Writtens) (ts : Opens) → all_types p ws ≡ Some ts → AreTypesOver ts
       types_over no_types ts e = subst AreTypesOver (same_Some types.no_types ts e) tt

@@ -1,5 +1,5 @@
 -- What has a meaning with its arguments has right ones.
-use Rattle.std.proofs.Common.{◌≡◌, ℕ, List, [], ◌∷◌, Bool, true, false, not, cond, Option, Some, None, option_and_then, bytes_eq, codes, refl, ap, sym, ◌∙◌}
+use Rattle.std.proofs.Common.{◌≡◌, ℕ, List, [], ◌∷◌, Bool, true, false, not, cond, Option, Some, None, option_and_then, bytes_eq, codes, refl, ap, sym, ◌∙◌, subst, length, eq-eqb}
 use Rattle.std.specs.List.{list_all}
 use Rattle.std.proofs.lemmas.Option.{none-some, same_Some}
 use Rattle.std.proofs.lemmas.Bool.{false≢true, and_parts}
@@ -13,11 +13,14 @@ use Rattle.open_types.specs.Open as types
 use Rattle.open_types.specs.Heads.{head_name, containers, container_among}
 use Rattle.open_types.specs.declared.head.Head.{Head}
 use Rattle.open_types.specs.declared.head.Head.TheVariants as heads
+use Rattle.resolving.specs.Known.{Known}
 use Rattle.resolving.specs.declared.meaning.Meaning.{Meaning}
 use Rattle.resolving.specs.declared.meaning.Meaning.TheVariants as meanings
-use Rattle.resolving.specs.Names.{nameless, where_none, is_array, declared_or_unknown, other_meaning, leaf_or, container_or, name_meaning, meaning}
+use Rattle.resolving.specs.Names.{nameless, where_none, is_array, declared_or_unknown, parameter_or, other_meaning, leaf_or, container_or, name_meaning, meaning}
 use Rattle.resolving.specs.Resolved.{small_list, list_of, of_one, of_two, contained, alone, meant, tuple_of, type_of, path_type, last_type, segment_type, argument_types, all_types, is_wrong_item, is_wrong_one, is_no_map, are_wrong_in, are_any, are_wrong}
-use Rattle.resolving.proofs.Stands.{Stand, mapped}
+use Rattle.resolving.proofs.Stands.{Stand, mapped, stand-length}
+use Rattle.resolving.proofs.Taken.{taken, declared-cases}
+use Rattle.resolving.specs.Bad.{are_bad}
 
 -- ---- no name stands for an array
 
@@ -37,14 +40,18 @@ declared-named : (o : Option ℕ) → is_named (declared_or_unknown o) ≡ true
 declared-named None = refl
 declared-named (Some d) = refl
 
+parameter-named : (o : Option ℕ) (m : Meaning) → is_named m ≡ true → is_named (parameter_or o m) ≡ true
+parameter-named None m h = h
+parameter-named (Some i) m h = refl
+
 leaf-named : (o : Option Leaf) (m : Meaning) → is_named m ≡ true → is_named (leaf_or o m) ≡ true
 leaf-named None m h = h
 leaf-named (Some x) m h = refl
 
-name-named : (p : List ℕ → Option ℕ) (n : List ℕ) → is_named (name_meaning p n) ≡ true
+name-named : (p : Known) (n : List ℕ) → is_named (name_meaning p n) ≡ true
 name-named p n =
     leaf-named (leaf_of n) (other_meaning p n)
-    (by_test (bytes_eq n (codes "Value")) meanings.Value _ refl (by_test (bytes_eq n (codes "Object")) meanings.Object _ refl (by_test (bytes_eq n (codes "Self")) meanings.Unknown _ refl (declared-named (p n)))))
+    (by_test (bytes_eq n (codes "Value")) meanings.Value _ refl (by_test (bytes_eq n (codes "Object")) meanings.Object _ refl (by_test (bytes_eq n (codes "Self")) meanings.Unknown _ refl (parameter-named (p.parameter_of n) (declared_or_unknown (p.place_of n)) (declared-named (p.place_of n))))))
 
 container-named : (n : List ℕ) (hs : List Head) (m : Meaning) → list_all (λ h. is_named (meanings.Container h)) hs ≡ true → is_named m ≡ true → is_named (container_or (container_among n hs) m) ≡ true
 container-named n [] m e g = g
@@ -56,7 +63,7 @@ container-named n (h ∷ hs) m e g =
     by true f rest = f
     by false f rest = rest
 
-meaning-named : (p : List ℕ → Option ℕ) (s : Segment) → is_named (meaning p s) ≡ true
+meaning-named : (p : Known) (s : Segment) → is_named (meaning p s) ≡ true
 meaning-named p (plain x) = name-named p x.text
 meaning-named p (applied x args) = container-named x.text containers (name_meaning p x.text) refl (name-named p x.text)
 
@@ -108,42 +115,49 @@ alone-not : (a : Open) (ts : Opens) (u : Open) → is_array_type a ≡ false →
 alone-not a types.no_types u f e = seen a u e f
 alone-not a (types.more_types t ts) u f e = absurd (none-some u e)
 
-meant-not : (m : Meaning) (ts : Opens) (u : Open) → is_named m ≡ true → meant m ts ≡ Some u → is_array_type u ≡ false
-meant-not (meanings.Container h) ts u g e = contained-not h ts u g e
-meant-not (meanings.Leaf x) ts u g e = alone-not (types.leaf x) ts u refl e
-meant-not meanings.Value ts u g e = alone-not types.any_value ts u refl e
-meant-not meanings.Object ts u g e = alone-not types.free_object ts u refl e
-meant-not (meanings.Declared d) ts u g e = alone-not (types.named d types.no_types) ts u refl e
-meant-not meanings.Unknown ts u g e = absurd (none-some u e)
+meant-not : (p : Known) (m : Meaning) (ts : Opens) (u : Open) → is_named m ≡ true → meant p m ts ≡ Some u → is_array_type u ≡ false
+meant-not p (meanings.Container h) ts u g e = contained-not h ts u g e
+meant-not p (meanings.Leaf x) ts u g e = alone-not (types.leaf x) ts u refl e
+meant-not p meanings.Value ts u g e = alone-not types.any_value ts u refl e
+meant-not p meanings.Object ts u g e = alone-not types.free_object ts u refl e
+meant-not p (meanings.Parameter i) ts u g e = alone-not (types.param i) ts u refl e
+meant-not p (meanings.Declared d) ts u g e = subst (λ t. is_array_type t ≡ false) (taken p d ts u e).1 (declared-cases (λ t. is_array_type t ≡ false) d ts refl refl)
+meant-not p meanings.Unknown ts u g e = absurd (none-some u e)
 
 -- the arguments with which a segment has its meaning
 pub and_some : {A B : Type 0} (f : A → Option B) (o : Option A) (y : B) → option_and_then f o ≡ Some y → (x : A) × (o ≡ Some x) × (f x ≡ Some y)
 and_some f None y e = absurd (none-some y e)
 and_some f (Some x) y e = (x, refl, e)
 
-segment-not : (p : List ℕ → Option ℕ) (s : Segment) (u : Open) → segment_type p s ≡ Some u → is_array_type u ≡ false
-segment-not p (plain x) u e = meant-not (meaning p (plain x)) types.no_types u (meaning-named p (plain x)) e
-segment-not p (applied x args) u e =
-    let found = and_some (meant (meaning p (applied x args))) (argument_types p args) u e in
-    meant-not (meaning p (applied x args)) found.0 u (meaning-named p (applied x args)) found.2
+-- a segment whose arguments are not bad stands for what its name means with them
+pub not_bad : (b : Bool) (o : Option Open) (u : Open) → cond b None o ≡ Some u → (b ≡ false) × (o ≡ Some u)
+not_bad true o u e = absurd (none-some u e)
+not_bad false o u e = (refl, e)
 
-last-cases : (p : List ℕ → Option ℕ) (s : Segment) (rest : Segments) (u : Open) → where_none rest (segment_type p s) (last_type p rest) ≡ Some u → (last_type p rest ≡ Some u → is_array_type u ≡ false) → is_array_type u ≡ false
+segment-not : (p : Known) (s : Segment) (u : Open) → segment_type p s ≡ Some u → is_array_type u ≡ false
+segment-not p (plain x) u e = meant-not p (meaning p (plain x)) types.no_types u (meaning-named p (plain x)) e
+segment-not p (applied x args) u e =
+    let good = not_bad (are_bad p (applied x args)) (option_and_then (meant p (meaning p (applied x args))) (argument_types p args)) u e in
+    let found = and_some (meant p (meaning p (applied x args))) (argument_types p args) u good.1 in
+    meant-not p (meaning p (applied x args)) found.0 u (meaning-named p (applied x args)) found.2
+
+last-cases : (p : Known) (s : Segment) (rest : Segments) (u : Open) → where_none rest (segment_type p s) (last_type p rest) ≡ Some u → (last_type p rest ≡ Some u → is_array_type u ≡ false) → is_array_type u ≡ false
 last-cases p s no_segments u e h = segment-not p s u e
 last-cases p s (more_segments t ts) u e h = h e
 
-last-not : (p : List ℕ → Option ℕ) (ss : Segments) (u : Open) → last_type p ss ≡ Some u → is_array_type u ≡ false
+last-not : (p : Known) (ss : Segments) (u : Open) → last_type p ss ≡ Some u → is_array_type u ≡ false
 last-not p no_segments u e = absurd (none-some u e)
 last-not p (more_segments s rest) u e = last-cases p s rest u e (last-not p rest u)
 
-path-not : (p : List ℕ → Option ℕ) (q : WrittenPath) (u : Open) → path_type p q ≡ Some u → is_array_type u ≡ false
-path-not p (path_of leading no_segments s) u e = meant-not (meaning p (nameless s)) types.no_types u (meaning-named p (nameless s)) e
+path-not : (p : Known) (q : WrittenPath) (u : Open) → path_type p q ≡ Some u → is_array_type u ≡ false
+path-not p (path_of leading no_segments s) u e = meant-not p (meaning p (nameless s)) types.no_types u (meaning-named p (nameless s)) e
 path-not p (path_of leading (more_segments x rest) s) u e = last-not p (more_segments x rest) u e
 
 tuple-not : (ts : Opens) → is_array_type (tuple_of ts) ≡ false
 tuple-not types.no_types = refl
 tuple-not (types.more_types t ts) = refl
 
-array-is : (p : List ℕ → Option ℕ) (w : Written) (t : Open) → type_of p w ≡ Some t → is_array_type t ≡ true → is_array w ≡ true
+array-is : (p : Known) (w : Written) (t : Open) → type_of p w ≡ Some t → is_array_type t ≡ true → is_array w ≡ true
 array-is p (path q) t e a = absurd (false≢true (sym (path-not p q t e) ∙ a))
 array-is p (reference w) t e a = array-is p w t e a
 array-is p (tuple ws s) t e a = let m = mapped tuple_of (all_types p ws) t e in absurd (false≢true (sym (tuple-not m.0) ∙ ap is_array_type m.2 ∙ a))
@@ -153,13 +167,13 @@ array-is p (trait_object q s) t e a = absurd (false≢true (sym (path-not p q t 
 
 -- ---- right numbers
 
-right-item : (p : List ℕ → Option ℕ) (h : ListHead) (w : Written) (t u : Open) → type_of p w ≡ Some t → list_of h t ≡ Some u → is_wrong_item h w ≡ false
+right-item : (p : Known) (h : ListHead) (w : Written) (t u : Open) → type_of p w ≡ Some t → list_of h t ≡ Some u → is_wrong_item h w ≡ false
 right-item p lists.Vec w t u e f = refl
 right-item p lists.LinkedList w t u e f = refl
 right-item p lists.SmallVec w t u e f = ap not (array-is p w t e (small-not t u f).0)
 right-item p lists.Array w t u e f = refl
 
-right-one : (p : List ℕ → Option ℕ) (h : Head) (w : Written) (t u : Open) → type_of p w ≡ Some t → of_one h t ≡ Some u → is_wrong_one h w ≡ false
+right-one : (p : Known) (h : Head) (w : Written) (t u : Open) → type_of p w ≡ Some t → of_one h t ≡ Some u → is_wrong_one h w ≡ false
 right-one p (heads.List h) w t u e f = right-item p h w t u e f
 right-one p (heads.Set h) w t u e f = refl
 right-one p (heads.Map h) w t u e f = absurd (none-some u f)
@@ -173,7 +187,7 @@ right-two (heads.Map h) k t u f = refl
 right-two heads.Option k t u f = absurd (none-some u f)
 right-two (heads.Through h) k t u f = absurd (none-some u f)
 
-right-in : (p : List ℕ → Option ℕ) (h : Head) (ws : List Written) (ts : Opens) (u : Open) → Stand p ws ts → contained h ts ≡ Some u → are_wrong_in h ws ≡ false
+right-in : (p : Known) (h : Head) (ws : List Written) (ts : Opens) (u : Open) → Stand p ws ts → contained h ts ≡ Some u → are_wrong_in h ws ≡ false
 right-in p h [] types.no_types u s f = absurd (none-some u f)
 right-in p h [] (types.more_types t ts) u s f = absurd s
 right-in p h (w ∷ ws) types.no_types u s f = absurd s
@@ -185,15 +199,16 @@ right-in p h (w ∷ v ∷ []) (types.more_types t (types.more_types x (types.mor
 right-in p h (w ∷ v ∷ y ∷ ws) (types.more_types t (types.more_types x types.no_types)) u s f = absurd s.1.1
 right-in p h (w ∷ v ∷ y ∷ ws) (types.more_types t (types.more_types x (types.more_types z zs))) u s f = absurd (none-some u f)
 
-right-alone : (p : List ℕ → Option ℕ) (a : Open) (ws : List Written) (ts : Opens) (u : Open) → Stand p ws ts → alone a ts ≡ Some u → are_any ws ≡ false
+right-alone : (p : Known) (a : Open) (ws : List Written) (ts : Opens) (u : Open) → Stand p ws ts → alone a ts ≡ Some u → are_any ws ≡ false
 right-alone p a [] ts u s f = refl
 right-alone p a (w ∷ ws) types.no_types u s f = absurd s
 right-alone p a (w ∷ ws) (types.more_types t ts) u s f = absurd (none-some u f)
 
-pub right : (p : List ℕ → Option ℕ) (m : Meaning) (ws : List Written) (ts : Opens) (u : Open) → Stand p ws ts → meant m ts ≡ Some u → are_wrong m ws ≡ false
+pub right : (p : Known) (m : Meaning) (ws : List Written) (ts : Opens) (u : Open) → Stand p ws ts → meant p m ts ≡ Some u → are_wrong p m ws ≡ false
 right p (meanings.Container h) ws ts u s f = right-in p h ws ts u s f
 right p (meanings.Leaf x) ws ts u s f = right-alone p (types.leaf x) ws ts u s f
 right p meanings.Value ws ts u s f = right-alone p types.any_value ws ts u s f
 right p meanings.Object ws ts u s f = right-alone p types.free_object ws ts u s f
-right p (meanings.Declared d) ws ts u s f = right-alone p (types.named d types.no_types) ws ts u s f
+right p (meanings.Parameter i) ws ts u s f = right-alone p (types.param i) ws ts u s f
+right p (meanings.Declared d) ws ts u s f = ap not (eq-eqb (length ws) (p.parameters_at d) (stand-length p ws ts s ∙ (taken p d ts u f).0))
 right p meanings.Unknown ws ts u s f = refl

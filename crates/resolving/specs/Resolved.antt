@@ -1,9 +1,9 @@
 -- What a written type stands for, and why it may stand for nothing.
-use Rattle.std.specs.Prelude.{◌≡◌, ◌<◌, ◌≤◌, ℕ, List, [], ◌∷◌, ◌++◌, Bool, true, false, not, Option, Some, None, option_map, option_and_then, IsTrue, codes}
+use Rattle.std.specs.Prelude.{◌≡◌, ◌<◌, ◌≤◌, ℕ, List, [], ◌∷◌, ◌++◌, Bool, true, false, not, Option, Some, None, option_map, option_and_then, IsTrue, codes, length, ◌==◌, cond}
 use Rattle.texts.specs.Lists.{Somewhere}
 use Rattle.diag.specs.Refusal.{IsRefusal}
 use Rattle.diag.specs.declared.error.DeriveError.{DeriveError}
-use Rattle.diag.specs.declared.kind.Kind.TheVariants.{UnknownType, Arity, TypeSize}
+use Rattle.diag.specs.declared.kind.Kind.TheVariants.{UnknownType, Arity, BadArgument, TypeSize}
 use Rattle.texts.specs.declared.span.Span.{Span}
 use Rattle.written_types.specs.declared.written.Ident.{Ident}
 use Rattle.written_types.specs.Written.{Written, Writtens, WrittenPath, Segments, Segment, Arguments, Argument, path, reference, tuple, slice, array, trait_object, no_types, more_types, path_of, no_segments, more_segments, plain, applied, no_arguments, more_arguments, lifetime_argument, constant_argument, type_argument}
@@ -16,7 +16,10 @@ use Rattle.open_types.specs.declared.head.Head.{Head}
 use Rattle.open_types.specs.declared.head.Head.TheVariants as heads
 use Rattle.resolving.specs.declared.meaning.Meaning.{Meaning}
 use Rattle.resolving.specs.declared.meaning.Meaning.TheVariants as meanings
-use Rattle.resolving.specs.Names.{types_of, ident_of, arguments_of, nameless, where_none, names_in, size, span_of, is_array, meaning}
+use Rattle.resolving.specs.Known.{Known}
+use Rattle.resolving.specs.Free.{declared_with}
+use Rattle.resolving.specs.Names.{types_of, ident_of, arguments_of, nameless, where_none, names_in, size, span_of, is_array, meaning, is_constant_type}
+use Rattle.resolving.specs.Bad.{are_bad}
 
 -- ---- what a name stands for with its type arguments
 
@@ -57,59 +60,61 @@ abbrev pub alone : Open → Opens → Option Open
 alone t types.no_types = Some t
 alone t (types.more_types u us) = None
 
-abbrev pub meant : Meaning → Opens → Option Open
-meant (meanings.Container h) ts = contained h ts
-meant (meanings.Leaf x) ts = alone (types.leaf x) ts
-meant meanings.Value ts = alone types.any_value ts
-meant meanings.Object ts = alone types.free_object ts
-meant (meanings.Declared d) ts = alone (types.named d types.no_types) ts
-meant meanings.Unknown ts = None
+abbrev pub meant : Known → Meaning → Opens → Option Open
+meant known (meanings.Container h) ts = contained h ts
+meant known (meanings.Leaf x) ts = alone (types.leaf x) ts
+meant known meanings.Value ts = alone types.any_value ts
+meant known meanings.Object ts = alone types.free_object ts
+meant known (meanings.Parameter i) ts = alone (types.param i) ts
+meant known (meanings.Declared d) ts = declared_with known d ts
+meant known meanings.Unknown ts = None
 
--- ---- what a written type stands for, where `place_of` has the places of the declarations
+-- ---- what a written type stands for, where these names are known
 
 abbrev pub tuple_of : Opens → Open
 tuple_of types.no_types = types.unit
 tuple_of (types.more_types t ts) = types.tuple (types.more_types t ts)
 
--- References, lifetimes, constants and all but the last segment of a path are dropped.
+-- References, lifetimes, constants and all but the last segment of a path are dropped. A declared name with an argument that cannot be one stands for nothing.
 abbrev mutual
-  pub type_of : (List ℕ → Option ℕ) → Written → Option Open
-  type_of place_of (path p) = path_type place_of p
-  type_of place_of (reference t) = type_of place_of t
-  type_of place_of (tuple ts s) = option_map tuple_of (all_types place_of ts)
-  type_of place_of (slice t s) = option_map (types.items lists.Array) (type_of place_of t)
-  type_of place_of (array t s) = option_map (types.items lists.Array) (type_of place_of t)
-  type_of place_of (trait_object p s) = path_type place_of p
+  pub type_of : Known → Written → Option Open
+  type_of known (path p) = path_type known p
+  type_of known (reference t) = type_of known t
+  type_of known (tuple ts s) = option_map tuple_of (all_types known ts)
+  type_of known (slice t s) = option_map (types.items lists.Array) (type_of known t)
+  type_of known (array t s) = option_map (types.items lists.Array) (type_of known t)
+  type_of known (trait_object p s) = path_type known p
 
-  pub path_type : (List ℕ → Option ℕ) → WrittenPath → Option Open
-  path_type place_of (path_of leading ss s) = where_none ss (meant (meaning place_of (nameless s)) types.no_types) (last_type place_of ss)
+  pub path_type : Known → WrittenPath → Option Open
+  path_type known (path_of leading ss s) = where_none ss (meant known (meaning known (nameless s)) types.no_types) (last_type known ss)
 
-  pub last_type : (List ℕ → Option ℕ) → Segments → Option Open
-  last_type place_of no_segments = None
-  last_type place_of (more_segments s rest) = where_none rest (segment_type place_of s) (last_type place_of rest)
+  pub last_type : Known → Segments → Option Open
+  last_type known no_segments = None
+  last_type known (more_segments s rest) = where_none rest (segment_type known s) (last_type known rest)
 
-  pub segment_type : (List ℕ → Option ℕ) → Segment → Option Open
-  segment_type place_of (plain x) = meant (meaning place_of (plain x)) types.no_types
-  segment_type place_of (applied x args) = option_and_then (meant (meaning place_of (applied x args))) (argument_types place_of args)
+  pub segment_type : Known → Segment → Option Open
+  segment_type known (plain x) = meant known (meaning known (plain x)) types.no_types
+  segment_type known (applied x args) = cond (are_bad known (applied x args)) None (option_and_then (meant known (meaning known (applied x args))) (argument_types known args))
 
-  pub argument_types : (List ℕ → Option ℕ) → Arguments → Option Opens
-  argument_types place_of no_arguments = Some types.no_types
-  argument_types place_of (more_arguments a rest) = argument_type place_of a (argument_types place_of rest)
+  pub argument_types : Known → Arguments → Option Opens
+  argument_types known no_arguments = Some types.no_types
+  argument_types known (more_arguments a rest) = argument_type known a (argument_types known rest)
 
-  pub argument_type : (List ℕ → Option ℕ) → Argument → Option Opens → Option Opens
-  argument_type place_of (lifetime_argument x) rest = rest
-  argument_type place_of (constant_argument ts) rest = rest
-  argument_type place_of (type_argument t) rest = option_and_then (λ u. option_map (types.more_types u) rest) (type_of place_of t)
+  pub argument_type : Known → Argument → Option Opens → Option Opens
+  argument_type known (lifetime_argument x) rest = rest
+  argument_type known (constant_argument ts) rest = rest
+  argument_type known (type_argument t) rest = cond (is_constant_type known t) rest (option_and_then (λ u. option_map (types.more_types u) rest) (type_of known t))
 
-  pub all_types : (List ℕ → Option ℕ) → Writtens → Option Opens
-  all_types place_of no_types = Some types.no_types
-  all_types place_of (more_types t ts) = option_and_then (λ u. option_map (types.more_types u) (all_types place_of ts)) (type_of place_of t)
+  pub all_types : Known → Writtens → Option Opens
+  all_types known no_types = Some types.no_types
+  all_types known (more_types t ts) = option_and_then (λ u. option_map (types.more_types u) (all_types known ts)) (type_of known t)
 
 -- ---- why a type stands for nothing, or is too large
 
 pub data Fault : Type 0 where
   unknown_type : Ident → Fault
   wrong_arity : Ident → Fault
+  bad_argument : Ident → Fault
   too_large : Span → Fault
 
 abbrev pub most_names : ℕ
@@ -147,31 +152,34 @@ are_any [] = false
 are_any (t ∷ ts) = true
 
 -- the type arguments are not those that the name takes
-abbrev pub are_wrong : Meaning → List Written → Bool
-are_wrong (meanings.Container h) ts = are_wrong_in h ts
-are_wrong (meanings.Leaf x) ts = are_any ts
-are_wrong meanings.Value ts = are_any ts
-are_wrong meanings.Object ts = are_any ts
-are_wrong (meanings.Declared d) ts = are_any ts
-are_wrong meanings.Unknown ts = false
+abbrev pub are_wrong : Known → Meaning → List Written → Bool
+are_wrong known (meanings.Container h) ts = are_wrong_in h ts
+are_wrong known (meanings.Leaf x) ts = are_any ts
+are_wrong known meanings.Value ts = are_any ts
+are_wrong known meanings.Object ts = are_any ts
+are_wrong known (meanings.Parameter i) ts = are_any ts
+are_wrong known (meanings.Declared d) ts = not (length ts == known.parameters_at d)
+are_wrong known meanings.Unknown ts = false
 
--- a name in the type is not known, or has other type arguments than it takes; or the type has too many names
-abbrev pub IsFault : (List ℕ → Option ℕ) → Written → Fault → Type 0
-IsFault place_of t (unknown_type x) = Somewhere (λ s. (x ≡ ident_of s) × (meaning place_of s ≡ meanings.Unknown)) (names_in t)
-IsFault place_of t (wrong_arity x) = Somewhere (λ s. (x ≡ ident_of s) × IsTrue (are_wrong (meaning place_of s) (types_of (arguments_of s)))) (names_in t)
-IsFault place_of t (too_large s) = (s ≡ span_of t) × (most_names < size t)
+-- a name in the type is not known, has other type arguments than it takes, or is a declaration's and has one that cannot be its argument; or the type has too many names
+abbrev pub IsFault : Known → Written → Fault → Type 0
+IsFault known t (unknown_type x) = Somewhere (λ s. (x ≡ ident_of s) × (meaning known s ≡ meanings.Unknown)) (names_in known t)
+IsFault known t (wrong_arity x) = Somewhere (λ s. (x ≡ ident_of s) × IsTrue (are_wrong known (meaning known s) (types_of known (arguments_of s)))) (names_in known t)
+IsFault known t (bad_argument x) = Somewhere (λ s. (x ≡ ident_of s) × IsTrue (are_bad known s)) (names_in known t)
+IsFault known t (too_large s) = (s ≡ span_of t) × (most_names < size known t)
 
 -- the error refuses for the fault
 abbrev pub IsRefusedFor : Fault → DeriveError → Type 0
 IsRefusedFor (unknown_type x) e = IsRefusal UnknownType x.span (codes "unknown type " ++ x.text) e
 IsRefusedFor (wrong_arity x) e = IsRefusal Arity x.span (codes "wrong number of type arguments for " ++ x.text) e
+IsRefusedFor (bad_argument x) e = IsRefusal BadArgument x.span (codes "tuples, arrays and slices cannot be generic arguments") e
 IsRefusedFor (too_large s) e = IsRefusal TypeSize s (codes "a type has more than 256 names") e
 
 -- The law: what stands for a type and is not too large has no fault.
 abbrev pub ResolvedHaveNoFault : Type 0
-ResolvedHaveNoFault = (place_of : List ℕ → Option ℕ) (t : Written) (u : Open) → type_of place_of t ≡ Some u → size t ≤ most_names → (fault : Fault) → ¬ (IsFault place_of t fault)
+ResolvedHaveNoFault = (known : Known) (t : Written) (u : Open) → type_of known t ≡ Some u → size known t ≤ most_names → (fault : Fault) → ¬ (IsFault known t fault)
 
--- The law: where each name's place is below n and its declaration has no parameters, a resolved type is over the first n declarations, and none has other arguments than it takes.
+-- The law: where each name's place is below n and each type parameter's place is below m, a resolved type is over the first n declarations and the first m parameters, and none has other arguments than it takes.
 abbrev pub ResolvedAreOver : Type 0
 ResolvedAreOver =
-    (place_of : List ℕ → Option ℕ) (n : ℕ) (parameters : ℕ → ℕ) (m : ℕ) → ((name : List ℕ) (d : ℕ) → place_of name ≡ Some d → (d < n) × (parameters d ≡ 0)) → (t : Written) (u : Open) → type_of place_of t ≡ Some u → IsOver n parameters m u
+    (known : Known) (n : ℕ) (m : ℕ) → ((name : List ℕ) (d : ℕ) → known.place_of name ≡ Some d → d < n) → ((name : List ℕ) (i : ℕ) → known.parameter_of name ≡ Some i → i < m) → (t : Written) (u : Open) → type_of known t ≡ Some u → IsOver n known.parameters_at m u

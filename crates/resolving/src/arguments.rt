@@ -2,8 +2,12 @@
 
 ghost use Rattle.std.specs.Prelude.{◌≡◌, IfOk, option_map};
 ghost use Rattle.open_types.specs.Open.{open_view, opens_view};
+ghost use Rattle.resolving.specs.Known.{known};
+ghost use Rattle.resolving.specs.Free.{declared_with};
 ghost use Rattle.resolving.specs.Resolved.{list_of, of_one, of_two, contained, alone, meant};
 
+use crate::free::hold_free;
+use crate::known::KnownNames;
 use crate::meaning::Meaning;
 use open_types::{Head, ListHead, OpenType};
 use std::alloc::{AllocError, Global};
@@ -80,23 +84,41 @@ fn alone(ty: OpenType, arguments: &[OpenType]) -> Option<OpenType>
     if arguments.is_empty() { Some(ty) } else { None }
 }
 
+/// The declared type, where it takes as many arguments; with an argument that holds the free object, the free object.
+fn declared_with(
+    names: &KnownNames<'_>,
+    place: usize,
+    arguments: List<OpenType>,
+) -> Option<OpenType>
+    ensures { option_map open_view result
+        ≡ declared_with (known names.now) place (opens_view arguments) }
+{
+    if arguments.len() != names.parameters_at(place) {
+        return None;
+    }
+    if hold_free(arguments.as_slice()) {
+        return Some(OpenType::FreeObject);
+    }
+    Some(OpenType::Named(place, arguments))
+}
+
 /// What the name stands for with its type arguments, where it takes these.
 pub(crate) fn meant(
     alloc: Global,
+    names: &KnownNames<'_>,
     meaning: Meaning,
     arguments: List<OpenType>,
 ) -> Result<Option<OpenType>, AllocError>
-    ensures { IfOk result (λ t. option_map open_view t ≡ meant meaning (opens_view arguments)) }
+    ensures { IfOk result (λ t. option_map open_view t
+        ≡ meant (known names.now) meaning (opens_view arguments)) }
 {
     match meaning {
         Meaning::Container(head) => contained(alloc, head, arguments),
         Meaning::Leaf(leaf) => Ok(alone(OpenType::Leaf(leaf), arguments.as_slice())),
         Meaning::Value => Ok(alone(OpenType::AnyValue, arguments.as_slice())),
         Meaning::Object => Ok(alone(OpenType::FreeObject, arguments.as_slice())),
-        Meaning::Declared(place) => Ok(alone(
-            OpenType::Named(place, List::new(alloc)),
-            arguments.as_slice(),
-        )),
+        Meaning::Parameter(place) => Ok(alone(OpenType::Param(place), arguments.as_slice())),
+        Meaning::Declared(place) => Ok(declared_with(names, place, arguments)),
         Meaning::Unknown => Ok(None),
     }
 }

@@ -7,8 +7,8 @@ pub fn resolved_have_no_fault()
     ensures { ResolvedHaveNoFault }
 {}
 
-/// Where each name's place is below a bound and its declaration has no parameters, a resolved type is over the
-/// declarations below that bound.
+/// Where each name's place is below a bound, and each type parameter's place below another, a resolved type is over the
+/// declarations and the parameters below these bounds.
 pub fn resolved_are_over()
     ensures { ResolvedAreOver }
 {}

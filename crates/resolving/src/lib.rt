@@ -2,12 +2,17 @@
 #![tactic(auto)]
 
 mod arguments;
+mod bad;
+mod constant;
+mod free;
+mod known;
 mod law;
 mod meaning;
 mod refusal;
 mod resolve;
 mod size;
 
+pub use known::KnownNames;
 pub use law::{resolved_are_over, resolved_have_no_fault};
 pub use meaning::Meaning;
 pub use resolve::{MAX_NAMES, resolve_type};

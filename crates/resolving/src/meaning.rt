@@ -1,13 +1,13 @@
 //! What names stand for.
 
 ghost use Rattle.std.specs.Prelude.{◌≡◌};
-ghost use Rattle.std.specs.BTreeMap.{get_by_text};
 ghost use Rattle.written_types.specs.Written.{segment_view};
-ghost use Rattle.resolving.specs.Names.{other_meaning, name_meaning, meaning};
+ghost use Rattle.resolving.specs.Known.{known};
+ghost use Rattle.resolving.specs.Names.{parameter_or, declared_or_unknown, other_meaning, name_meaning, meaning};
 
+use crate::known::KnownNames;
 use leaves::Leaf;
 use open_types::Head;
-use std::collections::BTreeMap;
 use written_types::PathSegment;
 
 /// What a name stands for.
@@ -19,45 +19,58 @@ pub enum Meaning {
     Value,
     /// Any JSON object.
     Object,
+    /// The type parameter at this place of the declaration in which the type is written, from 0 on.
+    Parameter(usize),
     /// The declaration at this place of the source, from 0 on.
     Declared(usize),
     Unknown,
 }
 
-fn other_meaning(places: &BTreeMap<String, usize>, name: &str) -> Meaning
-    ensures { result ≡ other_meaning (get_by_text places.now) name.now }
+/// What a name stands for that a parameter or a declaration may have.
+fn given_meaning(names: &KnownNames<'_>, name: &str) -> Meaning
+    ensures { result ≡ parameter_or ((known names.now).parameter_of name.now)
+        (declared_or_unknown ((known names.now).place_of name.now)) }
+{
+    if let Some(place) = names.parameters.get(name) {
+        return Meaning::Parameter(*place);
+    }
+    match names.places.get(name) {
+        Some(place) => Meaning::Declared(*place),
+        None => Meaning::Unknown,
+    }
+}
+
+fn other_meaning(names: &KnownNames<'_>, name: &str) -> Meaning
+    ensures { result ≡ other_meaning (known names.now) name.now }
 {
     match name {
         "Value" => Meaning::Value,
         "Object" => Meaning::Object,
         "Self" => Meaning::Unknown,
-        _ => match places.get(name) {
-            Some(place) => Meaning::Declared(*place),
-            None => Meaning::Unknown,
-        },
+        _ => given_meaning(names, name),
     }
 }
 
-/// What a name without an argument list stands for, where `places` has the places of the declarations.
-pub(crate) fn name_meaning(places: &BTreeMap<String, usize>, name: &str) -> Meaning
-    ensures { result ≡ name_meaning (get_by_text places.now) name.now }
+/// What a name without an argument list stands for.
+pub(crate) fn name_meaning(names: &KnownNames<'_>, name: &str) -> Meaning
+    ensures { result ≡ name_meaning (known names.now) name.now }
 {
     match Leaf::named(name) {
         Some(leaf) => Meaning::Leaf(leaf),
-        None => other_meaning(places, name),
+        None => other_meaning(names, name),
     }
 }
 
 /// What a segment's name stands for. With an argument list it may be a container.
-pub(crate) fn segment_meaning(places: &BTreeMap<String, usize>, segment: &PathSegment) -> Meaning
-    ensures { result ≡ meaning (get_by_text places.now) (segment_view segment.now) }
+pub(crate) fn segment_meaning(names: &KnownNames<'_>, segment: &PathSegment) -> Meaning
+    ensures { result ≡ meaning (known names.now) (segment_view segment.now) }
 {
     let name = segment.ident.text.as_str();
     match &segment.arguments {
-        None => name_meaning(places, name),
+        None => name_meaning(names, name),
         Some(_) => match Head::named(name) {
             Some(head) => Meaning::Container(head),
-            None => name_meaning(places, name),
+            None => name_meaning(names, name),
         },
     }
 }

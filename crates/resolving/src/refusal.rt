@@ -1,7 +1,7 @@
 //! Refusals of written types.
 
 ghost use Rattle.std.specs.Prelude.{◌≡◌, ◌⊎◌};
-ghost use Rattle.resolving.specs.Resolved.{IsRefusedFor, unknown_type, wrong_arity, too_large};
+ghost use Rattle.resolving.specs.Resolved.{IsRefusedFor, unknown_type, wrong_arity, bad_argument, too_large};
 
 use diag::{DeriveError, Kind};
 use std::alloc::Global;
@@ -29,6 +29,18 @@ pub(crate) fn arity(alloc: Global, ident: &Ident) -> DeriveError
         Ok(message) => DeriveError::refusal(alloc, Kind::Arity, ident.span, message.as_str()),
         Err(error) => DeriveError::from(error),
     }
+}
+
+/// The refusal of a declared name with an argument that cannot be one, or want of memory.
+pub(crate) fn bad_argument(alloc: Global, ident: &Ident) -> DeriveError
+    ensures { (result ≡ DeriveError.Memory) ⊎ IsRefusedFor (bad_argument ident.now) result }
+{
+    DeriveError::refusal(
+        alloc,
+        Kind::BadArgument,
+        ident.span,
+        "tuples, arrays and slices cannot be generic arguments",
+    )
 }
 
 /// The refusal of a type with too many names, or want of memory.

@@ -7,7 +7,7 @@ use Rattle.diag.specs.declared.diagnostics.DiangosticsInner.{DiangosticsInner}
 use Rattle.diag.specs.declared.error.DeriveError.{DeriveError}
 use Rattle.diag.specs.declared.error.DeriveError.TheVariants.{Refused, Memory}
 use Rattle.diag.specs.declared.kind.Kind.{Kind}
-use Rattle.diag.specs.declared.kind.Kind.TheVariants.{BadConfig, TooLong, TooDeep, Syntax, DuplicateName, UnknownType, Arity, TypeSize, TooManyInstances, NameClash, InlineDepth, TooManyCopies, MissingRow, SerdeTag, TaggedTuple, BadValue}
+use Rattle.diag.specs.declared.kind.Kind.TheVariants.{BadConfig, TooLong, TooDeep, Syntax, DuplicateName, UnknownType, Arity, BadArgument, TypeSize, TooManyInstances, NameClash, InlineDepth, TooManyCopies, MissingRow, SerdeTag, TaggedTuple, BadValue}
 use Rattle.texts.specs.declared.span.Span.{Span}
 use Rattle.diag.specs.declared.rename_rule.RenameRule.{RenameRule}
 use Rattle.diag.specs.declared.rename_row.RenameRow.{RenameRow}
@@ -23,7 +23,7 @@ use Rattle.serde_rules.specs.Container.{TagFault, with_item, rename_rule, rule_n
 use Rattle.written_types.specs.declared.written.Ident.{Ident}
 use Rattle.syntax.specs.Items.{FieldItem, FieldItems, named, unnamed, unit, VariantItem, BodyItem, struct_body, enum_body, DeclaredItem}
 use Rattle.scopes.specs.Names.{declared_idents, IsGivenTwice}
-use Rattle.resolving.specs.Resolved.{Fault, unknown_type, wrong_arity, too_large, IsRefusedFor}
+use Rattle.resolving.specs.Resolved.{Fault, unknown_type, wrong_arity, too_large, bad_argument, IsRefusedFor}
 use Rattle.texts.specs.Lists.{Somewhere}
 use Rattle.configuration.specs.Configuration.{Configuration}
 use Rattle.configuration.specs.Form.{IsBadConfig}
@@ -65,6 +65,7 @@ module _ (ds : List DiangosticsInner) (first : HasFirst ds (λ d. d.kind ≡ Bad
   other_for (unknown_type x) is = other UnknownType _ _ (λ e. cc) is
   other_for (wrong_arity x) is = other Arity _ _ (λ e. cc) is
   other_for (too_large s) is = other TypeSize _ _ (λ e. cc) is
+  other_for (bad_argument x) is = other BadArgument _ _ (λ e. cc) is
 
   nowhere : {A : Type 0} (P : A → Type 0) (xs : List A) → ((x : A) → P x → ⊥) → Somewhere P xs → ⊥
   nowhere P [] none here = here
@@ -132,17 +133,17 @@ module _ (ds : List DiangosticsInner) (first : HasFirst ds (λ d. d.kind ≡ Bad
   body around items x (enum_body vs) (inr (tagging, told, inr h)) = twice _ h
 
   item : (around : Around) (d : DeclaredItem) → IsFaultyItem around d (Refused ds) → ⊥
-  item around d (inl h) = twice _ h
+  item around d (inl (inl h)) = twice _ h
+  item around d (inl (inr h)) = twice _ h
   item around d (inr (inl (span, first, is))) = other Syntax _ _ (λ e. cc) is
   item around d (inr (inr (derivable, h))) = body around (serde_items d.attrs) d.ident d.body h
 
   faulty : (rows : List RenameRow) (items : List DeclaredItem) → AreFaulty rows items (Refused ds) → ⊥
   faulty rows items (inl h) = twice _ h
-  faulty rows items (inr h) = nowhere _ items (item (around_of rows items)) h
+  faulty rows items (inr h) = nowhere _ items (λ d. item (around_of rows items d.generics) d) h
 
   declared : (c : Configuration) (items : List DeclaredItem) → AreAtFault c.renames items (Refused ds) ⊎ IsBeyond c items (Refused ds) → ⊥
-  declared c items (inl (inl (inl (span, attributed, is)))) = other Syntax _ _ (λ e. cc) is
-  declared c items (inl (inl (inr (none, (x, argued, is))))) = other Syntax _ _ (λ e. cc) is
+  declared c items (inl (inl (span, attributed, is))) = other Syntax _ _ (λ e. cc) is
   declared c items (inl (inr (derivable, fault))) = faulty c.renames items fault
   declared c items (inr (clear, (resolved, resolves, beyond))) = unbounded c (declared_idents items) resolved beyond
 

@@ -1,3 +1,4 @@
 pub mod Declared
 pub mod PlaceLaws
+pub mod Given
 pub mod TextLaws

@@ -1,4 +1,5 @@
 pub mod Descriptions
 pub mod Names
+pub mod Parameters
 pub mod Scopes
 pub mod Texts

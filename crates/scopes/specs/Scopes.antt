@@ -1,8 +1,33 @@
 -- Where the names of a source are looked up.
-use Rattle.std.specs.Prelude.{List}
-use Rattle.syntax.specs.Items.{DeclaredItem, declarations_view}
+use Rattle.std.specs.Prelude.{ℕ, List, length, slice_index}
+use Rattle.texts.specs.Names.{is_in, place_in}
+use Rattle.syntax.specs.Items.{ParameterItem, DeclaredItem, declarations_view}
+use Rattle.resolving.specs.Known.{Known}
+use Rattle.scopes.specs.Names.{texts, place_among}
+use Rattle.scopes.specs.Parameters.{parameters_of, type_parameters, parameter_counts, generics_at}
+use Rattle.scopes.specs.declared.parameters.ParameterKind.TheVariants.{Constants}
 use Rattle.scopes.specs.declared.scope.Scope.{Scope}
+
+-- the names that are known among these declarations, in one with these generic parameters
+abbrev pub known_among : List DeclaredItem → List ParameterItem → Known
+known_among ds ps = record {
+  place_of = place_among ds;
+  parameters_at = slice_index (parameter_counts ds);
+  parameter_of = λ name. place_in name (texts (type_parameters ps));
+  is_constant = λ name. is_in name (texts (parameters_of Constants ps));
+}
 
 -- the declarations of the source
 abbrev pub declared_in : Scope → List DeclaredItem
 declared_in scope = declarations_view scope.places.now.declarations.now
+
+-- the generic parameters of the declaration in which the type is written
+abbrev pub generics_in : Scope → List ParameterItem
+generics_in scope = generics_at (declared_in scope) scope.owner
+
+-- how many of them are types
+abbrev pub parameters_in : Scope → ℕ
+parameters_in scope = length (type_parameters (generics_in scope))
+
+abbrev pub known_in : Scope → Known
+known_in scope = known_among (declared_in scope) (generics_in scope)

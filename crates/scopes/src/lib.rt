@@ -4,6 +4,7 @@
 mod container;
 mod lookup;
 mod names;
+mod parameters;
 mod scope;
 mod text;
 
@@ -12,5 +13,6 @@ pub use lookup::resolve;
 pub use names::{
     Named, declared_places, duplicate_name, first_places, names_repeat_or_not, places_of,
 };
+pub use parameters::{ParameterKind, parameters_of};
 pub use scope::{Places, Scope};
 pub use text::{text_of_type, type_text};

@@ -30,12 +30,12 @@ loop-number-preserved g c =
         waiting = waiting_more ss is marks terms order i c.replace-term.new.dest at c.loop-number.invariant.waiting;
         many = ap (λ v. length v.items) w.made-is ∙ length-set made place w.in_ok-schema.schema ∙ c.loop-number.invariant.many;
         made = subst (λ xs. AreMade ss is marks xs (take (i + 1) order)) (sym (ap (λ v. v.items) w.made-is)) (
-          made_more ss is marks made order i w.in_ok-schema.schema at (subst (λ n. place < n) (sym c.loop-number.invariant.many) within) (
+            made_more ss is marks made order i w.in_ok-schema.schema at (subst (λ n. place < n) (sym c.loop-number.invariant.many) within) (
             next_schema c.same_types_are_equal.ensures c.types_stay_without_arguments.ensures ss is c.requires.instances c.requires.shallow marks c.requires.along terms made w.as_slice.result.now (take i order) place c.replace-term.result (schema_view w.in_ok-schema.schema) c.loop-number.invariant.waiting
             (fresh_at order i c.requires.order.once at) (subst (λ n. place < n) (sym c.loop-number.invariant.terms) within) within w.if-marks-number.true (λ n among m. c.loop-number.invariant.made n (stands.1 n among) m)
             w.as_slice.ensures.value (c.replace-term.ensures.value ∙ c.index_mut.ensures.value ∙ get_or_default terms place c.index_mut.result.now c.replace-term.result (subst (λ n. place < n) (sym c.loop-number.invariant.terms) within)) w.in_ok-schema.ensures
-          ) c.loop-number.invariant.made
-        );
+            ) c.loop-number.invariant.made
+            );
       }
       | else-marks-number w ↦ record {
         terms = length-set terms place c.replace-term.new.dest ∙ c.loop-number.invariant.terms;

@@ -54,9 +54,20 @@ returns-in_err-bounded-clause-refused c =
     rw (p.1, p.2)
     (elim c.in_err-bounded.ensures.refused [
       | inl memory ↦ inl memory
-      | inr unbounded ↦ inr (inr (inr (ds, c.in_ok-declarations.ensures.found, c.in_ok-declarations.ensures.shallow, inr (settled.clear, (declarations_of c.in_ok-terms.terms, settled.resolves,
-          subst (λ (xs : List Resolved). IsUnbounded c.args.config.now (declared_idents ds) (map resolved_view xs) e) c.as_slice-resolved.ensures
-          (subst (λ xs. IsUnbounded c.args.config.now xs (map resolved_view c.as_slice-resolved.result.now) e) (c.as_slice.ensures ∙ c.in_ok-terms.ensures.terms.idents) unbounded))))))
+      | inr unbounded ↦ inr (inr (inr (
+        ds,
+        c.in_ok-declarations.ensures.found,
+        c.in_ok-declarations.ensures.shallow,
+        inr (
+          settled.clear,
+          (
+            declarations_of c.in_ok-terms.terms,
+            settled.resolves,
+            subst (λ (xs : List Resolved). IsUnbounded c.args.config.now (declared_idents ds) (map resolved_view xs) e) c.as_slice-resolved.ensures
+                (subst (λ xs. IsUnbounded c.args.config.now xs (map resolved_view c.as_slice-resolved.result.now) e) (c.as_slice.ensures ∙ c.in_ok-terms.ensures.terms.idents) unbounded),
+          ),
+        ),
+      )))
     ])
 
 -- what is known of the components of settled declarations

@@ -1,5 +1,11 @@
-use Rattle.std.proofs.Common.{inl, inr}
+use Rattle.std.proofs.Common.{◌≡◌, Some, map, inl, inr, ap, sym, subst}
 use Rattle.std.proofs.lemmas.Result.{err_from_is_err_and}
+use Rattle.syntax.specs.Items.{declarations_view}
+use Rattle.scopes.specs.Names.{declared_names}
+use Rattle.shapes.specs.Declarations.{declaration_names}
+use Rattle.derive_decl.specs.Faults.{AreFaultyItems}
+use Rattle.derive_decl.specs.Views.{resolved_view}
+use Rattle.derive_decl.specs.Whole.{resolved_declarations}
 use Rattle.compose.proofs.sets.settle.Goals as goal
 
 pub returns-in_err-only_derivable-clause-refused : goal.returns-in_err-only_derivable-clause-refused
@@ -22,21 +28,27 @@ returns-in_err-by_name-clause-refused c =
 
 pub returns-in_err-resolved-clause-refused : goal.returns-in_err-resolved-clause-refused
 returns-in_err-resolved-clause-refused c =
+    let rows = c.args.config.now.renames in
+    let same = ap declarations_view c.in_ok-places.ensures.declarations in
     let p = err_from_is_err_and c.from_residual-in_err-resolved.result c.from_residual-in_err-resolved.ensures.1 in
     rw (p.1, p.2)
     (elim c.in_err-resolved.ensures.refused [
       | inl memory ↦ inl memory
-      | inr fault ↦ inr (inr (c.in_ok-only_derivable.ensures.derivable, inr fault))
+      | inr fault ↦ inr (inr (c.in_ok-only_derivable.ensures.derivable, inr (subst (λ ds. AreFaultyItems rows ds c.in_err-resolved.field-0.0) same fault)))
     ])
 
 pub returns-clause-settled : goal.returns-clause-settled
-returns-clause-settled c = record {
-  resolves = c.in_ok-resolved.ensures.resolved;
-  clear = record {
-    derivable = c.in_ok-only_derivable.ensures.derivable;
-    faultless = λ e h. elim h [ inl twice ↦ c.in_ok-by_name.ensures.once e twice | inr fault ↦ c.in_ok-resolved.ensures.faultless e fault ];
-  };
-  names = c.in_ok-resolved.ensures.names;
-  apart = c.in_ok-resolved.ensures.apart;
-  fitting = c.in_ok-resolved.ensures.fitting;
-}
+returns-clause-settled c =
+    let rows = c.args.config.now.renames in
+    let same = ap declarations_view c.in_ok-places.ensures.declarations in
+    let resolved = map resolved_view c.in_ok-resolved.resolved in
+    record {
+      resolves = subst (λ ds. resolved_declarations rows ds ≡ Some resolved) same c.in_ok-resolved.ensures.resolved;
+      clear = record {
+        derivable = c.in_ok-only_derivable.ensures.derivable;
+        faultless = λ e h. elim h [ inl twice ↦ c.in_ok-by_name.ensures.once e twice | inr fault ↦ c.in_ok-resolved.ensures.faultless e (subst (λ ds. AreFaultyItems rows ds e) (sym same) fault) ];
+      };
+      names = subst (λ ds. declaration_names resolved ≡ declared_names ds) same c.in_ok-resolved.ensures.names;
+      apart = c.in_ok-resolved.ensures.apart;
+      fitting = c.in_ok-resolved.ensures.fitting;
+    }

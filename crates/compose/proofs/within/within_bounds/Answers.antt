@@ -58,9 +58,22 @@ returns-in_err-few_copies-clause-refused c =
     rw (p.1, p.2)
     (elim c.in_err-few_copies.ensures.refused [
       | inl memory ↦ inl memory
-      | inr copied ↦ inr (inr (inr (is, c.in_ok-reach.ensures.reached, inr (c.in_ok-names.ensures.differ, inr (shallow, (ts, shown,
-          subst (λ n. copies_max < n) same (subst (λ g. copies_max < sum_of (copies g most_inlined) comps) targets (subst (λ ns. copies_max < sum_of (copies c.as_slice-targets.result.now most_inlined) ns) c.as_slice-2.ensures copied.0)),
-          copied.1))))))
+      | inr copied ↦ inr (inr (inr (
+        is,
+        c.in_ok-reach.ensures.reached,
+        inr (
+          c.in_ok-names.ensures.differ,
+          inr (
+            shallow,
+            (
+              ts,
+              shown,
+              subst (λ n. copies_max < n) same (subst (λ g. copies_max < sum_of (copies g most_inlined) comps) targets (subst (λ ns. copies_max < sum_of (copies c.as_slice-targets.result.now most_inlined) ns) c.as_slice-2.ensures copied.0)),
+              copied.1,
+            ),
+          ),
+        ),
+      )))
     ])
 
 pub returns-clause-bounded : goal.returns-clause-bounded

@@ -1,9 +1,10 @@
-use Rattle.std.proofs.Common.{inl, inr}
-use Rattle.std.proofs.lemmas.Result.{err_from_is_err_and}
+use Rattle.std.proofs.Common.{◌∙◌, List, map, ap, sym, inl, inr}
+use Rattle.syntax.specs.declared.item.Declaration.{Declaration}
+use Rattle.syntax.specs.Items.{declaration_view}
+use Rattle.derive_decl.specs.Faults.{attributes_among, first_other}
 use Rattle.derive_decl.proofs.attributed.only_derivable.Goals as goal
 
-pub returns-in_err-only_attributes-clause-refused : goal.returns-in_err-only_attributes-clause-refused
-returns-in_err-only_attributes-clause-refused c =
-    let p = err_from_is_err_and c.from_residual.result c.from_residual.ensures.1 in
-    rw (p.1, p.2)
-    (elim c.in_err-only_attributes.ensures.refused [ inl memory ↦ inl memory | inr fault ↦ inr (inl fault) ])
+pub returns-in-Some-clause-refused : goal.returns-in-Some-clause-refused
+returns-in-Some-clause-refused c =
+    let is = ap (λ (ds : List Declaration). first_other (attributes_among (map declaration_view ds))) (sym c.as_slice.ensures) ∙ sym c.first_among.ensures ∙ c.in-Some.is in
+    elim c.syntax.ensures [ inl memory ↦ inl memory | inr refuses ↦ inr (c.in-Some.span, is, refuses) ]

@@ -29,14 +29,14 @@ loop-field-preserved c =
     let field = c.field-item.result in
     let lt : at < length fields = omega arith in
     rw c.in_ok-push.ensures.ok (
-      all_more (λ (f : FieldItem). type_of (known c.args.container.now).place_of f.ty) field_view open_view fields at field c.loop-field.types _ lt c.field-item.is c.loop-field.invariant.0 c.in_ok-resolve.ensures.resolved,
+      all_more (λ (f : FieldItem). type_of (known c.args.container.now).known f.ty) field_view open_view fields at field c.loop-field.types _ lt c.field-item.is c.loop-field.invariant.0 c.in_ok-resolve.ensures.resolved,
       facts_more (λ f. RefusesNone (IsFaultyType (known c.args.container.now) f)) field_view fields at field lt c.field-item.is c.loop-field.invariant.1 (λ e h. c.in_ok-resolve.ensures.faultless h.0 h.1),
     )
 
 pub returns-clause-types : goal.returns-clause-types
 returns-clause-types c =
     let whole : take c.loop-field.field-index c.args.fields.now ≡ c.args.fields.now = grind (arith, common_steps) in
-    subst (λ fs. all_of (λ (f : FieldItem). type_of (known c.args.container.now).place_of f.ty) (map field_view fs) ≡ Some (map open_view c.loop-field.types)) whole c.loop-field.invariant.0
+    subst (λ fs. all_of (λ (f : FieldItem). type_of (known c.args.container.now).known f.ty) (map field_view fs) ≡ Some (map open_view c.loop-field.types)) whole c.loop-field.invariant.0
 
 pub returns-clause-faultless : goal.returns-clause-faultless
 returns-clause-faultless c =

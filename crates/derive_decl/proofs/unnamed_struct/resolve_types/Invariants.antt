@@ -12,5 +12,5 @@ use Rattle.derive_decl.proofs.unnamed_struct.resolve_types.Given as goal
 -- the types so far are those of the fields so far
 abbrev pub invariant-loop-field : goal.invariant-loop-field
 invariant-loop-field l =
-    (all_of (λ (f : FieldItem). type_of (known l.container).place_of f.ty) (map field_view (take l.field-index l.fields)) ≡ Some (map open_view l.types))
+    (all_of (λ (f : FieldItem). type_of (known l.container).known f.ty) (map field_view (take l.field-index l.fields)) ≡ Some (map open_view l.types))
     × AllByRecursion (λ f. RefusesNone (IsFaultyType (known l.container) f)) (map field_view (take l.field-index l.fields))

@@ -5,29 +5,41 @@ use Rattle.std.proofs.lemmas.Result.{err_from_is_err_and}
 use Rattle.std.specs.List.{AllByRecursion}
 use Rattle.diag.specs.Refusal.{RefusesNone}
 use Rattle.syntax.specs.declared.item.Declaration.{Declaration}
-use Rattle.syntax.specs.Items.{declaration_view, declarations_view}
+use Rattle.syntax.specs.Items.{declaration_view, declarations_view, DeclaredItem}
 use Rattle.syntax.specs.Named.{IsNamedBody}
 use Rattle.shapes.specs.Declarations.{AreApartBodies}
-use Rattle.derive_decl.specs.Resolved.{around_of, all_of, resolved_of}
+use Rattle.derive_decl.specs.Resolved.{around_of, all_of, resolved_of, Around}
 use Rattle.derive_decl.specs.Faults.{IsFaultyItem}
 use Rattle.derive_decl.specs.Views.{resolved_view}
 use Rattle.derive_decl.proofs.Faultless.{none_somewhere}
 use Rattle.derive_decl.proofs.Growing.{all_more, facts_more, fact_at, somewhere, apart-push}
 use Rattle.derive_decl.proofs.Over.{names_are, all_fitting}
 use Rattle.derive_decl.proofs.whole.resolved_declarations.Goals as goal
+use Rattle.derive_decl.specs.Whole.{resolved_among}
+use Rattle.derive_decl.proofs.Owners.{around_is}
+use Rattle.scopes.specs.Scopes.{declared_in, generics_in}
+use Rattle.scopes.specs.declared.scope.Scope.{Scope}
+use Rattle.scopes.specs.declared.scope.Places.{Places}
+use Rattle.configuration.specs.declared.config.Config.{Config}
+
+-- what is known in the scope
+abbrev known_here : Scope → Config → Around
+known_here scope config = around_of config.renames (declared_in scope) (generics_in scope)
 
 pub returns-in_err-resolved_of-clause-refused : goal.returns-in_err-resolved_of-clause-refused
 returns-in_err-resolved_of-clause-refused c =
-    let p = err_from_is_err_and c.from_residual.result c.from_residual.ensures.1 in
+    let p = err_from_is_err_and c.from_residual-in_err-resolved_of.result c.from_residual-in_err-resolved_of.ensures.1 in
     let items = c.args.places.now.declarations.now.items in
     let at = c.loop-owner.owner in
     let d = c.index-as_slice-owner.result in
     let lt : at < length items = omega arith in
     let is : d ≡ get_or items at d = c.index-as_slice-owner.is ∙ ap (λ (xs : List Declaration). get_or xs at d) c.as_slice.ensures in
+    let same : known_here c.in_ok-scope.scope c.args.config.now ≡ around_of c.args.config.now.renames (declarations_view c.args.places.now.declarations.now) (declaration_view d).generics =
+    around_is c.args.config.now.renames c.in_ok-scope.scope.places.now.declarations.now c.args.places.now.declarations.now c.in_ok-scope.scope.owner at d (ap (λ (places : Places). places.declarations.now) c.in_ok-scope.ensures.places) c.in_ok-scope.ensures.owner lt is in
     rw (p.1, p.2)
     (elim c.in_err-resolved_of.ensures.refused [
       | inl memory ↦ inl memory
-      | inr fault ↦ inr (somewhere (λ x. IsFaultyItem (around_of c.args.config.now.renames (declarations_view c.args.places.now.declarations.now)) x c.in_err-resolved_of.field-0.0) declaration_view items at d lt is fault)
+      | inr fault ↦ inr (somewhere (λ x. IsFaultyItem (around_of c.args.config.now.renames (declarations_view c.args.places.now.declarations.now) x.generics) x c.in_err-resolved_of.field-0.0) declaration_view items at d lt is (subst (λ around. IsFaultyItem around (declaration_view d) c.in_err-resolved_of.field-0.0) same fault))
     ])
 
 pub loop-owner-preserved : goal.loop-owner-preserved
@@ -37,11 +49,14 @@ loop-owner-preserved c =
     let d = c.index-as_slice-owner.result in
     let lt : at < length items = omega arith in
     let is : d ≡ get_or items at d = c.index-as_slice-owner.is ∙ ap (λ (xs : List Declaration). get_or xs at d) c.as_slice.ensures in
+    let same : known_here c.in_ok-scope.scope c.args.config.now ≡ around_of c.args.config.now.renames (declarations_view c.args.places.now.declarations.now) (declaration_view d).generics =
+    around_is c.args.config.now.renames c.in_ok-scope.scope.places.now.declarations.now c.args.places.now.declarations.now c.in_ok-scope.scope.owner at d (ap (λ (places : Places). places.declarations.now) c.in_ok-scope.ensures.places) c.in_ok-scope.ensures.owner lt is in
     rw c.in_ok-push.ensures.ok (
-      all_more (resolved_of (around_of c.args.config.now.renames (declarations_view c.args.places.now.declarations.now))) declaration_view resolved_view items at d c.loop-owner.resolved _ lt is c.loop-owner.invariant.0 c.in_ok-resolved_of.ensures.resolved,
+      all_more (resolved_among c.args.config.now.renames (declarations_view c.args.places.now.declarations.now)) declaration_view resolved_view items at d c.loop-owner.resolved _ lt is c.loop-owner.invariant.0
+          (subst (λ around. resolved_of around (declaration_view d) ≡ Some (resolved_view c.in_ok-resolved_of.field-0)) same c.in_ok-resolved_of.ensures.resolved),
       subst AreApartBodies (sym (map_push resolved_view c.loop-owner.resolved _)) (apart-push (map resolved_view c.loop-owner.resolved) _ c.loop-owner.invariant.1 c.in_ok-resolved_of.ensures.apart),
-      facts_more (λ x. RefusesNone (IsFaultyItem (around_of c.args.config.now.renames (declarations_view c.args.places.now.declarations.now)) x)) declaration_view items at d lt is c.loop-owner.invariant.2
-          c.in_ok-resolved_of.ensures.faultless,
+      facts_more (λ x. RefusesNone (IsFaultyItem (around_of c.args.config.now.renames (declarations_view c.args.places.now.declarations.now) x.generics) x)) declaration_view items at d lt is c.loop-owner.invariant.2
+          (subst (λ around. RefusesNone (IsFaultyItem around (declaration_view d))) same c.in_ok-resolved_of.ensures.faultless),
     )
 
 pub resolved_of-requires : goal.resolved_of-requires
@@ -58,25 +73,25 @@ pub returns-clause-resolved : goal.returns-clause-resolved
 returns-clause-resolved c =
     let whole : take c.loop-owner.owner c.args.places.now.declarations.now.items ≡ c.args.places.now.declarations.now.items = grind (arith, common_steps) in
     let rows = c.args.config.now.renames in
-    subst (λ ds. all_of (resolved_of (around_of rows (declarations_view c.args.places.now.declarations.now))) (map declaration_view ds) ≡ Some (map resolved_view c.loop-owner.resolved)) whole c.loop-owner.invariant.0
+    subst (λ ds. all_of (resolved_among rows (declarations_view c.args.places.now.declarations.now)) (map declaration_view ds) ≡ Some (map resolved_view c.loop-owner.resolved)) whole c.loop-owner.invariant.0
 
 pub returns-clause-names : goal.returns-clause-names
 returns-clause-names c =
     let whole : take c.loop-owner.owner c.args.places.now.declarations.now.items ≡ c.args.places.now.declarations.now.items = grind (arith, common_steps) in
     let rows = c.args.config.now.renames in
     let ds = declarations_view c.args.places.now.declarations.now in
-    names_are rows ds (map resolved_view c.loop-owner.resolved) (subst (λ xs. all_of (resolved_of (around_of rows ds)) (map declaration_view xs) ≡ Some (map resolved_view c.loop-owner.resolved)) whole c.loop-owner.invariant.0)
+    names_are rows ds (map resolved_view c.loop-owner.resolved) (subst (λ xs. all_of (resolved_among rows ds) (map declaration_view xs) ≡ Some (map resolved_view c.loop-owner.resolved)) whole c.loop-owner.invariant.0)
 
 pub returns-clause-fitting : goal.returns-clause-fitting
 returns-clause-fitting c =
     let whole : take c.loop-owner.owner c.args.places.now.declarations.now.items ≡ c.args.places.now.declarations.now.items = grind (arith, common_steps) in
     let rows = c.args.config.now.renames in
     let ds = declarations_view c.args.places.now.declarations.now in
-    all_fitting c.resolved_are_over.ensures rows ds (map resolved_view c.loop-owner.resolved) (subst (λ xs. all_of (resolved_of (around_of rows ds)) (map declaration_view xs) ≡ Some (map resolved_view c.loop-owner.resolved)) whole c.loop-owner.invariant.0)
+    all_fitting c.resolved_are_over.ensures rows ds (map resolved_view c.loop-owner.resolved) (subst (λ xs. all_of (resolved_among rows ds) (map declaration_view xs) ≡ Some (map resolved_view c.loop-owner.resolved)) whole c.loop-owner.invariant.0)
 
 pub returns-clause-faultless : goal.returns-clause-faultless
 returns-clause-faultless c =
     let whole : take c.loop-owner.owner c.args.places.now.declarations.now.items ≡ c.args.places.now.declarations.now.items = grind (arith, common_steps) in
-    let around = around_of c.args.config.now.renames (declarations_view c.args.places.now.declarations.now) in
-    none_somewhere (IsFaultyItem around) (declarations_view c.args.places.now.declarations.now)
-    (subst (λ xs. AllByRecursion (λ x. RefusesNone (IsFaultyItem around x)) (map declaration_view xs)) whole c.loop-owner.invariant.2)
+    let ds = declarations_view c.args.places.now.declarations.now in
+    let around = λ (d : DeclaredItem). around_of c.args.config.now.renames ds d.generics in
+    none_somewhere (λ x. IsFaultyItem (around x) x) ds (subst (λ xs. AllByRecursion (λ x. RefusesNone (IsFaultyItem (around x) x)) (map declaration_view xs)) whole c.loop-owner.invariant.2)

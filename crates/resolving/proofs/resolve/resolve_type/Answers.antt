@@ -1,6 +1,6 @@
 use Rattle.std.proofs.Common.{◌≡◌, ◌<◌, ◌+◌, MatchOption, inl, inr, subst}
-use Rattle.std.specs.BTreeMap.{get_by_text}
 use Rattle.written_types.specs.Written.{written_view}
+use Rattle.resolving.specs.Known.{known}
 use Rattle.resolving.specs.Names.{size}
 use Rattle.resolving.specs.Resolved.{too_large}
 use Rattle.resolving.proofs.Whole.{fault_of-error}
@@ -8,7 +8,7 @@ use Rattle.resolving.proofs.resolve.resolve_type.Goals as goal
 
 pub returns-in-None-clause-refused : goal.returns-in-None-clause-refused
 returns-in-None-clause-refused c =
-    let n = size (written_view c.args.ty.now) in
+    let n = size (known c.args.names.now) (written_view c.args.ty.now) in
     let more : 256 < n = subst (λ r. MatchOption r (256 < n) (λ rest. rest + n ≡ 256)) c.in-None.is c.left_after.ensures in
     elim c.type_size.ensures [
       | inl memory ↦ inl memory
@@ -16,4 +16,4 @@ returns-in-None-clause-refused c =
     ]
 
 pub returns-in-Some-clause-refused : goal.returns-in-Some-clause-refused
-returns-in-Some-clause-refused c = fault_of-error (get_by_text c.args.places.now) (written_view c.args.ty.now) c.resolve_whole.result c.resolve_whole.ensures.refused
+returns-in-Some-clause-refused c = fault_of-error (known c.args.names.now) (written_view c.args.ty.now) c.resolve_whole.result c.resolve_whole.ensures.refused

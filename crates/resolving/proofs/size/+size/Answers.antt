@@ -3,6 +3,7 @@ use Rattle.written_types.specs.Written.{segment_view}
 use Rattle.resolving.specs.Names.{segment_size}
 use Rattle.resolving.proofs.Counted.{path_size-at}
 use Rattle.resolving.proofs.size.+size.Goals as goal
+use Rattle.resolving.specs.Known.{known}
 
 one_less : (r : Option ℕ) (left rest n : ℕ) → 1 ≤ left → rest ≡ left - 1 → MatchOption r (rest < n) (λ x. x + n ≡ rest) → MatchOption r (left < suc n) (λ x. x + suc n ≡ left)
 one_less None left rest n l e h = let less : rest < n = h in omega arith
@@ -10,6 +11,6 @@ one_less (Some x) left rest n l e h = let same : x + n ≡ rest = h in omega ari
 
 pub left_after_path-returns-in-len1-up : goal.left_after_path-returns-in-len1-up
 left_after_path-returns-in-len1-up t c =
-    let size = path_size-at c.args.path.now c.as_slice.result.now c.segment-item.result c.as_slice.ensures c.in-len1-up.len_at_least c.segment-item.is in
+    let size = path_size-at c.args.path.now c.as_slice.result.now c.segment-item.result c.as_slice.ensures c.in-len1-up.len_at_least c.segment-item.is (known c.args.names.now) in
     subst (λ n. MatchOption c.left_after_segment.result (c.args.left < n) (λ rest. rest + n ≡ c.args.left)) (sym size)
-    (one_less c.left_after_segment.result c.args.left c.in_ok-left.left (segment_size (segment_view c.segment-item.result)) c.in_ok-left.ensures.0 c.in_ok-left.ensures.1 c.left_after_segment.ensures)
+    (one_less c.left_after_segment.result c.args.left c.in_ok-left.left (segment_size (known c.args.names.now) (segment_view c.segment-item.result)) c.in_ok-left.ensures.0 c.in_ok-left.ensures.1 c.left_after_segment.ensures)

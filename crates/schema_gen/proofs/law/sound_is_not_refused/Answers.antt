@@ -27,8 +27,7 @@ clear_text one bounded c source e sound (inr (inr (ds, read, shallow, fault))) =
     IsFine ds = AreClear c.renames ds × ((resolved : List DeclarationOf) → resolved_declarations c.renames ds ≡ Some resolved → AreBounded c resolved)
 
     by : IsFine ds → AreAtFault c.renames ds e ⊎ IsBeyond c ds e → ⊥
-    by fine (inl (inl (inl (span, at, is)))) = none-some span (sym fine.0.derivable.attributes ∙ at)
-    by fine (inl (inl (inr (none, (x, at, is))))) = none-some x (sym fine.0.derivable.parameters ∙ at)
+    by fine (inl (inl (span, at, is))) = none-some span (sym fine.0.derivable ∙ at)
     by fine (inl (inr (derivable, fault))) = fine.0.faultless e fault
     by fine (inr (clear, (resolved, resolves, unbounded))) = bounded c (declared_idents ds) resolved e (fine.1 resolved resolves) unbounded
 

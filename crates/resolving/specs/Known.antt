@@ -1,0 +1,21 @@
+-- The names that are known where a type is written.
+use Rattle.std.specs.Prelude.{ℕ, List, Option, slice_index, Bool}
+use Rattle.std.specs.BTreeMap.{get_by_text}
+use Rattle.resolving.specs.declared.known.KnownNames.{KnownNames}
+use Rattle.std.specs.Option.{is_some}
+
+-- the places of the declarations, and how many type parameters each has; the first type parameter of a name, and whether it is a constant parameter, where the type is written
+pub record Known : Type 0 where
+  pub place_of : List ℕ → Option ℕ
+  pub parameters_at : ℕ → ℕ
+  pub parameter_of : List ℕ → Option ℕ
+  pub is_constant : List ℕ → Bool
+
+-- what the program knows
+abbrev pub known : KnownNames → Known
+known names = record {
+  place_of = get_by_text names.places.now;
+  parameters_at = slice_index names.counts.now;
+  parameter_of = get_by_text names.parameters.now;
+  is_constant = λ name. is_some (get_by_text names.constants.now name);
+}

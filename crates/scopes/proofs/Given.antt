@@ -1,0 +1,65 @@
+-- Generic parameters of a kind, and the names that are known in a scope.
+use Rattle.std.proofs.Common.{◌≡◌, ◌∙◌, ◌<◌, ◌+◌, ℕ, zero, suc, List, [], ◌∷◌, ◌++◌, Bool, true, false, cond, ◌||◌, bytes_eq, Option, Some, None, option_map, length, take, get_or, map, refl, ap, sym, subst, arith, slice_index}
+use Rattle.std.proofs.Math.Path.{fun_ext}
+use Rattle.std.proofs.lemmas.Option.{none-some, same_Some}
+use Rattle.std.proofs.lemmas.List.{take_more, map_push}
+use Rattle.std.proofs.lemmas.List.Elements.{filter_map-append}
+use Rattle.std.specs.List.{cons_option}
+use Rattle.std.specs.Option.{is_some}
+use Rattle.texts.specs.Names.{is_in, place_in}
+use Rattle.written_types.specs.declared.written.Ident.{Ident}
+use Rattle.syntax.specs.declared.item.GenericParam.{GenericParam}
+use Rattle.syntax.specs.declared.item.Declaration.{Declaration}
+use Rattle.syntax.specs.Items.{ParameterItem, DeclaredItem, parameter_view, declaration_view}
+use Rattle.resolving.specs.Known.{Known}
+use Rattle.scopes.specs.Names.{texts, place_among}
+use Rattle.scopes.specs.declared.parameters.ParameterKind.{ParameterKind}
+use Rattle.scopes.specs.declared.parameters.ParameterKind.TheVariants.{Constants}
+use Rattle.scopes.specs.Parameters.{ident_of_kind, parameters_of, type_parameters, parameter_counts, generics_at}
+use Rattle.scopes.specs.Scopes.{known_among}
+
+-- those so far, and one more where it is of the kind
+pub parameters_more : (kind : ParameterKind) (items : List GenericParam) (i : ℕ) (item : GenericParam) → i < length items → item ≡ get_or items i item →
+    parameters_of kind (map parameter_view (take (i + 1) items)) ≡ parameters_of kind (map parameter_view (take i items)) ++ cons_option (ident_of_kind kind (parameter_view item)) []
+parameters_more kind items i item l is =
+    ap (λ xs. parameters_of kind (map parameter_view xs)) (take_more items i item l)
+    ∙ ap (parameters_of kind) (map_push parameter_view (take i items) (get_or items i item))
+    ∙ filter_map-append (ident_of_kind kind) (map parameter_view (take i items)) (parameter_view (get_or items i item) ∷ [])
+    ∙ ap (λ x. parameters_of kind (map parameter_view (take i items)) ++ cons_option (ident_of_kind kind (parameter_view x)) []) (sym is)
+
+-- the generic parameters of a declaration that is there
+pub generics_are : (items : List Declaration) (i : ℕ) (item : Declaration) → i < length items → item ≡ get_or items i item → generics_at (map declaration_view items) i ≡ (declaration_view item).generics
+generics_are [] i item l is = absurd (omega arith)
+generics_are (x ∷ items) zero item l is = ap (λ (d : Declaration). (declaration_view d).generics) (sym is)
+generics_are (x ∷ items) (suc i) item l is = generics_are items i item (omega arith) is
+
+-- a place is one of a name
+pub place_below : (k : List ℕ) (xs : List Ident) (i : ℕ) → place_in k (texts xs) ≡ Some i → i < length xs
+place_below k [] i e = absurd (none-some i e)
+place_below k (x ∷ xs) i e = by (bytes_eq k x.text) (place_in k (texts xs)) e (place_below k xs)
+  where
+    by : (b : Bool) (o : Option ℕ) → cond b (Some 0) (option_map suc o) ≡ Some i → ((r : ℕ) → o ≡ Some r → r < length xs) → i < suc (length xs)
+    by true o h all = subst (λ q. q < suc (length xs)) (same_Some 0 i h) (omega arith)
+    by false None h all = absurd (none-some i h)
+    by false (Some r) h all = subst (λ q. q < suc (length xs)) (same_Some (suc r) i h) (omega (arith, all r refl))
+
+there : (k : List ℕ) (ns : List (List ℕ)) → is_some (place_in k ns) ≡ is_in k ns
+there k [] = refl
+there k (n ∷ ns) = by (bytes_eq k n) (place_in k ns) (there k ns)
+  where
+    by : (b : Bool) (o : Option ℕ) → is_some o ≡ is_in k ns → is_some (cond b (Some 0) (option_map suc o)) ≡ (b || is_in k ns)
+    by true o h = refl
+    by false None h = h
+    by false (Some r) h = h
+
+-- what is looked up in a scope is what is known there
+pub known_is : (ds : List DeclaredItem) (ps : List ParameterItem) (places parameters constants : List ℕ → Option ℕ) (counts : List ℕ) → ((k : List ℕ) → places k ≡ place_among ds k) → counts ≡ parameter_counts ds →
+    ((k : List ℕ) → parameters k ≡ place_in k (texts (type_parameters ps))) → ((k : List ℕ) → constants k ≡ place_in k (texts (parameters_of Constants ps))) →
+    let found : Known = record { place_of = places; parameters_at = slice_index counts; parameter_of = parameters; is_constant = λ k. is_some (constants k) } in found ≡ known_among ds ps
+known_is ds ps places parameters constants counts placed counted typed constant =
+    λ i. record {
+      place_of = fun_ext placed i;
+      parameters_at = slice_index (counted i);
+      parameter_of = fun_ext typed i;
+      is_constant = fun_ext (λ k. ap is_some (constant k) ∙ there k (texts (parameters_of Constants ps))) i;
+    }
