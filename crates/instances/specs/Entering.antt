@@ -1,6 +1,6 @@
 -- What a walk has entered: the types of a table that are marked, and the instances that stand in them.
 use Rattle.std.specs.Prelude.{◌≡◌, ◌⊎◌, ◌≤◌, ◌==◌, ℕ, zero, suc, List, [], ◌∷◌, ◌++◌, length, map, get_or, cond, Bool, false, IsTrue}
-use Rattle.open_types.specs.Open.{Open, named, no_types}
+use Rattle.open_types.specs.Open.{Open, Opens, named, no_types, substituted}
 use Rattle.open_types.specs.Instances.{StandsIn, StandsInOne, type_size}
 use Rattle.type_table.specs.Types.{type_at, AllBelow, IsFront}
 use Rattle.shapes.specs.Declarations.{DeclarationOf, parameters_in}
@@ -36,6 +36,10 @@ AreAllReached ss ts = (u : Open) → StandsInOne u ts → IsReachable ss u
 -- what stands in the types is in the list
 abbrev pub AreHeld : List Open → List Open → Type 0
 AreHeld ts is = (u : Open) → StandsInOne u ts → IsOneOf u is
+
+-- no instance stands in the type, whatever stands in the places of its parameters
+abbrev pub HoldsNone : Open → Type 0
+HoldsNone t = (args : Opens) (u : Open) → ¬ (StandsIn u (substituted args t))
 
 -- ---- what is entered
 

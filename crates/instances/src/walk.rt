@@ -1,6 +1,6 @@
 //! The walk over instances.
 
-ghost use Rattle.std.specs.Prelude.{◌≡◌, ◌<◌, ◌-◌, ◌^◌, [], ◌∷◌, length, map, IfOk, OnOk, IfErr};
+ghost use Rattle.std.specs.Prelude.{◌≡◌, ◌<◌, ◌-◌, ◌^◌, [], ◌∷◌, length, map, IfOk, OnOk, IfErr, IsTrue};
 ghost use Rattle.open_types.specs.Open.{open_view, IsOverFirst, substituted};
 ghost use Rattle.open_types.specs.Instances.{declared_place};
 ghost use Rattle.type_table.specs.Types.{type_at, types_at, AllBelow};
@@ -9,7 +9,7 @@ ghost use Rattle.shapes.specs.InstanceShape.{IsReachable};
 ghost use Rattle.shapes.specs.Declarations.{AreFitting};
 ghost use Rattle.instances.specs.Lists.{IsWhole};
 ghost use Rattle.instances.specs.Walk.{AreReached, IsWalkError};
-ghost use Rattle.instances.specs.Entering.{AreAllReached, AreFound, IsWalked, root_at, roots_among};
+ghost use Rattle.instances.specs.Entering.{AreAllReached, AreFound, HoldsNone, IsWalked, root_at, roots_among};
 
 use crate::bounds::Bounds;
 use crate::enter::{Found, enter, grow};
@@ -200,8 +200,27 @@ fn enter_place<D: Declared>(
     ensures beyond { IfErr result
         (IsWalkError (map D.declaration declared.now) bounds.limit bounds.most) }
 {
+    if holds_none(ty) {
+        return Ok(());
+    }
     let id = types.substitute(ty, arguments)?;
     enter_grown(declared, types, bounds, found, id)
+}
+
+/// Whether no instance stands in the type, whatever its parameters are; if not, one may. It recurses as deep as types nest.
+#[cycle(holds)]
+fn holds_none(ty: &OpenType) -> bool
+    ensures { IsTrue result → HoldsNone (open_view ty.now) }
+{
+    match ty {
+        OpenType::Leaf(_) | OpenType::AnyValue | OpenType::FreeObject | OpenType::Unit => true,
+        OpenType::Items(_, item) => holds_none(item),
+        OpenType::Set(_, item) => holds_none(item),
+        OpenType::Option(item) => holds_none(item),
+        OpenType::Through(_, item) => holds_none(item),
+        OpenType::Map(_, key, value) => holds_none(key) && holds_none(value),
+        OpenType::Tuple(_) | OpenType::Param(_) | OpenType::Named(_, _) => false,
+    }
 }
 
 /// Enters the type of the number in a table that may have grown.
