@@ -7,7 +7,7 @@ use Rattle.syntax.specs.Items.{declaration_view, declarations_view}
 use Rattle.scopes.specs.Parameters.{generics_at}
 use Rattle.derive_decl.specs.Resolved.{around_of}
 
-generics_are : (items : List Declaration) (i : ℕ) (item : Declaration) → i < length items → item ≡ get_or items i item → generics_at (map declaration_view items) i ≡ (declaration_view item).generics
+pub generics_are : (items : List Declaration) (i : ℕ) (item : Declaration) → i < length items → item ≡ get_or items i item → generics_at (map declaration_view items) i ≡ (declaration_view item).generics
 generics_are [] i item l is = absurd (omega arith)
 generics_are (x ∷ items) zero item l is = ap (λ (d : Declaration). (declaration_view d).generics) (sym is)
 generics_are (x ∷ items) (suc i) item l is = generics_are items i item (omega arith) is

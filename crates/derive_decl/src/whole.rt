@@ -44,7 +44,7 @@ fn resolved_of(
         ident: &declaration.ident,
         container,
     };
-    schema.resolve(alloc)
+    schema.resolve_distinct(alloc)
 }
 
 /// What the declarations are resolved to, in their order, where each field in braces has a name.
