@@ -11,7 +11,7 @@ abbrev pub sum_over : (Open → ℕ) → List Open → ℕ
 sum_over f [] = 0
 sum_over f (t ∷ ts) = f t + sum_over f ts
 
--- How many schemas stand where that of the instance stands: itself, and the copies of each of its targets, no deeper than the number.
+-- How many schemas stand where that of the instance stands, to the depth of the number: itself, and the copies of each of its targets.
 abbrev pub instance_copies : List DeclarationOf → ℕ → Open → ℕ
 instance_copies ss zero t = 0
 instance_copies ss (suc n) t = suc (sum_over (instance_copies ss n) (targets_at ss t))

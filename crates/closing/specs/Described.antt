@@ -20,6 +20,7 @@ use Rattle.shapes.specs.InstanceShape.{shape, HasShape, IsPlain, IsReachable}
 use Rattle.inlining.specs.Inlining.{IsAtMost}
 use Rattle.closing.specs.Closed.{most_inlined}
 use Rattle.instances.specs.Lists.{IsOneOf, AreInstances}
+use Rattle.instances.specs.Names.{NamesDiffer}
 use Rattle.closing.specs.Links.{inline_in, referred_in, targets_at, references_at, IsComponent, inlining_of}
 use Rattle.closing.specs.Closed.{put, closed, instance_schema}
 
@@ -32,10 +33,6 @@ IsInlinePath ss (t ∷ u ∷ us) = IsOneOf u (targets_at ss t) × IsInlinePath s
 -- no inline path that begins with a reachable instance has more instances than may be
 abbrev pub AreShallow : List DeclarationOf → Type 0
 AreShallow ss = (t : Open) (path : List Open) → IsReachable ss t → IsInlinePath ss (t ∷ path) → length path < most_inlined
-
--- two reachable instances of one name are one
-abbrev pub NamesDiffer : List DeclarationOf → Type 0
-NamesDiffer ss = (t u : Open) → IsReachable ss t → IsReachable ss u → instance_name ss t ≡ instance_name ss u → t ≡ u
 
 -- The components of the declarations: each component is under its name, and there are no others; in byte order of the names.
 pub record AreComponents (ss : List DeclarationOf) (all : Bool) (components : List Entry) : Type 0 where
@@ -70,6 +67,10 @@ pub data HasInline (ss : List DeclarationOf) : Open → Open → Type 0 where
 -- the references of the instance, and of what stands inline in it, are components
 abbrev pub LeadsToComponents : List DeclarationOf → Bool → Open → Type 0
 LeadsToComponents ss all t = (u w : Open) → HasInline ss t u → IsOneOf w (references_at ss u) → IsComponent ss all w
+
+-- The law: the references of each component, and of what stands inline in it, are components.
+abbrev pub ComponentsLead : Type 0
+ComponentsLead = (ss : List DeclarationOf) (all : Bool) (t : Open) → IsComponent ss all t → LeadsToComponents ss all t
 
 -- The law: the schema of a plain reachable instance, whose references lead to components, accepts in their document exactly what has its shape.
 abbrev pub SchemasDescribe : Type 0

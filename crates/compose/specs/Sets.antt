@@ -7,6 +7,7 @@ use Rattle.shapes.specs.Declarations.{DeclarationOf}
 use Rattle.derive_decl.specs.Views.{resolved_view}
 use Rattle.inlining.specs.Inlining.{IsOrder}
 use Rattle.instances.specs.Lists.{AreInstances}
+use Rattle.instances.specs.Names.{names_of}
 use Rattle.closing.specs.Links.{inlining_of}
 use Rattle.closing.specs.Described.{AreShallow}
 use Rattle.compose.specs.Settled.{IsSettled}
@@ -22,9 +23,10 @@ pub record AreTermsOf (c : Configuration) (ds : List DeclaredItem) (terms : Term
   pub settled : IsSettled c.renames ds (declarations_of terms)
   pub idents : terms.idents ≡ declared_idents ds
 
--- The instances are those that the declarations reach, in an order in which each stands behind those whose schemas stand in its own; no inline path is longer than it may be.
+-- The instances are those that the declarations reach, with their names and the numbers of those whose schemas stand in their own, and in an order in which each stands behind these; no inline path is longer than it may be.
 pub record AreInstancesOf (ss : List DeclarationOf) (set : InstanceSet) : Type 0 where
   pub instances : AreInstances ss set.reach
+  pub names : set.names ≡ names_of ss set.reach
   pub shallow : AreShallow ss
   pub targets : set.targets ≡ inlining_of ss set.reach
   pub order : IsOrder (inlining_of ss set.reach) set.order

@@ -7,7 +7,7 @@ use Rattle.shapes.specs.Declarations.{DeclarationOf, declaration_names, AreApart
 use Rattle.derive_decl.specs.Whole.{resolved_declarations}
 use Rattle.compose.specs.Faults.{AreClear}
 
--- declarations that have declarations, where no condition of a refusal holds
+-- What declarations are resolved to, where no condition of a refusal holds; the names of both are the same.
 pub record IsSettled (rows : List RenameRow) (ds : List DeclaredItem) (ss : List DeclarationOf) : Type 0 where
   pub resolves : resolved_declarations rows ds ≡ Some ss
   pub clear : AreClear rows ds

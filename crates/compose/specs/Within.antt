@@ -1,5 +1,5 @@
 -- Instances within their bounds.
-use Rattle.std.specs.Prelude.{◌≡◌, ◌<◌, ◌↔◌, ℕ, List, length, map, IsTrue}
+use Rattle.std.specs.Prelude.{◌≡◌, ◌<◌, ℕ, List, length, map, IsTrue}
 use Rattle.component.specs.Leaves.{term_view}
 use Rattle.shapes.specs.Declarations.{DeclarationOf}
 use Rattle.shapes.specs.Instances.{instance_term}

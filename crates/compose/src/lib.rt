@@ -12,7 +12,10 @@ mod sets;
 mod types;
 mod within;
 
-pub use closing::{components_describe, places_agree, places_describe, references_accept};
+pub use closing::{
+    components_describe, components_lead, places_agree, places_describe, references_accept,
+    schemas_describe,
+};
 pub use derive::{Derived, derive_components};
 pub use law::bounded_are_not_refused;
 pub use names::component_name;

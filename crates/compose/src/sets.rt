@@ -20,7 +20,7 @@ use closing::{Links, schema_of};
 use configuration::Config;
 use derive_decl::{Resolved, only_derivable, resolved_declarations};
 use diag::DeriveError;
-use instances::Reach;
+use instances::{Names, Reach};
 use open_types::ClosedType;
 use schema_trees::Schema;
 use scopes::{Places, declared_places};
@@ -43,6 +43,8 @@ pub struct TermSet {
 pub struct InstanceSet {
     /// The instances, each once.
     pub reach: Reach,
+    /// Of each, its component name.
+    pub names: Names,
     /// Of each, those whose schemas stand in its own, by number.
     pub targets: List<List<usize>>,
     /// Each once, behind its targets.
@@ -137,6 +139,7 @@ pub fn instances(
     let within = within_bounds(alloc, idents, resolved, config)?;
     let Bounded {
         reach,
+        names,
         links,
         order,
         ..
@@ -144,6 +147,7 @@ pub fn instances(
     let Links { targets, .. } = links;
     Ok(InstanceSet {
         reach,
+        names,
         targets,
         order,
     })
@@ -168,6 +172,7 @@ pub fn compose(
         reach,
         targets,
         order,
+        ..
     } = instances;
     let number = reach.number_of(instance.as_open());
     let resolved = terms.resolved.as_slice();

@@ -3,7 +3,7 @@ use Rattle.std.specs.Prelude.{◌≡◌, ◌<◌, ◌≤◌, ◌⊎◌, ◌↔�
 use Rattle.inlining.specs.Inlining.{IsAmong, AreOnce}
 use Rattle.inlining.specs.Marks.{mark}
 
--- Those that are found have a mark, and each is found once.
+-- Exactly those that are found have a mark, and each is found once.
 pub record AreFound (marks : List Bool) (found : List ℕ) : Type 0 where
   pub once : AreOnce found
   pub marked : (n : ℕ) → IsTrue (mark marks n) ↔ IsAmong n found

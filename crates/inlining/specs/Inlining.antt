@@ -56,7 +56,7 @@ abbrev pub sum_of : (ℕ → ℕ) → List ℕ → ℕ
 sum_of f [] = 0
 sum_of f (d ∷ ds) = f d + sum_of f ds
 
--- How many schemas stand where that of the instance stands: itself, and the copies of each of its targets, no deeper than n.
+-- How many schemas stand where that of the instance stands, to a depth of n: itself, and the copies of each of its targets.
 abbrev pub copies : List (List ℕ) → ℕ → ℕ → ℕ
 copies g zero d = 0
 copies g (suc n) d = suc (sum_of (copies g n) (targets_of g d))

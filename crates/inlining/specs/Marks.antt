@@ -1,5 +1,4 @@
--- Marks of instances, in rounds: each round marks those whose targets all were marked in the round before, so that an
--- instance is marked in a round just if no inline path that begins with it has more instances than there were rounds.
+-- Marks of instances, in rounds: each round marks those whose targets all were marked in the round before. An instance is marked after a number of rounds exactly if no inline path that begins with it has more instances than that.
 use Rattle.std.specs.Prelude.{◌≡◌, ◌<◌, ℕ, zero, suc, List, [], ◌∷◌, ◌++◌, length, map, Bool, true, false, not, ◌&&◌, cond, slice_index_or}
 
 -- whether an instance is marked
@@ -26,7 +25,7 @@ marks_of g (suc n) = next_marks g (marks_of g n)
 abbrev pub AreRounds : List (List ℕ) → List (List Bool) → Type 0
 AreRounds g rounds = (n : ℕ) → n < length rounds → slice_index_or rounds n [] ≡ marks_of g n
 
--- the first instances that are marked and were not before
+-- of the first so many instances those that are marked and were not before
 abbrev pub new_marks : List Bool → List Bool → ℕ → List ℕ
 new_marks before marks zero = []
 new_marks before marks (suc n) = new_marks before marks n ++ cond (mark marks n && not (mark before n)) (n ∷ []) []
