@@ -2,7 +2,10 @@
 # Sources of at most 1,000 structs or enums from 64 KiB to 1 MiB, each twice the one before: the time that the program takes for each,
 # its peak memory, the ratio of the time to that of the one before, and declarations per second. By hand; no test rests on it.
 #
-#     bench/derive.sh [ascending|descending|references|wide|documented|containers|inlined|attributed|enums]
+#     bench/derive.sh [ascending|descending|references|wide|documented|containers|inlined|attributed|enums|generics|written]
+#
+# Of generics a group is a struct and two generic structs of which it uses three instances: 4 instances in 1 KiB, so 4,096 in 1 MiB.
+# Of written the instances of the same groups are structs of the same names; its last source would be longer than 1 MiB, and is left out.
 set -eu
 here=$(cd "$(dirname "$0")/.." && pwd)
 program=${PROGRAM:-$here/crates/schema_gen_cli/out/schema_gen_cli}
@@ -39,13 +42,34 @@ attributes = [
     "#[serde(skip)]",
 ]
 
+# A group of four instances, as generic declarations or with each instance written out.
+def group(i):
+    plain = [("id_%d" % k, ("u64", "Option<String>", "Vec<bool>", "i32")[k % 4]) for k in range(12)]
+    item, page, node = "Item%04d" % i, "Page%04d" % i, "Node%04d" % i
+    def paged(name, of):
+        return struct(name, [("items", "Vec<%s>" % of), ("first", of), ("next", "Option<Box<%s>>" % name)] + plain[:6])
+    def tree(name, of):
+        return struct(name, [("value", of), ("children", "Vec<%s>" % name)] + plain)
+    other = "Item%04d" % (i // 2)
+    if form == "generics":
+        uses = [("page", "%s<%s>" % (page, other)), ("numbers", "%s<u64>" % page), ("tree", "%s<String>" % node)]
+        rest = [paged(page + "<T>", "T"), tree(node + "<T>", "T")]
+    else:
+        uses = [("page", "%s_%s" % (page, other)), ("numbers", page + "_u64"), ("tree", node + "_String")]
+        rest = [paged("%s_%s" % (page, other), other), paged(page + "_u64", "u64"), tree(node + "_String", "String")]
+    return "".join([struct(item, uses + plain)] + rest)
+
 def configuration():
+    if form in ("generics", "written"):
+        return json.dumps({"limit": 4096})
     names = ["%s_%d" % (stem, k) for stem in ("id", "name", "tags", "size") for k in range(12)]
     rows = [{"rule": "camelCase", "place": "field", "from": name, "to": name.replace("_", "")} for name in names]
     return json.dumps({"renames": rows})
 
 def source(size):
     parts, length, i = [], 0, 0
+    if form in ("generics", "written"):
+        return "".join(group(i) for i in range(size // 1024))
     if form == "wide":
         fields = []
         while length < size - 80:
@@ -87,7 +111,7 @@ def run(path):
     return best, peak / 1024
 
 words = ["derive"]
-if form == "attributed":
+if form in ("attributed", "generics", "written"):
     words += ["--config", os.path.join(folder, "config.json")]
     with open(words[-1], "w") as file:
         file.write(configuration())
@@ -97,6 +121,8 @@ print("%10s %12s %10s %12s %8s %16s" % ("bytes", "declarations", "seconds", "pea
 for size in (65536 << n for n in range(5)):
     path = os.path.join(folder, "source")
     text = source(size)
+    if len(text) > 1 << 20:
+        break
     with open(path, "w") as file:
         file.write(text)
     took, peak = run(path)

@@ -8,7 +8,7 @@ here=$(cd "$(dirname "$0")/.." && pwd)
 program=${PROGRAM:-$here/crates/schema_gen_cli/out/schema_gen_cli}
 [ -x "$program" ] || "$here/build"
 python3 - "$program" <<'PY'
-import os, subprocess, sys, tempfile, time
+import json, os, subprocess, sys, tempfile, time
 
 program = sys.argv[1]
 size = 1 << 20
@@ -27,7 +27,36 @@ def tuples(many, target, often, end):
 def chained(levels, often):
     return tuples(levels - 1, lambda at, often: [at + 1] * often, often, "struct A%d { p: bool }" % (levels - 1))
 
+# Each of 4,096 inlines those that the answer says.
+def inlining(which):
+    return " ".join("struct A%d { p: (%s) }" % (at, "".join("A%d, " % t for t in which(at)) or "bool, bool") for at in range(4096))
+
+# Doublings of an argument, so that the last has as many names as there are powers of two.
+def doubled(levels):
+    parts = ["struct D%d<T> { n: D%d<(T, T)> }" % (at, at + 1) for at in range(levels)]
+    return " ".join(parts + ["struct D%d<T> { n: T }" % levels, "struct R { n: D0<u8> }"])
+
+# A struct, the arguments, and each generic struct with each argument.
+def products(generics, arguments):
+    fields = ", ".join("f%d_%d: A%d<B%d>" % (g, a, g, a) for g in range(generics) for a in range(arguments))
+    parts = ["struct A%d<T> { n: T }" % g for g in range(generics)] + ["struct B%d { n: bool }" % a for a in range(arguments)]
+    return " ".join(parts + ["struct R { %s }" % fields])
+
+# The sources that are derived with room for 4,096 instances.
+roomy = [
+    ("ring of 4,096", " ".join("struct A%d { n: Box<A%d>, o: Option<bool> }" % (at, (at + 1) % 4096) for at in range(4096))),
+    ("chains of 4,096", inlining(lambda at: [at + 1] if (at + 1) % 32 else [])),
+    ("groups of 4,096", inlining(lambda at: [t for t in range(at + 1, at + 4) if t // 4 == at // 4])),
+    ("4,033 instances", products(62, 64)),
+    ("4,161 instances", products(64, 64)),
+]
 sources = [
+    ("20,000 fields", "struct S { " + ", ".join("f%d: %s" % (k, ("u64", "Option<String>", "Vec<bool>", "Box<S>")[k % 4]) for k in range(20000)) + " }"),
+    ("7 doublings", doubled(7)),
+    ("40 doublings", doubled(40)),
+    ("endless argument", "struct A<T> { n: Option<Box<A<Vec<T>>>> } struct R { n: A<u8> }"),
+    ("993 instances", products(30, 32)),
+    ("1,057 instances", products(32, 32)),
     ("next few inlined", tuples(999, lambda at, often: [min(at + k + 1, 999) for k in range(often)], 3, "struct A999 { p: bool }")),
     ("few in groups", tuples(996, lambda at, often: [at + 1 + k for k in range(often) if (at + 1 + k) // 4 == at // 4] or [999], 3, "struct A999 { p: bool }")),
     ("255 inlined", chained(2, 255)),
@@ -58,12 +87,16 @@ sources = [
     ("many predicates", "struct S<'a> where " + "B:C," * ((size - 40) // 4) + " { a: u8 }"),
 ]
 print("%-20s %9s %9s %7s" % ("source", "seconds", "peak MiB", "status"))
-for name, text in sources:
+config = tempfile.NamedTemporaryFile("w")
+json.dump({"limit": 4096, "copies": 100000}, config)
+config.flush()
+runs = [(name, text, ["--config", config.name]) for name, text in roomy] + [(name, text, []) for name, text in sources]
+for name, text, words in runs:
     with tempfile.TemporaryFile() as file, open(os.devnull, "wb") as nothing:
         file.write(text.encode())
         file.seek(0)
         start = time.perf_counter()
-        child = subprocess.Popen([program, "derive"], stdin=file, stdout=nothing, stderr=nothing)
+        child = subprocess.Popen([program, "derive", *words], stdin=file, stdout=nothing, stderr=nothing)
         _, status, usage = os.wait4(child.pid, 0)
         took = time.perf_counter() - start
     print("%-20s %9.3f %9.1f %7d" % (name, took, usage.ru_maxrss / 1024, os.waitstatus_to_exitcode(status)))
