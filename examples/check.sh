@@ -1,7 +1,7 @@
 #!/usr/bin/env bash
 # Derives the sources of two services, examples/shop.rs and examples/jobs.rs, with their configurations and as whole files without
-# one, and compares each document with the components beside it by bytes. Before that it compares the library's example in README.md
-# with its file.
+# one, and examples/generics.rs, and compares each document with the components beside it by bytes. Before that it compares the Rust
+# that README.md quotes with its files.
 # Ends with 0 where all are equal, with 1 where some differ, and else with the program's own status.
 set -u
 cd "$(dirname "${BASH_SOURCE[0]}")/.." || exit 1
@@ -9,13 +9,18 @@ cd "$(dirname "${BASH_SOURCE[0]}")/.." || exit 1
 found=$(mktemp) || exit 1
 trap 'rm -f "$found"' EXIT
 
-program=crates/library_example/src/main.rt
-sed -n '/^## The library$/,/^## /{/^```rust$/,/^```$/p}' README.md | sed '1d;$d' > "$found"
-if ! diff "$found" "$program"; then
-    echo "examples/check.sh: README.md quotes another text than $program" >&2
-    exit 1
-fi
-echo "examples/check.sh: README.md quotes $program"
+# Checks that the Rust of a section of README.md is the text of a file.
+quoted() {
+    sed -n "/^## $1\$/,/^## /{/^\`\`\`rust\$/,/^\`\`\`\$/p}" README.md | sed '1d;$d' > "$found"
+    if ! diff "$found" "$2"; then
+        echo "examples/check.sh: README.md quotes another text than $2" >&2
+        exit 1
+    fi
+    echo "examples/check.sh: README.md quotes $2"
+}
+
+quoted "The library" crates/library_example/src/main.rt
+quoted Generics examples/generics.rs
 
 # Compares what a program wrote, behind its status, with the components of the source.
 compare() {
@@ -38,5 +43,7 @@ check() {
     compare $? schema_gen_file "$1" "$3"
 }
 
+./schema_gen derive < examples/generics.rs > "$found"
+compare $? schema_gen examples/generics.rs examples/generics_components.json
 check examples/shop.rs examples/config.json examples/components.json
 check examples/jobs.rs examples/jobs_config.json examples/jobs_components.json
