@@ -58,11 +58,6 @@ none_from w [] None e f = ap (λ v. cond (is_some v) (Err wrong) (Ok ([], w ∷ 
 none_from w (v ∷ ws) None e f = ap (λ o. cond (is_some o) (ident_before (as_ident v) (more_idents_at ws)) (Ok ([], w ∷ v ∷ ws))) e
 none_from w ws (Some s) e f = cc
 
--- without `::` they end
-pub no_colons_end : (ws : List Word) → sign_at Colons ws ≡ Err wrong → more_idents_at ws ≡ Ok ([], ws)
-no_colons_end [] e = refl
-no_colons_end (w ∷ ws) e = none_from w ws (as_sign Colons w) refl e
-
 module _ (start : List Word) (front : List Ident) (ws : List Word) (so_far : with_before front (more_idents_at ws) ≡ idents_at start) where
   turned : (p : Span × List Word) → sign_at Colons ws ≡ Ok p → idents_at start ≡ with_before front (idents_at p.1)
   turned p e = sym so_far ∙ ap (λ v. with_before front (more_idents_at v)) (sign-is Colons ws p e) ∙ ap (with_before front) (colons_go_on p.0 p.1)

@@ -92,17 +92,6 @@ grown_push found n = record {
 
 -- ---- more of them
 
-only_before : (before : List ℕ) (n : ℕ) → IsAmong n before ⊎ IsAmong n [] → IsAmong n before
-only_before before n (inl i) = i
-only_before before n (inr i) = absurd i
-
-pub grown_none : (found : List ℕ) → IsGrown found [] found
-grown_none found = record {
-  longer = omega arith;
-  kept = λ i h. refl;
-  each = λ n. (λ i. inl i, only_before found n);
-}
-
 grown_on : (before xs mid ys after : List ℕ) → IsGrown before xs mid → IsGrown mid ys after → IsGrown before (xs ++ ys) after
 grown_on before xs mid ys after s t = record {
   longer = omega (arith, s.longer, t.longer);

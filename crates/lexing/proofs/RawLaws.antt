@@ -167,10 +167,6 @@ none_here (raw_c {cs = cs} {h = h} {body = body} e) l f = (λ more other g k. l,
 pub none_after : (text : List ℕ) (h : ℕ) (body : List ℕ) → literal_at text ≡ None → opening_at text ≡ Some (h, body) → NoneCloses h text
 none_after text h body l e = none_here (opens text h body e) l (never_closed text h body e l)
 
-pub in_vain : (n : ℕ) (text : List ℕ) (h : ℕ) (body : List ℕ) → NoneCloses n text → opening_at text ≡ Some (h, body) → n ≤ h → literal_at text ≡ None
-in_vain n [] h body k e l = cc
-in_vain n (c ∷ cs) h body k e l = k.0 h body e l
-
 pub none_left : (n : ℕ) (front rest : List ℕ) → NoneCloses n (front ++ rest) → NoneCloses n rest
 none_left n [] rest k = k
 none_left n (c ∷ cs) rest k = none_left n cs rest k.1

@@ -20,9 +20,6 @@ pub past_behind : {a b c : List Tree} → IsPast a b → IsBehind b c → IsPast
 past_behind h same = h
 past_behind h (later g) = past (weakly (past_behind h g))
 
-pub behind_past : {a b c : List Tree} → IsBehind a b → IsPast b c → IsPast a c
-behind_past h (past g) = past (then_behind h g)
-
 pub length_behind : {rest ts : List Tree} → IsBehind rest ts → length rest ≤ length ts
 length_behind same = omega arith
 length_behind (later h) = omega (arith, length_behind h)

@@ -13,9 +13,6 @@ pub record SpansSoFar (Holds : Standing → Type 0) (all rest : List Standing) (
   pub more : (others : List Span) → AreSpansOf Holds rest others → AreSpansOf Holds all (spans ++ others)
 
 module _ (Holds : Standing → Type 0) where
-  pub spans_start : (all : List Standing) → SpansSoFar Holds all all []
-  spans_start all = record { more = λ others h. h }
-
   pub spans_end : (all : List Standing) (spans : List Span) → SpansSoFar Holds all [] spans → AreSpansOf Holds all spans
   spans_end all spans h = subst (AreSpansOf Holds all) (append-nil spans) (h.more [] no_spans)
 

@@ -21,13 +21,6 @@ pub same_entries : (ss : List Standing) (f g : NamesByName) → AreSame f g → 
 same_entries [] f g h = h
 same_entries (s ∷ ss) f g h = same_entries ss (with_declared s.declared f) (with_declared s.declared g) (same_declared s.declared f g h)
 
--- one more declaration, and what is none
-pub entries_step : (s : Standing) (ss : List Standing) (d : Declared) (f g : NamesByName) → s.declared ≡ Some d → AreSame g (with_names d f) → AreSame (entries_with g ss) (entries_with f (s ∷ ss))
-entries_step s ss d f g e h k = same_entries ss g (with_names d f) h k ∙ ap (λ o. entries_with (with_declared o f) ss k) (sym e)
-
-pub entries_stay : (s : Standing) (ss : List Standing) (f : NamesByName) → s.declared ≡ None → AreSame (entries_with f ss) (entries_with f (s ∷ ss))
-entries_stay s ss f e k = ap (λ o. entries_with (with_declared o f) ss k) (sym e)
-
 -- ---- what the entries have
 
 -- a name has these names, and perhaps more

@@ -1,10 +1,10 @@
 -- Groups of the program, and lists of trees.
-use Rattle.std.proofs.Common.{◌≡◌, ◌∙◌, ◌-◌, ◌<◌, List, [], ◌∷◌, ◌++◌, length, map, take, refl, ap, ap₂, sym, arith, rules}
+use Rattle.std.proofs.Common.{◌≡◌, ◌∙◌, ◌-◌, List, [], ◌∷◌, ◌++◌, length, map, take, refl, ap, ap₂, sym, arith, rules}
 use Rattle.std.proofs.lemmas.List.{take-map, length-map}
 use Rattle.tokens.specs.declared.token.Group.{Group}
 use Rattle.tokens.specs.declared.token.TokenTree.{TokenTree, the_lemmas}
 use Rattle.tokens.specs.declared.token.TokenTree.TheVariants as tree
-use Rattle.tokens.specs.Trees.{Tree, group, trees_of, tree_view, trees_view, depth, depth_of}
+use Rattle.tokens.specs.Trees.{Tree, group, trees_of, tree_view, trees_view}
 use Rattle.prepare.specs.Trees.{listed, inside, before}
 use Rattle.prepare.specs.Names.{names_in, names_of, all_names}
 
@@ -17,9 +17,6 @@ listed_same (t ∷ ts) = ap (λ v. t ∷ v) (listed_same ts)
 
 pub inside_group : (g : Group) → map tree_view g.trees ≡ inside (tree_view (tree.Group g))
 inside_group g = sym (ap inside (view_group g) ∙ listed_same (map tree_view g.trees))
-
-pub group_less : (g : Group) → depth (trees_view g.trees) < depth_of (tree_view (tree.Group g))
-group_less g = let whole = ap depth_of (view_group g) in omega (arith, whole)
 
 names_listed : (ts : List Tree) → names_of (trees_of ts) ≡ all_names ts
 names_listed [] = refl

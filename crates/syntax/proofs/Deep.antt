@@ -288,9 +288,6 @@ body_opens (in_braced {inside = inside} {s = s} {ws = ws} {rest = rest} w passes
 body_opens (in_tuple o) = ap (λ q. q >>= after_tuple) (fields_open o)
 body_opens (in_last_clause f passes o) = tuple_opens f passes o
 
-body_agrees : Agrees (struct_body_at within_levels) OpensStructBody
-body_agrees ws at = (λ e. body_deep ws at e, λ o. body_opens o)
-
 -- the body of an enum
 enum_body_deep : (ws : List Word) (at : Span) → enum_body_at within_levels ws ≡ Err (deep at) → OpensEnumBody ws at
 unfolding enum_body_at

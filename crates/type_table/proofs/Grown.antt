@@ -120,10 +120,3 @@ added-node ns m =
       its_type = ap (type_at (types_of (ns ++ m ∷ []))) (sym (as_many ns)) ∙ ap (λ ts. type_at ts (length (types_of ns))) grown ∙ type-behind (types_of ns) t;
       front = (t ∷ [], grown);
     }
-
-pub no-table : (look : ℕ × ℕ × ℕ → Option ℕ) → ((q : ℕ × ℕ × ℕ) → look q ≡ None) → IsTable look []
-no-table look none = record {
-  index = record { there = λ n x l. absurd (omega (arith, l)); held = λ x n e. absurd (none-some n (sym (none (key_of x)) ∙ e)) };
-  whole = tt;
-  apart = λ i j l k e. absurd (omega (arith, l));
-}
