@@ -42,8 +42,11 @@ fn of_schemas() {
     schema_core::documents_hold();
     schema_core::type_words_are_equal();
     component::references_are_leaves();
-    shapes::terms_accept();
     shapes::shapes_deepen();
+    shapes::variants_are_told();
+    terms::terms_accept();
+    terms::instance_terms_accept();
+    terms::places_accept();
 }
 
 /// The laws of what is reported and configured, and of whole documents.
@@ -62,6 +65,9 @@ fn of_documents() {
     inlining::orders_stand();
     compose::bounded_are_not_refused();
     closing::components_describe();
+    closing::components_lead();
+    closing::schemas_describe();
+    closing::places_describe();
     closing::references_accept();
     closing::places_agree();
     schema_gen::sound_is_not_refused();

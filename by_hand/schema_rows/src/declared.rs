@@ -1,13 +1,15 @@
 //! The schemas of declarations.
 
 use crate::resolved::declaration_text;
-use crate::terms::term_text;
-use component::ToTerm;
-use derive_decl::{Root, Schema, SchemaVariant};
+use crate::term_rows::term_text;
+use declaration_schemas::{Schema, SchemaVariant};
+use derive_decl::Root;
 use diag::DeriveError;
 use open_types::OpenType;
+use place_schemas::ToTerm;
 use std::alloc::{AllocError, Global};
 use syntax::Body;
+use terms::declaration_term;
 
 /// What is asked of a declaration.
 #[derive(Clone, Copy)]
@@ -53,7 +55,10 @@ pub(crate) fn of_declaration(
             Ok(types_text(alloc, schema.place_types(alloc)?.as_slice())?)
         }
         OfDeclaration::Resolved => Ok(declaration_text(alloc, &schema.resolve(alloc)?)?),
-        OfDeclaration::ResolvedTerm => text_of(alloc, &schema.resolve(alloc)?),
+        OfDeclaration::ResolvedTerm => {
+            let term = declaration_term(alloc, &schema.resolve(alloc)?)?;
+            Ok(term_text(alloc, term)?)
+        }
         OfDeclaration::Body => text_of(alloc, &SchemaVariant::new(alloc, body, root)?),
     }
 }

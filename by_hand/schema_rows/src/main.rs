@@ -12,7 +12,7 @@ mod remarks;
 mod resolved;
 mod sources;
 mod targets;
-mod terms;
+mod term_rows;
 mod values;
 mod whole;
 mod written;

@@ -1,10 +1,10 @@
 //! The schemas of places, by what rows say of them.
 
 use crate::remarks::comments;
-use crate::terms::{named, term_text};
-use component::{SchemaReference, ToTerm, copy_term};
+use crate::term_rows::{named, term_text};
+use component::{SchemaReference, copy_term};
 use diag::DeriveError;
-use place_schemas::{ComponentSchema, ComponentSchemaProps};
+use place_schemas::{ComponentSchema, ComponentSchemaProps, ToTerm};
 use rows::given::is_said;
 use scopes::{ComponentDescription, Container};
 use serde_json::Value;

@@ -2,7 +2,7 @@
 
 use crate::forms::form_text;
 use crate::notes::text;
-use crate::terms::term_text;
+use crate::term_rows::term_text;
 use component::{Place, noted, null_default, place_term};
 use open_types::OpenType;
 use rows::given::{count_at, is_said, items_at};

@@ -1,17 +1,14 @@
 //! What declarations are resolved to.
 
-use derive_decl::{
-    EnumSchema, FormSchema, Member, MixedEnum, MixedEnumVariant, PlainEnum, Resolved, SchemaVariant,
-};
-use shapes::{Remarks, Tagging};
+use shapes::{Body, Declaration, Form, Member, Remarks, Tagging, Variant};
 use std::alloc::{AllocError, Global};
-use syntax::Ident;
+use texts::Text;
 
 /// Adds the names of the members, with `?` where one need not be there.
 fn push_members(text: &mut String, members: &[Member]) -> Result<(), AllocError> {
     for member in members {
         text.push(' ')?;
-        text.push_str(member.ident.text.as_str())?;
+        text.push_str(member.name.as_str())?;
         if !member.required {
             text.push('?')?;
         }
@@ -19,7 +16,7 @@ fn push_members(text: &mut String, members: &[Member]) -> Result<(), AllocError>
     Ok(())
 }
 
-/// Adds what is said of a declaration.
+/// Adds what is said of a declaration or a variant.
 fn push_remarks(text: &mut String, remarks: &Remarks) -> Result<(), AllocError> {
     if remarks.deprecated {
         text.push_str(", deprecated")?;
@@ -31,29 +28,27 @@ fn push_remarks(text: &mut String, remarks: &Remarks) -> Result<(), AllocError> 
     Ok(())
 }
 
-/// Adds the form, its members, and what is said of it.
-fn push_form(text: &mut String, form: &FormSchema) -> Result<(), AllocError> {
+/// Adds the form and its members.
+fn push_form(text: &mut String, form: &Form) -> Result<(), AllocError> {
     match form {
-        FormSchema::Named(form) => {
+        Form::Named {
+            denies_others,
+            members,
+        } => {
             text.push_str(" named:")?;
-            push_members(text, form.members.as_slice())?;
-            if form.denies_others {
-                text.push_str(" and no others")?;
-            }
-            push_remarks(text, &form.remarks)
-        }
-        FormSchema::Unnamed(form) => {
-            text.push_str(if form.types.len() == 1 {
-                " of one"
+            push_members(text, members.as_slice())?;
+            text.push_str(if *denies_others {
+                " and no others"
             } else {
-                " of several"
-            })?;
-            push_remarks(text, &form.remarks)
+                ""
+            })
         }
-        FormSchema::Unit(form) => {
-            text.push_str(" unit")?;
-            push_remarks(text, &form.remarks)
-        }
+        Form::Unnamed(types) => text.push_str(if types.len() == 1 {
+            " of one"
+        } else {
+            " of several"
+        }),
+        Form::Unit => text.push_str(" unit"),
     }
 }
 
@@ -75,87 +70,74 @@ fn push_tagging(text: &mut String, tagging: &Tagging) -> Result<(), AllocError> 
     }
 }
 
-/// Adds the name, with where it stands.
-fn push_name(alloc: Global, text: &mut String, name: &Ident) -> Result<(), AllocError> {
-    let (name, span) = (name.text.as_str(), name.span);
-    text.push_str(format!(in alloc; "{name} {}..{}", span.start, span.end)?.as_str())
-}
-
-/// Adds the names of the variants, with where each stands.
-fn push_names(alloc: Global, text: &mut String, names: &[Ident]) -> Result<(), AllocError> {
+/// Adds the names of the variants.
+fn push_names(text: &mut String, names: &[Text]) -> Result<(), AllocError> {
     for name in names {
         text.push(' ')?;
-        push_name(alloc, text, name)?;
+        text.push_str(name.as_str())?;
     }
     Ok(())
 }
 
-/// Adds the variants, each in brackets: its name, with where it stands, and its form with what is said of it.
-fn push_variants(
-    alloc: Global,
-    text: &mut String,
-    variants: &[MixedEnumVariant],
-) -> Result<(), AllocError> {
+/// Adds the variants, each in brackets: its name, and its form with what is said of it.
+fn push_variants(text: &mut String, variants: &[Variant]) -> Result<(), AllocError> {
     for variant in variants {
         text.push_str(" (")?;
-        push_name(alloc, text, &variant.ident)?;
+        text.push_str(variant.name.as_str())?;
         push_form(text, &variant.form)?;
+        push_remarks(text, &variant.remarks)?;
         text.push(')')?;
     }
     Ok(())
 }
 
-/// Adds how the enum tells its variants, their names, and what is said of it.
-fn push_plain(alloc: Global, text: &mut String, of: &PlainEnum) -> Result<(), AllocError> {
-    push_tagging(text, &of.tagging)?;
+/// Adds how the enum tells its variants, and their names.
+fn push_units(text: &mut String, tagging: &Tagging, names: &[Text]) -> Result<(), AllocError> {
+    push_tagging(text, tagging)?;
     text.push(':')?;
-    push_names(alloc, text, of.names.as_slice())?;
-    push_remarks(text, &of.remarks)
+    push_names(text, names)
 }
 
-/// Adds how the enum tells its variants, the variants, and what is said of it.
-fn push_mixed(alloc: Global, text: &mut String, of: &MixedEnum) -> Result<(), AllocError> {
+/// Adds how the enum tells its variants, and the variants.
+fn push_mixed(
+    text: &mut String,
+    tagging: &Tagging,
+    variants: &[Variant],
+) -> Result<(), AllocError> {
     text.push_str(" mixed")?;
-    if !matches!(of.tagging, Tagging::External) {
-        push_tagging(text, &of.tagging)?;
+    if !matches!(tagging, Tagging::External) {
+        push_tagging(text, tagging)?;
     }
     text.push(':')?;
-    push_variants(alloc, text, of.variants.as_slice())?;
-    push_remarks(text, &of.remarks)
+    push_variants(text, variants)
 }
 
-/// Adds what the enum is.
-fn push_enum(alloc: Global, text: &mut String, of: &EnumSchema) -> Result<(), AllocError> {
-    match of {
-        EnumSchema::Plain(plain) => push_plain(alloc, text, plain),
-        EnumSchema::Mixed(mixed) => push_mixed(alloc, text, mixed),
-    }
-}
-
-/// Adds the name, and the form of the struct or the variants of the enum.
-fn push_declaration(alloc: Global, text: &mut String, of: &Resolved) -> Result<(), AllocError> {
+/// Adds the name, the form of the struct or the variants of the enum, and what is said of it.
+fn push_declaration(text: &mut String, of: &Declaration) -> Result<(), AllocError> {
     text.push_str(of.name.as_str())?;
     match &of.body {
-        SchemaVariant::Struct(form) => push_form(text, form),
-        SchemaVariant::Enum(of) => push_enum(alloc, text, of),
+        Body::Fields(form) => push_form(text, form)?,
+        Body::Units { tagging, names } => push_units(text, tagging, names.as_slice())?,
+        Body::Variants { tagging, variants } => push_mixed(text, tagging, variants.as_slice())?,
     }
+    push_remarks(text, &of.remarks)
 }
 
 /// The form of a struct with its members, or the variants of an enum, and what is said of it.
-pub(crate) fn declaration_text(alloc: Global, of: &Resolved) -> Result<String, AllocError> {
+pub(crate) fn declaration_text(alloc: Global, of: &Declaration) -> Result<String, AllocError> {
     let mut text = String::new(alloc);
-    push_declaration(alloc, &mut text, of)?;
+    push_declaration(&mut text, of)?;
     Ok(text)
 }
 
 /// The declarations, one behind the other.
-pub(crate) fn declarations_text(alloc: Global, all: &[Resolved]) -> Result<String, AllocError> {
+pub(crate) fn declarations_text(alloc: Global, all: &[Declaration]) -> Result<String, AllocError> {
     let mut text = String::new(alloc);
     for of in all {
         if !text.is_empty() {
             text.push_str("; ")?;
         }
-        push_declaration(alloc, &mut text, of)?;
+        push_declaration(&mut text, of)?;
     }
     Ok(text)
 }

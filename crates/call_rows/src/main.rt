@@ -6,7 +6,7 @@ mod arguments;
 mod composed;
 mod reported;
 mod single_words;
-mod terms;
+mod term_rows;
 mod trees;
 mod whole;
 mod written;
@@ -36,7 +36,7 @@ fn told(alloc: Global, row: &Row) -> anyhow::Result<String> {
         "type_text" => arguments::text(alloc, given),
         "numbers" => arguments::numbers(alloc),
         "instances" => composed::of_source(alloc, given),
-        "terms" | "place" => terms::of_source(alloc, row.call.as_str(), given),
+        "terms" | "place" => term_rows::of_source(alloc, row.call.as_str(), given),
         other => bail!("no call {other}"),
     }
 }

@@ -14,7 +14,7 @@ use Rattle.schema_trees.specs.declared.notes.Annotations.{Annotations as Notes}
 use Rattle.schema_trees.specs.Schema.{SchemaOf, leaf, EachLeaf}
 use Rattle.schema_core.specs.Form.{form}
 use Rattle.schema_core.specs.Document.{Entry, document}
-use Rattle.schema_core.specs.Entries.{names_of, find, IsInOrder}
+use Rattle.schema_core.specs.Entries.{entry_names, find, IsInOrder}
 use Rattle.schema_core.specs.Meaning.{FormsAccept, FormsRefer, DocumentsHold}
 use Rattle.closing.specs.Described.{HasComponent}
 
@@ -29,8 +29,8 @@ distinct [] o = tt
 distinct (n ∷ ns) o = (absent n ns o.0, distinct ns o.1)
 
 -- the document has under each name the form of its component
-pub schema_under : DocumentsHold → (cs : List Entry) → IsInOrder (names_of cs) → (name : List ℕ) → component_schema (document cs) name ≡ option_map form (find name cs)
-schema_under holds cs order = holds cs (distinct (names_of cs) order)
+pub schema_under : DocumentsHold → (cs : List Entry) → IsInOrder (entry_names cs) → (name : List ℕ) → component_schema (document cs) name ≡ option_map form (find name cs)
+schema_under holds cs order = holds cs (distinct (entry_names cs) order)
 
 -- ---- references
 
@@ -52,7 +52,7 @@ reference-accepts forms doc name notes s v e = (there, back)
     back a = (suc a.0, subst IsTrue (sym (at (suc a.0) ∙ (λ i. if_component (e i) (λ t. accepts_with (component_accepts doc a.0) t v)))) a.1)
 
 -- each reference has its component where the leaves of each component's schema name components
-pub references-found : FormsRefer → DocumentsHold → (cs : List Entry) → IsInOrder (names_of cs) →
+pub references-found : FormsRefer → DocumentsHold → (cs : List Entry) → IsInOrder (entry_names cs) →
     ((name : List ℕ) (t : SchemaOf RefLeaf) → find name cs ≡ Some t → EachLeaf (λ r. HasComponent (document cs) r.name) t) →
     (name : List ℕ) (s : Json) → component_schema (document cs) name ≡ Some s → EachReference (HasComponent (document cs)) s
 references-found refer holds cs order found name s e = by (find name cs) refl (sym (schema_under holds cs order name) ∙ e)

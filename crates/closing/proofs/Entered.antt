@@ -1,5 +1,5 @@
 -- Components that are entered one after another under their names.
-use Rattle.std.proofs.Common.{ℕ, zero, suc, ◌+◌, ◌<◌, List, [], ◌∷◌, ◌++◌, Option, Some, None, is_some, IsTrue, Bool, true, false, cond, bytes_eq, length, map, take, get_or, nat_cmp, Ordering, Less, Equal, Greater, is_eq, ◌≡◌, refl, ap, sym, subst, ◌∙◌, ◌⊎◌, inl, inr, ◌↔◌}
+use Rattle.std.proofs.Common.{ℕ, ◌+◌, ◌<◌, List, [], ◌∷◌, ◌++◌, Option, Some, None, is_some, IsTrue, Bool, true, false, cond, bytes_eq, length, map, take, get_or, nat_cmp, Ordering, Less, Equal, Greater, is_eq, ◌≡◌, refl, ap, sym, subst, ◌∙◌, inl, inr, ◌↔◌}
 use Rattle.std.specs.Cmp.Lexicographic.{slice_cmp}
 use Rattle.std.specs.Ordering.{match_ordering, ordering_reverse}
 use Rattle.std.specs.List.{AllByRecursion}
@@ -13,7 +13,7 @@ use Rattle.std.proofs.lemmas.Slice.Eq.{bytes_eq-Decides}
 use Rattle.schema_trees.specs.declared.tree.RefLeaf.{RefLeaf}
 use Rattle.schema_trees.specs.Schema.{SchemaOf}
 use Rattle.schema_core.specs.Document.{Entry}
-use Rattle.schema_core.specs.Entries.{find, names_of, with_entry, IsInOrder}
+use Rattle.schema_core.specs.Entries.{find, entry_names, with_entry, IsInOrder}
 use Rattle.open_types.specs.Open.{Open}
 use Rattle.shapes.specs.Declarations.{DeclarationOf}
 use Rattle.shapes.specs.InstanceNames.{instance_name}
@@ -58,11 +58,11 @@ find-entered k s (e ∷ es) new name = by (slice_cmp nat_cmp e.0 k) refl (find-e
     by Equal q before = absurd (false≢true (sym differs ∙ equals e.0 k q))
     by Greater q before = refl
 
-all-entered : (P : List ℕ → Type 0) (k : List ℕ) (s : SchemaOf RefLeaf) (es : List Entry) → AllByRecursion P (names_of es) → P k → AllByRecursion P (names_of (with_entry k s es))
+all-entered : (P : List ℕ → Type 0) (k : List ℕ) (s : SchemaOf RefLeaf) (es : List Entry) → AllByRecursion P (entry_names es) → P k → AllByRecursion P (entry_names (with_entry k s es))
 all-entered P k s [] h p = (p, tt)
 all-entered P k s (e ∷ es) h p = by (slice_cmp nat_cmp e.0 k) (all-entered P k s es h.1 p)
   where
-    by : (o : Ordering) → AllByRecursion P (names_of (with_entry k s es)) → AllByRecursion P (names_of (match_ordering o (e ∷ with_entry k s es) (e ∷ es) ((k, s) ∷ e ∷ es)))
+    by : (o : Ordering) → AllByRecursion P (entry_names (with_entry k s es)) → AllByRecursion P (entry_names (match_ordering o (e ∷ with_entry k s es) (e ∷ es) ((k, s) ∷ e ∷ es)))
     by Less rest = (h.0, rest)
     by Equal rest = h
     by Greater rest = (p, h)
@@ -71,17 +71,17 @@ above : (k n : List ℕ) (ns : List (List ℕ)) → slice_cmp nat_cmp k n ≡ Le
 above k n [] l h = tt
 above k n (m ∷ ns) l h = (nat_list_cmp_total.trans k n m l h.0, above k n ns l h.1)
 
-pub order-entered : (k : List ℕ) (s : SchemaOf RefLeaf) (es : List Entry) → IsInOrder (names_of es) → IsInOrder (names_of (with_entry k s es))
+pub order-entered : (k : List ℕ) (s : SchemaOf RefLeaf) (es : List Entry) → IsInOrder (entry_names es) → IsInOrder (entry_names (with_entry k s es))
 unfolding IsStrictlySortedBy
 order-entered k s [] h = (tt, tt)
 order-entered k s (e ∷ es) h = by (slice_cmp nat_cmp e.0 k) refl (order-entered k s es h.1)
   where
-    by : (o : Ordering) → slice_cmp nat_cmp e.0 k ≡ o → IsInOrder (names_of (with_entry k s es)) → IsInOrder (names_of (match_ordering o (e ∷ with_entry k s es) (e ∷ es) ((k, s) ∷ e ∷ es)))
+    by : (o : Ordering) → slice_cmp nat_cmp e.0 k ≡ o → IsInOrder (entry_names (with_entry k s es)) → IsInOrder (entry_names (match_ordering o (e ∷ with_entry k s es) (e ∷ es) ((k, s) ∷ e ∷ es)))
     by Less q rest = (all-entered (λ y. slice_cmp nat_cmp e.0 y ≡ Less) k s es h.0 q, rest)
     by Equal q rest = h
     by Greater q rest =
         let below : slice_cmp nat_cmp k e.0 ≡ Less = nat_list_cmp_total.antisymm k e.0 ∙ ap ordering_reverse q in
-        ((below, above k e.0 (names_of es) below h.0), h)
+        ((below, above k e.0 (entry_names es) below h.0), h)
 
 -- ---- one turn
 
@@ -107,7 +107,7 @@ module _ (name : ℕ → List ℕ) (schema : ℕ → SchemaOf RefLeaf) where
   pub record AreKnown (ns : List ℕ) (components : List Entry) : Type 0 where
     pub known : (k : List ℕ) (s : SchemaOf RefLeaf) → find k components ≡ Some s → (n : ℕ) × IsAmong n ns × (k ≡ name n) × (s ≡ schema n)
     pub all : (n : ℕ) → IsAmong n ns → IsTrue (is_some (find (name n) components))
-    pub order : IsInOrder (names_of components)
+    pub order : IsInOrder (entry_names components)
 
   pub known_none : AreKnown [] []
   unfolding IsStrictlySortedBy
@@ -146,7 +146,7 @@ module _ (name : ℕ → List ℕ) (schema : ℕ → SchemaOf RefLeaf) where
           last n (inl e) = subst (λ k. IsTrue (is_some (find (name k) (cond added (with_entry (name m) (schema m) components) components)))) (sym e) (there (schema m) (name m) components added new)
           last n (inr none) = absurd none
 
-      order : (b : Bool) → (IsTrue b ↔ (find (name m) components ≡ None)) → IsInOrder (names_of (cond b (with_entry (name m) (schema m) components) components))
+      order : (b : Bool) → (IsTrue b ↔ (find (name m) components ≡ None)) → IsInOrder (entry_names (cond b (with_entry (name m) (schema m) components) components))
       order false g = h.order
       order true g = order-entered (name m) (schema m) components h.order
 

@@ -8,7 +8,7 @@ use Rattle.schema_trees.specs.Schema.{SchemaOf, leaf, no_properties, property}
 use Rattle.open_types.specs.Open.{Open, any_value, tuple, param, named, no_types, more_types}
 use Rattle.component.specs.Places.{place}
 use Rattle.shapes.specs.Declarations.{named_fields, unnamed_fields, fields, FormOf, DeclarationOf, no_remarks}
-use Rattle.shapes.specs.Terms.{object_of}
+use Rattle.terms.specs.Terms.{object_of}
 use Rattle.shapes.specs.InstanceNames.{instance_name}
 use Rattle.closing.specs.Closed as closed
 use Rattle.closing.specs.Links.{inline_in, referred_in, targets_at, references_at, inlining_of, shown_root, shown_inline, IsComponent, referred_component}

@@ -1,10 +1,7 @@
 -- What holds of the leaves of a schema: two facts at once, the declarations that are inline there, and schemas that are the same at each.
-use Rattle.std.proofs.Common.{ℕ, List, [], ◌∷◌, ◌++◌, ◌≡◌, refl, sym, subst, ◌⊎◌, inl, inr}
+use Rattle.std.proofs.Common.{ℕ, List, [], ◌∷◌, ◌++◌, ◌≡◌, refl, ◌⊎◌, inl, inr}
 use Rattle.schema_trees.specs.Schema.{SchemaOf, leaf, object, array, one_of, all_of, SchemasOf, no_schemas, schema, PropertiesOf, no_properties, property, PartOf, no_part, truth, part, bind, bind_schemas, bind_properties, bind_part, EachLeaf, EachSchemaLeaf, EachPropertyLeaf, EachPartLeaf}
-use Rattle.component.specs.Leaves.{LeafOf}
-use Rattle.component.specs.References.{ReferenceOf, leaf_references, named_leaves}
 use Rattle.inlining.specs.Inlining.{IsAmong}
-use Rattle.closing.proofs.LeafNames as names
 
 -- ---- two facts at once
 

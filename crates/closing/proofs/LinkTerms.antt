@@ -4,9 +4,10 @@ use Rattle.std.proofs.lemmas.List.{length-map}
 use Rattle.open_types.specs.Open.{Open, Opens, named, no_types, more_types}
 use Rattle.open_types.specs.Instances.{declared_place, arguments_of, count}
 use Rattle.shapes.specs.Declarations.{DeclarationOf, declaration_at, parameters_in}
-use Rattle.shapes.specs.Instances.{declared_by, instance_term, RootTerms}
+use Rattle.shapes.specs.Instances.{declared_by}
+use Rattle.terms.specs.InstanceTerms.{instance_term, RootTerms}
 use Rattle.shapes.specs.InstanceShape.{IsRoot}
-use Rattle.shapes.specs.Terms.{term}
+use Rattle.terms.specs.Terms.{term}
 use Rattle.shapes.specs.Declarations.{AreFitting}
 use Rattle.instances.specs.Fitting.{IsFit, ReachableFit}
 use Rattle.instances.specs.Lists.{IsOneOf, instance_at, AreInstances}

@@ -1,18 +1,17 @@
 -- Schemas of instances that are made one after another, each behind those that stand in it.
-use Rattle.std.proofs.Common.{ℕ, zero, suc, ◌+◌, ◌<◌, ◌≤◌, ◌⊎◌, List, [], ◌∷◌, ◌++◌, length, map, take, get_or, set, Bool, true, false, IsTrue, Option, Some, ◌≡◌, ◌≢◌, refl, ap, sym, subst, ◌∙◌, inl, inr, arith}
+use Rattle.std.proofs.Common.{ℕ, zero, suc, ◌+◌, ◌<◌, ◌≤◌, ◌⊎◌, List, [], ◌∷◌, ◌++◌, length, map, take, get_or, set, Bool, IsTrue, ◌≡◌, ◌≢◌, refl, ap, sym, subst, ◌∙◌, inl, inr, arith}
 use Rattle.std.specs.List.{filter_map}
-use Rattle.std.proofs.lemmas.Bool.{false≢true}
-use Rattle.std.proofs.lemmas.List.{take_more, map-set, length-set, length-map, get_or-map, get_or-set_other}
+use Rattle.std.proofs.lemmas.List.{take_more, map-set, length-map, get_or-map, get_or-set_other}
 use Rattle.schema_trees.specs.declared.tree.RefLeaf.{RefLeaf}
 use Rattle.schema_trees.specs.declared.tree.Tree.{Tree}
 use Rattle.schema_trees.specs.Schema.{SchemaOf, schema_view, leaf, bind}
-use Rattle.component.specs.Leaves.{LeafOf, term_view, param}
+use Rattle.component.specs.Leaves.{term_view, param}
 use Rattle.component.specs.declared.term.TermLeaf.{TermLeaf}
 use Rattle.open_types.specs.Open.{Open}
 use Rattle.open_types.specs.Laws.{SameIsEqual, SubstitutedNone}
 use Rattle.shapes.specs.Declarations.{DeclarationOf}
 use Rattle.shapes.specs.InstanceShape.{IsReachable}
-use Rattle.shapes.specs.Instances.{instance_term}
+use Rattle.terms.specs.InstanceTerms.{instance_term}
 use Rattle.inlining.specs.Inlining.{targets_of, IsAmong, AreOnce}
 use Rattle.inlining.specs.Marks.{mark}
 use Rattle.instances.specs.Lists.{IsOneOf, number_in, instance_at, AreInstances}

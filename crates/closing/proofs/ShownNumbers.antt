@@ -24,9 +24,6 @@ pub record AreChosen (P : ℕ → Type 0) (k : ℕ) (chosen : List ℕ) : Type 0
   pub each : (n : ℕ) → IsAmong n chosen ↔ ((n < k) × P n)
 
 module _ (P : ℕ → Type 0) where
-  pub chosen-none : AreChosen P 0 []
-  chosen-none = record { each = λ n. (λ a. absurd a, λ h. absurd (omega (arith, h.0))) }
-
   last : (n m : ℕ) (ns : List ℕ) → IsAmong n (ns ++ m ∷ []) → IsAmong n ns ⊎ (n ≡ m)
   last n m [] (inl e) = inr e
   last n m [] (inr h) = absurd h

@@ -8,7 +8,7 @@ use Rattle.schema_trees.specs.Schema.{SchemaOf, leaf, bind}
 use Rattle.open_types.specs.Open.{Open}
 use Rattle.component.specs.Leaves.{LeafOf, param, named}
 use Rattle.shapes.specs.Declarations.{DeclarationOf}
-use Rattle.shapes.specs.Instances.{instance_term}
+use Rattle.terms.specs.InstanceTerms.{instance_term}
 use Rattle.shapes.specs.InstanceNames.{instance_name}
 use Rattle.instances.specs.Lists.{number_in}
 

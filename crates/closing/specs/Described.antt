@@ -8,13 +8,13 @@ use Rattle.schema_trees.specs.declared.tree.RefLeaf.{RefLeaf}
 use Rattle.schema_trees.specs.Schema.{SchemaOf, leaf, bind}
 use Rattle.schema_core.specs.Form.{form}
 use Rattle.schema_core.specs.Document.{Entry, document}
-use Rattle.schema_core.specs.Entries.{find, names_of, IsInOrder}
+use Rattle.schema_core.specs.Entries.{find, entry_names, IsInOrder}
 use Rattle.open_types.specs.Open.{Open}
 use Rattle.component.specs.Places.{place}
 use Rattle.shapes.specs.Declarations.{DeclarationOf, AreApartBodies}
 use Rattle.shapes.specs.Shape.{type_shape}
 use Rattle.shapes.specs.Plain.{IsPlainType}
-use Rattle.shapes.specs.Instances.{instance_term}
+use Rattle.terms.specs.InstanceTerms.{instance_term}
 use Rattle.shapes.specs.InstanceNames.{instance_name}
 use Rattle.shapes.specs.InstanceShape.{shape, HasShape, IsPlain, IsReachable}
 use Rattle.inlining.specs.Inlining.{IsAtMost}
@@ -38,7 +38,7 @@ AreShallow ss = (t : Open) (path : List Open) → IsReachable ss t → IsInlineP
 pub record AreComponents (ss : List DeclarationOf) (all : Bool) (components : List Entry) : Type 0 where
   pub held : (t : Open) → IsComponent ss all t → find (instance_name ss t) components ≡ Some (instance_schema ss t)
   pub only : (name : List ℕ) → IsTrue (is_some (find name components)) → (t : Open) × IsComponent ss all t × (name ≡ instance_name ss t)
-  pub order : IsInOrder (names_of components)
+  pub order : IsInOrder (entry_names components)
 
 -- ---- what a document says of declarations
 

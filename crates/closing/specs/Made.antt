@@ -1,13 +1,13 @@
 -- What is made of instances by number, where they are marked.
-use Rattle.std.specs.Prelude.{◌≡◌, ◌<◌, ℕ, List, length, get_or, Bool, Option, Some, is_some, IsTrue}
+use Rattle.std.specs.Prelude.{◌≡◌, ◌<◌, ℕ, List, length, get_or, Bool, Some, is_some, IsTrue}
 use Rattle.schema_trees.specs.declared.tree.RefLeaf.{RefLeaf}
 use Rattle.schema_trees.specs.Schema.{SchemaOf, leaf}
 use Rattle.schema_core.specs.Document.{Entry}
-use Rattle.schema_core.specs.Entries.{find, names_of, IsInOrder}
+use Rattle.schema_core.specs.Entries.{find, entry_names, IsInOrder}
 use Rattle.open_types.specs.Open.{Open}
 use Rattle.component.specs.Leaves.{LeafOf, param}
 use Rattle.shapes.specs.Declarations.{DeclarationOf}
-use Rattle.shapes.specs.Instances.{instance_term}
+use Rattle.terms.specs.InstanceTerms.{instance_term}
 use Rattle.shapes.specs.InstanceNames.{instance_name}
 use Rattle.inlining.specs.Inlining.{targets_of, IsAmong}
 use Rattle.inlining.specs.Marks.{mark}
@@ -31,4 +31,4 @@ AreSchemas ss is marks made = (n : ℕ) → n < length is → IsTrue (mark marks
 pub record AreEntriesOf (ss : List DeclarationOf) (ts : List Open) (components : List Entry) : Type 0 where
   pub held : (t : Open) → IsOneOf t ts → find (instance_name ss t) components ≡ Some (instance_schema ss t)
   pub only : (name : List ℕ) → IsTrue (is_some (find name components)) → (t : Open) × IsOneOf t ts × (name ≡ instance_name ss t)
-  pub order : IsInOrder (names_of components)
+  pub order : IsInOrder (entry_names components)

@@ -6,6 +6,7 @@ ghost use Rattle.open_types.specs.Open.{open_view};
 ghost use Rattle.component.specs.Leaves.{term_view};
 ghost use Rattle.shapes.specs.Declarations.{DeclarationOf};
 ghost use Rattle.shapes.specs.InstanceNames.{instance_name};
+ghost use Rattle.shapes.specs.Views.{declaration_view};
 ghost use Rattle.inlining.specs.Inlining.{IsOrder};
 ghost use Rattle.instances.specs.Lists.{AreInstances};
 ghost use Rattle.closing.specs.Closed.{any_value, schema_in};
@@ -19,13 +20,13 @@ use filling::{Fill, copy_schema, filled};
 use instances::{Reach, instance_name};
 use open_types::OpenType;
 use schema_trees::{Notes, Object, RefLeaf, Schema, Tree, TypeWord};
-use shapes::Declared;
+use shapes::Declaration;
 use std::alloc::{AllocError, Global};
 
 /// What stands at the leaves of a term: the schemas of instances, as far as they are made, and references to components.
 #[derive(Drop)]
-struct Closing<'s, D> {
-    declared: &'s [D],
+struct Closing<'s> {
+    declared: &'s [Declaration],
     reach: &'s Reach,
     /// The schema of each instance; of one that is not made yet, one that says nothing.
     made: &'s [Schema],
@@ -67,16 +68,16 @@ fn made_at(
 }
 
 /// A reference with the notes to the component of the instance.
-fn reference_to<D: Declared>(
+fn reference_to(
     alloc: Global,
-    declared: &[D],
+    declared: &[Declaration],
     ty: &OpenType,
     notes: &Notes,
 ) -> Result<Schema, AllocError>
     ensures { IfOk result
         (λ s. schema_view s
         ≡ leaf (record {
-          name = instance_name (map D.declaration declared.now) (open_view ty.now);
+          name = instance_name (map declaration_view declared.now) (open_view ty.now);
           notes =
               notes.now;
         })) }
@@ -87,7 +88,7 @@ fn reference_to<D: Declared>(
     }))
 }
 
-impl<D: Declared> Fill for Closing<'_, D> {
+impl Fill for Closing<'_> {
     ghost use Rattle.std.specs.Prelude.{map};
     ghost use Rattle.schema_trees.specs.declared.tree.RefLeaf.{RefLeaf as AnyReference};
     ghost use Rattle.schema_trees.specs.Schema.{schema_view};
@@ -106,7 +107,7 @@ impl<D: Declared> Fill for Closing<'_, D> {
 
     ghost meaning = { λ l. l };
 
-    ghost put = { λ c l. put (map D.declaration c.declared.now)
+    ghost put = { λ c l. put (map declaration_view c.declared.now)
         (made_at c.reach.now (map schema_view c.made.now)) l };
 
     fn fill(&self, alloc: Global, leaf: &TermLeaf) -> Result<Schema, AllocError> {
@@ -136,27 +137,27 @@ fn none_made(alloc: Global, count: usize) -> Result<Vec<Schema>, AllocError>
 
 /// The schema of each instance that is marked, where `order` has each behind those whose schemas stand in its own, and these
 /// are marked too. A term is let go as soon as its place in the order is passed.
-pub(crate) fn closed<D: Declared>(
+pub(crate) fn closed(
     alloc: Global,
-    declared: &[D],
+    declared: &[Declaration],
     reach: &Reach,
     mut terms: Vec<Term>,
     order: &[usize],
     marks: &[bool],
 ) -> Result<Vec<Schema>, AllocError>
-    requires instances { AreInstances (map D.declaration declared.now) reach.now }
-    requires shallow { AreShallow (map D.declaration declared.now) }
-    requires order { IsOrder (inlining_of (map D.declaration declared.now) reach.now)
+    requires instances { AreInstances (map declaration_view declared.now) reach.now }
+    requires shallow { AreShallow (map declaration_view declared.now) }
+    requires order { IsOrder (inlining_of (map declaration_view declared.now) reach.now)
         order.now }
     requires along { AreAlong marks.now
-        (inlining_of (map D.declaration declared.now) reach.now) }
+        (inlining_of (map declaration_view declared.now) reach.now) }
     requires as_many { length terms.items ≡ length reach.now }
     requires marked { length marks.now ≡ length reach.now }
-    requires terms { AreTerms (map D.declaration declared.now) reach.now marks.now
+    requires terms { AreTerms (map declaration_view declared.now) reach.now marks.now
         (map term_view terms.items) }
     ensures many { IfOk result (λ made. length made.items ≡ length reach.now) }
     ensures schemas { IfOk result
-        (λ made. AreSchemas (map D.declaration declared.now) reach.now marks.now
+        (λ made. AreSchemas (map declaration_view declared.now) reach.now marks.now
         (map schema_view made.items)) }
 {
     inlining::orders_stand();

@@ -5,7 +5,8 @@ ghost use Rattle.component.specs.Leaves.{term_view};
 ghost use Rattle.inlining.specs.Inlining.{AreOnce, IsAmong, IsOrder};
 ghost use Rattle.inlining.specs.Marks.{mark};
 ghost use Rattle.instances.specs.Lists.{AreInstances, instance_at};
-ghost use Rattle.instances.specs.Names.{NamesDiffer, names_of};
+ghost use Rattle.instances.specs.Names.{NamesDiffer, instance_names};
+ghost use Rattle.shapes.specs.Views.{declaration_view};
 ghost use Rattle.closing.specs.Described.{AreShallow};
 ghost use Rattle.closing.specs.Links.{inlining_of};
 ghost use Rattle.closing.specs.Made.{AreAlong, AreTerms, AreEntriesOf};
@@ -15,37 +16,37 @@ use component::Term;
 use inlining::Shown;
 use instances::Reach;
 use schema_core::Components;
-use shapes::Declared;
+use shapes::Declaration;
 use std::alloc::{AllocError, Global};
 use texts::Text;
 
 /// The components of the instances, where `names` has the names of all, which differ, `terms` the terms of those that are
 /// shown, and `order` each instance behind those whose schemas stand in its own.
-pub fn components_of<D: Declared>(
+pub fn components_of(
     alloc: Global,
-    declared: &[D],
+    declared: &[Declaration],
     reach: &Reach,
     names: &[Text],
     terms: Vec<Term>,
     order: &[usize],
     shown: &Shown,
 ) -> Result<Components, AllocError>
-    requires instances { AreInstances (map D.declaration declared.now) reach.now }
-    requires shallow { AreShallow (map D.declaration declared.now) }
-    requires order { IsOrder (inlining_of (map D.declaration declared.now) reach.now)
+    requires instances { AreInstances (map declaration_view declared.now) reach.now }
+    requires shallow { AreShallow (map declaration_view declared.now) }
+    requires order { IsOrder (inlining_of (map declaration_view declared.now) reach.now)
         order.now }
     requires along { AreAlong shown.now.marks
-        (inlining_of (map D.declaration declared.now) reach.now) }
+        (inlining_of (map declaration_view declared.now) reach.now) }
     requires as_many { length terms.items ≡ length reach.now }
     requires marked { length shown.now.marks ≡ length reach.now }
-    requires terms { AreTerms (map D.declaration declared.now) reach.now shown.now.marks
+    requires terms { AreTerms (map declaration_view declared.now) reach.now shown.now.marks
         (map term_view terms.items) }
-    requires names { names.now ≡ names_of (map D.declaration declared.now) reach.now }
-    requires differ { NamesDiffer (map D.declaration declared.now) }
+    requires names { names.now ≡ instance_names (map declaration_view declared.now) reach.now }
+    requires differ { NamesDiffer (map declaration_view declared.now) }
     requires once { AreOnce shown.now.components }
     requires within { (n : ℕ) → IsAmong n shown.now.components → n < length reach.now }
     requires shown { (n : ℕ) → IsAmong n shown.now.components → IsTrue (mark shown.now.marks n) }
-    ensures { IfOk result (AreEntriesOf (map D.declaration declared.now)
+    ensures { IfOk result (AreEntriesOf (map declaration_view declared.now)
         (map (instance_at reach.now) shown.now.components)) }
 {
     let marks = shown.marks.as_slice();

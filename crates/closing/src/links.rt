@@ -4,8 +4,9 @@ ghost use Rattle.std.specs.Prelude.{◌≡◌, ◌<◌, ◌++◌, length, map, I
 ghost use Rattle.schema_trees.specs.Schema.{object_view, tree_views, named_views, additional_view, array_items_view, optional_view, array_view};
 ghost use Rattle.component.specs.Leaves.{leaf_view, term_view};
 ghost use Rattle.component.specs.References.{leaf_references, named_leaves, schema_leaves, property_leaves, part_leaves};
-ghost use Rattle.shapes.specs.Instances.{instance_term};
+ghost use Rattle.terms.specs.InstanceTerms.{instance_term};
 ghost use Rattle.shapes.specs.Declarations.{AreFitting};
+ghost use Rattle.shapes.specs.Views.{declaration_view};
 ghost use Rattle.instances.specs.Lists.{instance_at, AreInstances};
 ghost use Rattle.closing.specs.Links.{numbered_inline, numbered_referred, inlining_of, referring_of};
 
@@ -14,8 +15,9 @@ use filling::{Fill, filled};
 use instances::Reach;
 use open_types::{ClosedType, OpenType, substitute_first};
 use schema_trees::{Additional, Array, ArrayItems, Object, Tree};
-use shapes::Declared;
+use shapes::Declaration;
 use std::alloc::{AllocError, Global};
+use terms::declaration_term;
 use texts::{List, Text};
 
 /// For each instance, the instances whose schemas stand in its own, and those that it refers to, as often as they stand there.
@@ -41,7 +43,7 @@ struct WithArguments<'a> {
 impl Fill for WithArguments<'_> {
     ghost use Rattle.component.specs.Leaves.{LeafOf, leaf_view};
     ghost use Rattle.open_types.specs.Open.{opens_view};
-    ghost use Rattle.shapes.specs.Instances.{with_arguments};
+    ghost use Rattle.terms.specs.InstanceTerms.{with_arguments};
 
     type Hole = TermLeaf;
 
@@ -79,23 +81,23 @@ impl Fill for WithArguments<'_> {
 }
 
 /// The term of the instance.
-pub(crate) fn term_of<D: Declared>(
+pub(crate) fn term_of(
     alloc: Global,
-    declared: &[D],
+    declared: &[Declaration],
     reach: &Reach,
     number: usize,
 ) -> Result<Term, AllocError>
-    requires fitting { AreFitting (map D.declaration declared.now) }
-    requires instances { AreInstances (map D.declaration declared.now) reach.now }
+    requires fitting { AreFitting (map declaration_view declared.now) }
+    requires instances { AreInstances (map declaration_view declared.now) reach.now }
     requires number { number < length reach.now }
     ensures { IfOk result
         (λ t. term_view t
-        ≡ instance_term (map D.declaration declared.now) (instance_at reach.now number)) }
+        ≡ instance_term (map declaration_view declared.now) (instance_at reach.now number)) }
 {
     instances::reachable_fit();
-    shapes::root_terms();
+    terms::root_terms();
     let arguments = reach.arguments(alloc, number)?;
-    let term = declared[reach.declaration(number)].term(alloc)?;
+    let term = declaration_term(alloc, &declared[reach.declaration(number)])?;
     if arguments.is_empty() {
         return Ok(term);
     }
@@ -258,19 +260,19 @@ fn named_in(alloc: Global, reach: &Reach, term: &Term) -> Result<Named, AllocErr
 }
 
 /// The terms of the instances, in their order, and their links.
-pub fn linked_terms<D: Declared>(
+pub fn linked_terms(
     alloc: Global,
-    declared: &[D],
+    declared: &[Declaration],
     reach: &Reach,
 ) -> Result<(Vec<Term>, Links), AllocError>
-    requires fitting { AreFitting (map D.declaration declared.now) }
-    requires instances { AreInstances (map D.declaration declared.now) reach.now }
+    requires fitting { AreFitting (map declaration_view declared.now) }
+    requires instances { AreInstances (map declaration_view declared.now) reach.now }
     ensures terms { IfOk result (λ p. map term_view p.0.items
-        ≡ map (instance_term (map D.declaration declared.now)) reach.now) }
+        ≡ map (instance_term (map declaration_view declared.now)) reach.now) }
     ensures targets { IfOk result
-        (λ p. p.1.targets ≡ inlining_of (map D.declaration declared.now) reach.now) }
+        (λ p. p.1.targets ≡ inlining_of (map declaration_view declared.now) reach.now) }
     ensures references { IfOk result
-        (λ p. p.1.references ≡ referring_of (map D.declaration declared.now) reach.now) }
+        (λ p. p.1.references ≡ referring_of (map declaration_view declared.now) reach.now) }
 {
     let mut terms = Vec::new(alloc);
     let mut links = Links {

@@ -11,4 +11,4 @@ pub use law::references_are_leaves;
 pub use place::{Place, place_term};
 pub use references::{SchemaReference, references_of};
 pub use schemas::{bounds_of, noted, noted_null, null_default};
-pub use term::{Term, TermLeaf, ToTerm, copy_term};
+pub use term::{Term, TermLeaf, copy_term};

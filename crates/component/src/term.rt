@@ -1,10 +1,6 @@
 ghost use Rattle.std.specs.Prelude.{◌≡◌, IfOk};
-ghost use Rattle.diag.specs.Refusal.{Refuses};
-ghost use Rattle.schema_trees.specs.Schema.{SchemaOf};
-ghost use Rattle.diag.specs.declared.error.DeriveError.{DeriveError as AnyError};
-ghost use Rattle.component.specs.Leaves.{LeafOf, term_view};
+ghost use Rattle.component.specs.Leaves.{term_view};
 
-use diag::DeriveError;
 use filling::{CopyLeaf, copied};
 use open_types::OpenType;
 use schema_trees::{Notes, Tree};
@@ -26,23 +22,6 @@ pub enum TermLeaf {
 
 /// A schema over the parameters of a declaration and the declarations that are named.
 pub type Term = Tree<TermLeaf>;
-
-/// What has a term.
-pub trait ToTerm {
-    /// What is asked of the value.
-    ghost is_ready: { Self → Type 0 };
-
-    /// What its term says.
-    ghost has_term: { Self → SchemaOf LeafOf → Type 0 };
-
-    /// Why it has none.
-    ghost is_refused: { Self → AnyError → Type 0 };
-
-    fn to_term(&self, alloc: Global) -> Result<Term, DeriveError>
-        requires { is_ready self.now }
-        ensures term { IfOk result (λ t. has_term self.now (term_view t)) }
-        ensures refused { Refuses result (is_refused self.now) };
-}
 
 impl CopyLeaf for TermLeaf {
     ghost use Rattle.component.specs.Leaves.{LeafOf, leaf_view};

@@ -1,6 +1,5 @@
 -- Declarations that have the names of others.
-use Rattle.std.proofs.Common.{ℕ, zero, suc, ◌+◌, ◌<◌, List, [], ◌∷◌, ◌++◌, map, take, get_or, ◌≡◌, refl, ap, sym, ◌∙◌}
-use Rattle.std.proofs.lemmas.List.{map_more}
+use Rattle.std.proofs.Common.{ℕ, zero, suc, List, [], ◌∷◌, ◌++◌, ◌≡◌, refl, ap, sym, ◌∙◌}
 use Rattle.open_types.specs.Open.{Open}
 use Rattle.open_types.specs.TypeNames.{type_name}
 use Rattle.scopes.specs.Names.{declared_idents, declared_names}

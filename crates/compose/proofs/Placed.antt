@@ -1,7 +1,7 @@
 -- Where instances stand, and how they read.
-use Rattle.std.proofs.Common.{ℕ, zero, suc, ◌<◌, ◌+◌, List, [], ◌∷◌, ◌++◌, length, map, take, get_or, Option, Some, ◌≡◌, refl, ap, sym, subst, ◌∙◌, inl, inr, arith}
-use Rattle.std.proofs.lemmas.List.{map_more, length-map}
-use Rattle.diag.specs.Diagnostics.{diagnostic, with_instance}
+use Rattle.std.proofs.Common.{ℕ, zero, suc, ◌<◌, List, [], ◌∷◌, length, map, get_or, Some, ◌≡◌, refl, ap, sym, subst, ◌∙◌, inl, inr, arith}
+use Rattle.std.proofs.lemmas.List.{length-map}
+use Rattle.diag.specs.Diagnostics.{diagnostic}
 use Rattle.diag.specs.declared.diagnostics.DiangosticsInner.{DiangosticsInner}
 use Rattle.diag.specs.declared.error.DeriveError.{DeriveError}
 use Rattle.diag.specs.declared.kind.Kind.{Kind}
@@ -44,16 +44,6 @@ all-placed fit ss fitting is are n l = reachable-placed fit ss fitting (instance
 
 abbrev pub with_instances : Kind → Span → List ℕ → List (List ℕ) → List DiangosticsInner
 with_instances kind span message texts = record (diagnostic kind span message) { instances = texts } ∷ []
-
--- one instance more
-pub texts-more : (ds : List Ident) (is : List Open) (kind : Kind) (span : Span) (message : List ℕ) (numbers : List ℕ) (i : ℕ) → i < length numbers →
-    with_instance (instance_text ds (instance_at is (get_or numbers i 0))) (with_instances kind span message (map (instance_text ds) (map (instance_at is) (take i numbers))))
-    ≡ with_instances kind span message (map (instance_text ds) (map (instance_at is) (take (i + 1) numbers)))
-texts-more ds is kind span message numbers i l = ap (with_instances kind span message) (sym (ap (map (instance_text ds)) (map_more (instance_at is) numbers i 0 l) ∙ append-map (map (instance_at is) (take i numbers)) (instance_at is (get_or numbers i 0))))
-  where
-    append-map : (ts : List Open) (t : Open) → map (instance_text ds) (ts ++ t ∷ []) ≡ map (instance_text ds) ts ++ instance_text ds t ∷ []
-    append-map [] t = refl
-    append-map (u ∷ ts) t = ap (λ xs. instance_text ds u ∷ xs) (append-map ts t)
 
 pub among-at : (ns : List ℕ) (i : ℕ) → i < length ns → IsAmong (get_or ns i 0) ns
 among-at [] i l = absurd (omega (arith, l))

@@ -18,17 +18,17 @@ use Rattle.compose.specs.Bounds.{AreBounded, IsUnbounded, collects_all}
 -- ---- the answers
 
 -- the error refuses a name that two declarations have, or a declaration that is at fault
-abbrev pub AreFaulty : List RenameRow → List DeclaredItem → DeriveError → Type 0
-AreFaulty rows ds e = IsGivenTwice (declared_idents ds) e ⊎ AreFaultyItems rows ds e
+abbrev pub AreFaultyDeclarations : List RenameRow → List DeclaredItem → DeriveError → Type 0
+AreFaultyDeclarations rows ds e = IsGivenTwice (declared_idents ds) e ⊎ AreFaultyItems rows ds e
 
 -- the error refuses the declarations for an attribute that nothing is derived from, or else for a fault
 abbrev pub AreAtFault : List RenameRow → List DeclaredItem → DeriveError → Type 0
-AreAtFault rows ds e = AreUnderivable ds e ⊎ (AreDerivable ds × AreFaulty rows ds e)
+AreAtFault rows ds e = AreUnderivable ds e ⊎ (AreDerivable ds × AreFaultyDeclarations rows ds e)
 
 -- Something is derived from each attribute of the declarations, and there is no fault, where names become what the rows say.
 pub record AreClear (rows : List RenameRow) (ds : List DeclaredItem) : Type 0 where
   pub derivable : AreDerivable ds
-  pub faultless : RefusesNone (AreFaulty rows ds)
+  pub faultless : RefusesNone (AreFaultyDeclarations rows ds)
 
 -- the error refuses declarations that are clear: their instances are beyond a bound
 abbrev pub IsBeyond : Configuration → List DeclaredItem → DeriveError → Type 0

@@ -2,11 +2,11 @@
 use Rattle.std.specs.Prelude.{◌≡◌, ◌<◌, ℕ, List, length, map, IsTrue}
 use Rattle.component.specs.Leaves.{term_view}
 use Rattle.shapes.specs.Declarations.{DeclarationOf}
-use Rattle.shapes.specs.Instances.{instance_term}
+use Rattle.terms.specs.InstanceTerms.{instance_term}
 use Rattle.inlining.specs.Inlining.{IsAmong, AreOnce, IsOrder}
 use Rattle.inlining.specs.Marks.{mark}
 use Rattle.instances.specs.Lists.{instance_at, AreInstances}
-use Rattle.instances.specs.Names.{NamesDiffer, names_of}
+use Rattle.instances.specs.Names.{NamesDiffer, instance_names}
 use Rattle.closing.specs.Described.{AreShallow}
 use Rattle.closing.specs.Links.{inlining_of, AreComponentsOf}
 use Rattle.closing.specs.Made.{AreAlong}
@@ -17,7 +17,7 @@ pub record AreWithin (ss : List DeclarationOf) (b : Bounded) : Type 0 where
   pub instances : AreInstances ss b.reach
   pub differ : NamesDiffer ss
   pub shallow : AreShallow ss
-  pub names : b.names ≡ names_of ss b.reach
+  pub names : b.names ≡ instance_names ss b.reach
   pub terms : map term_view b.terms.items ≡ map (instance_term ss) b.reach
   pub targets : b.links.targets ≡ inlining_of ss b.reach
   pub order : IsOrder (inlining_of ss b.reach) b.order

@@ -5,10 +5,10 @@ ghost use Rattle.diag.specs.Refusal.{IsRefusal, Refuses};
 ghost use Rattle.texts.specs.Span.{no_span};
 ghost use Rattle.resolving.specs.Resolved.{most_names};
 ghost use Rattle.shapes.specs.Declarations.{AreFitting, declaration_names};
-ghost use Rattle.derive_decl.specs.Views.{resolved_view};
+ghost use Rattle.shapes.specs.Views.{declaration_view};
 ghost use Rattle.inlining.specs.Inlining.{AreTargets, IsAmong, IsAtMost, IsOrder, copies, sum_of};
 ghost use Rattle.instances.specs.Lists.{AreInstances};
-ghost use Rattle.instances.specs.Names.{NamesDiffer, names_of};
+ghost use Rattle.instances.specs.Names.{NamesDiffer, instance_names};
 ghost use Rattle.instances.specs.Walk.{AreReached};
 ghost use Rattle.closing.specs.Links.{inlining_of};
 ghost use Rattle.closing.specs.Closed.{most_inlined};
@@ -16,11 +16,11 @@ ghost use Rattle.compose.specs.Bounds.{ArePlaced, IsCrowded, IsLarge, IsClash, I
 
 use crate::refusals::{clash, too_deep, too_large, too_many_copies, too_many_instances};
 use configuration::Config;
-use derive_decl::Resolved;
 use diag::{DeriveError, Kind};
 use inlining::{Depth, are_more_copies, inline_order};
-use instances::{Names, Naming, Reach, WalkError, names_of, reach_of};
+use instances::{Names, Naming, Reach, WalkError, instance_names, reach_of};
 use resolving::MAX_NAMES;
+use shapes::Declaration;
 use std::alloc::Global;
 use texts::List;
 use written_types::Ident;
@@ -32,17 +32,17 @@ const MOST_INLINED: usize = 32;
 pub(crate) fn few_instances(
     alloc: Global,
     idents: &[Ident],
-    resolved: &[Resolved],
+    resolved: &[Declaration],
     config: &Config,
 ) -> Result<Reach, DeriveError>
-    requires fitting { AreFitting (map resolved_view resolved.now) }
+    requires fitting { AreFitting (map declaration_view resolved.now) }
     requires many { length idents.now ≡ length resolved.now }
     ensures reached { IfOk result
-        (AreReached (map resolved_view resolved.now) config.now.limit most_names) }
+        (AreReached (map declaration_view resolved.now) config.now.limit most_names) }
     ensures placed { IfOk result (ArePlaced (length idents.now)) }
     ensures refused { Refuses result
-        (λ e. IsCrowded config.now idents.now (map resolved_view resolved.now) e
-        ⊎ IsLarge idents.now (map resolved_view resolved.now) e) }
+        (λ e. IsCrowded config.now idents.now (map declaration_view resolved.now) e
+        ⊎ IsLarge idents.now (map declaration_view resolved.now) e) }
 {
     instances::reachable_fit();
     let limit = config.limit();
@@ -60,18 +60,18 @@ pub(crate) fn few_instances(
 pub(crate) fn names_apart(
     alloc: Global,
     idents: &[Ident],
-    resolved: &[Resolved],
+    resolved: &[Declaration],
     reach: &Reach,
 ) -> Result<Names, DeriveError>
-    requires instances { AreInstances (map resolved_view resolved.now) reach.now }
+    requires instances { AreInstances (map declaration_view resolved.now) reach.now }
     requires placed { ArePlaced (length idents.now) reach.now }
     ensures names { IfOk result
-        (λ names. names ≡ names_of (map resolved_view resolved.now) reach.now) }
-    ensures differ { IfOk result (λ _. NamesDiffer (map resolved_view resolved.now)) }
-    ensures refused { Refuses result (IsClash idents.now (map resolved_view resolved.now)) }
+        (λ names. names ≡ instance_names (map declaration_view resolved.now) reach.now) }
+    ensures differ { IfOk result (λ _. NamesDiffer (map declaration_view resolved.now)) }
+    ensures refused { Refuses result (IsClash idents.now (map declaration_view resolved.now)) }
 {
     instances::distinct_names_differ();
-    match names_of(alloc, resolved, reach)? {
+    match instance_names(alloc, resolved, reach)? {
         Naming::Apart(names) => Ok(names),
         Naming::Clash(first, second) => {
             Err(clash(alloc, idents, resolved, reach, first, second)?)
@@ -83,17 +83,17 @@ pub(crate) fn names_apart(
 pub(crate) fn shallow_order(
     alloc: Global,
     idents: &[Ident],
-    resolved: &[Resolved],
+    resolved: &[Declaration],
     reach: &Reach,
     targets: &[List<usize>],
 ) -> Result<List<usize>, DeriveError>
-    requires instances { AreInstances (map resolved_view resolved.now) reach.now }
+    requires instances { AreInstances (map declaration_view resolved.now) reach.now }
     requires placed { ArePlaced (length idents.now) reach.now }
     requires targets { targets.now
-        ≡ inlining_of (map resolved_view resolved.now) reach.now }
+        ≡ inlining_of (map declaration_view resolved.now) reach.now }
     ensures shallow { IfOk result (λ _. IsAtMost most_inlined targets.now) }
     ensures order { IfOk result (λ order. IsOrder targets.now order) }
-    ensures refused { Refuses result (IsDeep idents.now (map resolved_view resolved.now)) }
+    ensures refused { Refuses result (IsDeep idents.now (map declaration_view resolved.now)) }
 {
     closing::numbers_stand();
     closing::paths_by_numbers();

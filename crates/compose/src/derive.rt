@@ -3,9 +3,9 @@
 ghost use Rattle.std.specs.Prelude.{◌≡◌, length, map, IfOk};
 ghost use Rattle.diag.specs.Refusal.{Refuses};
 ghost use Rattle.schema_core.specs.Document.{document};
-ghost use Rattle.schema_core.specs.Entries.{names_of};
+ghost use Rattle.schema_core.specs.Entries.{entry_names};
 ghost use Rattle.open_types.specs.Open.{open_view};
-ghost use Rattle.derive_decl.specs.Views.{resolved_view};
+ghost use Rattle.shapes.specs.Views.{declaration_view};
 ghost use Rattle.closing.specs.Described.{AreComponents, Describes};
 ghost use Rattle.compose.specs.Bounds.{collects_all};
 ghost use Rattle.compose.specs.Faults.{IsDerived, IsRefused};
@@ -17,10 +17,10 @@ use crate::types::types_of;
 use crate::within::{Bounded, within_bounds};
 use closing::components_of;
 use configuration::Config;
-use derive_decl::Resolved;
 use diag::DeriveError;
 use open_types::ClosedType;
 use schema_core::Components;
+use shapes::Declaration;
 use std::alloc::{AllocError, Global};
 use syntax::parse_declarations;
 use texts::List;
@@ -37,14 +37,14 @@ pub struct Derived {
 /// The components of instances that are within their bounds, and their types.
 fn components_within(
     alloc: Global,
-    resolved: &[Resolved],
+    resolved: &[Declaration],
     bounded: Bounded,
 ) -> Result<Derived, AllocError>
-    requires { AreWithin (map resolved_view resolved.now) bounded }
+    requires { AreWithin (map declaration_view resolved.now) bounded }
     ensures components { IfOk result (λ d. AreComponents
-        (map resolved_view resolved.now) bounded.all d.components) }
-    ensures types { IfOk result (λ d. AreTypesOf (map resolved_view resolved.now) bounded.all
-        (names_of d.components) (map open_view d.types)) }
+        (map declaration_view resolved.now) bounded.all d.components) }
+    ensures types { IfOk result (λ d. AreTypesOf (map declaration_view resolved.now) bounded.all
+        (entry_names d.components) (map open_view d.types)) }
 {
     let Bounded {
         reach,
@@ -85,7 +85,7 @@ pub fn derive_components(
         × Describes made.resolved (collects_all config.now.collect)
         (document d.components)) }
     ensures types { IfOk result (λ d. (made : IsDerived config.now source.now d.components)
-        × AreTypesOf made.resolved (collects_all config.now.collect) (names_of d.components)
+        × AreTypesOf made.resolved (collects_all config.now.collect) (entry_names d.components)
         (map open_view d.types)) }
 {
     let declarations = parse_declarations(alloc, source)?;

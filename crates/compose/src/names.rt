@@ -7,36 +7,35 @@ ghost use Rattle.scopes.specs.Names.{declared_idents, declared_names};
 ghost use Rattle.scopes.specs.Texts.{name_at};
 ghost use Rattle.shapes.specs.Declarations.{declaration_names};
 ghost use Rattle.syntax.specs.Items.{declarations_view};
-ghost use Rattle.derive_decl.specs.Views.{resolved_view};
+ghost use Rattle.shapes.specs.Views.{declaration_view};
 
-use derive_decl::{FormSchema, Resolved, SchemaVariant, UnitStructVariant};
 use diag::DeriveError;
 use instances::instance_name;
 use open_types::ClosedType;
-use shapes::Remarks;
+use shapes::{Body, Declaration, Form, Remarks};
 use std::alloc::{AllocError, Global};
 use syntax::Declarations;
 use texts::{List, Text};
 use written_types::Ident;
 
 /// A declaration of the name, of which nothing else is known.
-fn named(alloc: Global, ident: &Ident) -> Result<Resolved, AllocError>
-    ensures { IfOk result (λ s. (resolved_view s).name ≡ ident.now.text) }
+fn named(alloc: Global, ident: &Ident) -> Result<Declaration, AllocError>
+    ensures { IfOk result (λ s. (declaration_view s).name ≡ ident.now.text) }
 {
-    let remarks = Remarks {
-        deprecated: false,
-        description: None,
-    };
-    Ok(Resolved {
+    Ok(Declaration {
         name: ident.text.copy(alloc)?,
         parameters: 0,
-        body: SchemaVariant::Struct(FormSchema::Unit(UnitStructVariant { remarks })),
+        remarks: Remarks {
+            deprecated: false,
+            description: None,
+        },
+        body: Body::Fields(Form::Unit),
     })
 }
 
 /// The declarations by their names alone.
-fn by_name(alloc: Global, declarations: &Declarations) -> Result<List<Resolved>, AllocError>
-    ensures { IfOk result (λ ss. declaration_names (map resolved_view ss)
+fn by_name(alloc: Global, declarations: &Declarations) -> Result<List<Declaration>, AllocError>
+    ensures { IfOk result (λ ss. declaration_names (map declaration_view ss)
         ≡ declared_names (declarations_view declarations.now)) }
 {
     let mut resolved = List::new(alloc);

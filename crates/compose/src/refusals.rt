@@ -6,15 +6,15 @@ ghost use Rattle.texts.specs.Span.{no_span};
 ghost use Rattle.texts.specs.declared.span.Span.{Span as AnySpan};
 ghost use Rattle.shapes.specs.InstanceNames.{instance_name};
 ghost use Rattle.shapes.specs.InstanceShape.{IsReachable};
-ghost use Rattle.derive_decl.specs.Views.{resolved_view};
+ghost use Rattle.shapes.specs.Views.{declaration_view};
 ghost use Rattle.inlining.specs.Inlining.{IsAmong};
 ghost use Rattle.instances.specs.Lists.{instance_at};
 ghost use Rattle.compose.specs.Bounds.{IsAt, ArePlaced, instance_text, IsRefusalOf, IsClashOf, IsClash, crowded_message, large_message, deep_message, copied_message};
 
-use derive_decl::Resolved;
 use diag::{DeriveError, Diagnostics, Kind};
 use instances::{Reach, instance_name};
 use scopes::text_of_type;
+use shapes::Declaration;
 use std::alloc::{AllocError, Global};
 use std::cmp::Ordering;
 use texts::{Span, Text};
@@ -122,7 +122,7 @@ pub(crate) fn too_deep(
 fn ordered_clash(
     alloc: Global,
     idents: &[Ident],
-    resolved: &[Resolved],
+    resolved: &[Declaration],
     reach: &Reach,
     first: usize,
     second: usize,
@@ -130,7 +130,7 @@ fn ordered_clash(
     requires placed { ArePlaced (length idents.now) reach.now }
     requires first { first < length reach.now }
     requires second { second < length reach.now }
-    ensures { IfOk result (IsClashOf idents.now (map resolved_view resolved.now)
+    ensures { IfOk result (IsClashOf idents.now (map declaration_view resolved.now)
         (instance_at reach.now first) (instance_at reach.now second)) }
 {
     let ty = reach.type_of(alloc, first)?;
@@ -153,7 +153,7 @@ fn ordered_clash(
 pub(crate) fn clash(
     alloc: Global,
     idents: &[Ident],
-    resolved: &[Resolved],
+    resolved: &[Declaration],
     reach: &Reach,
     first: usize,
     second: usize,
@@ -162,11 +162,11 @@ pub(crate) fn clash(
     requires first { first < length reach.now }
     requires second { second < length reach.now }
     requires differ { instance_at reach.now first ≢ instance_at reach.now second }
-    requires reachable { IsReachable (map resolved_view resolved.now) (instance_at reach.now first)
-        × IsReachable (map resolved_view resolved.now) (instance_at reach.now second) }
-    requires name { instance_name (map resolved_view resolved.now) (instance_at reach.now first)
-        ≡ instance_name (map resolved_view resolved.now) (instance_at reach.now second) }
-    ensures { IfOk result (IsClash idents.now (map resolved_view resolved.now)) }
+    requires reachable { IsReachable (map declaration_view resolved.now) (instance_at reach.now first)
+        × IsReachable (map declaration_view resolved.now) (instance_at reach.now second) }
+    requires name { instance_name (map declaration_view resolved.now) (instance_at reach.now first)
+        ≡ instance_name (map declaration_view resolved.now) (instance_at reach.now second) }
+    ensures { IfOk result (IsClash idents.now (map declaration_view resolved.now)) }
 {
     let text = instance_text(alloc, idents, reach, first)?;
     let other = instance_text(alloc, idents, reach, second)?;

@@ -7,7 +7,7 @@ ghost use Rattle.open_types.specs.Open.{open_view};
 ghost use Rattle.scopes.specs.Names.{declared_idents};
 ghost use Rattle.syntax.specs.Items.{declarations_view};
 ghost use Rattle.syntax.specs.Named.{AreNamed};
-ghost use Rattle.derive_decl.specs.Views.{resolved_view};
+ghost use Rattle.shapes.specs.Views.{declaration_view};
 ghost use Rattle.instances.specs.Lists.{IsOneOf};
 ghost use Rattle.closing.specs.Closed.{instance_schema};
 ghost use Rattle.compose.specs.Bounds.{AreBounded, IsUnbounded};
@@ -18,12 +18,13 @@ ghost use Rattle.compose.specs.Settled.{IsSettled};
 use crate::within::{Bounded, within_bounds};
 use closing::{Links, schema_of};
 use configuration::Config;
-use derive_decl::{Resolved, only_derivable, resolved_declarations};
+use derive_decl::{only_derivable, resolved_declarations};
 use diag::DeriveError;
 use instances::{Names, Reach};
 use open_types::ClosedType;
 use schema_trees::Schema;
 use scopes::{Places, declared_places};
+use shapes::Declaration;
 use std::alloc::{AllocError, Global};
 use syntax::Declarations;
 use texts::List;
@@ -33,7 +34,7 @@ use written_types::Ident;
 #[derive(Debug, Drop)]
 pub struct TermSet {
     /// The declarations, in their order.
-    pub resolved: List<Resolved>,
+    pub resolved: List<Declaration>,
     /// Their names.
     pub idents: List<Ident>,
 }
@@ -77,11 +78,11 @@ fn settle(
     alloc: Global,
     declarations: &Declarations,
     config: &Config,
-) -> Result<List<Resolved>, DeriveError>
+) -> Result<List<Declaration>, DeriveError>
     requires { AreNamed (declarations_view declarations.now) }
     ensures settled { IfOk result
         (λ resolved. IsSettled config.now.renames (declarations_view declarations.now)
-        (map resolved_view resolved)) }
+        (map declaration_view resolved)) }
     ensures refused { Refuses result
         (AreAtFault config.now.renames (declarations_view declarations.now)) }
 {

@@ -3,7 +3,7 @@
 ghost use Rattle.std.specs.Prelude.{◌≡◌, length, map, IfOk};
 ghost use Rattle.diag.specs.Refusal.{Refuses};
 ghost use Rattle.shapes.specs.Declarations.{AreFitting};
-ghost use Rattle.derive_decl.specs.Views.{resolved_view};
+ghost use Rattle.shapes.specs.Views.{declaration_view};
 ghost use Rattle.compose.specs.Bounds.{AreBounded, IsUnbounded, collects_all};
 ghost use Rattle.compose.specs.Within.{AreWithin};
 
@@ -11,10 +11,10 @@ use crate::bounds::{few_copies, few_instances, names_apart, shallow_order};
 use closing::{Links, linked_terms, shown_of};
 use component::Term;
 use configuration::{Config, SchemaCollect};
-use derive_decl::Resolved;
 use diag::DeriveError;
 use inlining::Shown;
 use instances::{Names, Reach};
+use shapes::Declaration;
 use std::alloc::Global;
 use texts::List;
 use written_types::Ident;
@@ -47,16 +47,16 @@ fn collects_all(config: &Config) -> bool
 pub(crate) fn within_bounds(
     alloc: Global,
     idents: &[Ident],
-    resolved: &[Resolved],
+    resolved: &[Declaration],
     config: &Config,
 ) -> Result<Bounded, DeriveError>
-    requires fitting { AreFitting (map resolved_view resolved.now) }
+    requires fitting { AreFitting (map declaration_view resolved.now) }
     requires many { length idents.now ≡ length resolved.now }
-    ensures bounded { IfOk result (λ _. AreBounded config.now (map resolved_view resolved.now)) }
+    ensures bounded { IfOk result (λ _. AreBounded config.now (map declaration_view resolved.now)) }
     ensures all { IfOk result (λ b. b.all ≡ collects_all config.now.collect) }
-    ensures within { IfOk result (AreWithin (map resolved_view resolved.now)) }
+    ensures within { IfOk result (AreWithin (map declaration_view resolved.now)) }
     ensures refused { Refuses result
-        (IsUnbounded config.now idents.now (map resolved_view resolved.now)) }
+        (IsUnbounded config.now idents.now (map declaration_view resolved.now)) }
 {
     closing::shallow_by_numbers();
     closing::copies_by_numbers();

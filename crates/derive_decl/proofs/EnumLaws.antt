@@ -1,7 +1,6 @@
--- Variants of enums: their names, their types, and what is refused where none has fields.
-use Rattle.std.proofs.Common.{ℕ, ◌+◌, ◌<◌, List, [], ◌∷◌, ◌++◌, length, take, drop, get_or, map, Bool, true, false, ◌&&◌, cond, Option, Some, None, option_map, ◌≡◌, ◌∙◌, refl, ap, sym, subst, inl, inr, add-one, drop-cons}
+-- Variants of enums: their names, and what is refused where none has fields.
+use Rattle.std.proofs.Common.{ℕ, List, [], ◌∷◌, ◌++◌, map, Bool, true, false, ◌&&◌, cond, Option, Some, None, option_map, ◌≡◌, ◌∙◌, refl, ap, sym, subst, inl, inr}
 use Rattle.std.proofs.lemmas.Bool.{false≢true}
-use Rattle.std.proofs.lemmas.List.{take_more, map_push, map-append, append-nil, append_assoc}
 use Rattle.std.proofs.lemmas.Option.{none-some, same_Some}
 use Rattle.diag.specs.Refusal.{RefusesNone}
 use Rattle.diag.specs.declared.error.DeriveError.{DeriveError}
@@ -9,21 +8,19 @@ use Rattle.diag.specs.declared.rename_rule.RenameRule.{RenameRule}
 use Rattle.texts.specs.Lists.{Somewhere}
 use Rattle.attributes.specs.Attributes.{serde_items}
 use Rattle.attributes.specs.declared.serde_item.SerdeItem.{SerdeItem}
-use Rattle.serde_rules.specs.Container.{rename_rule, IsContainerRefusal}
+use Rattle.serde_rules.specs.Container.{rename_rule}
 use Rattle.written_types.specs.declared.written.Ident.{Ident}
-use Rattle.syntax.specs.declared.item.Variant.{Variant}
-use Rattle.syntax.specs.Items.{FieldItems, named, unnamed, unit, VariantItem, variant_view}
-use Rattle.open_types.specs.Open.{Open}
+use Rattle.syntax.specs.Items.{FieldItems, named, unnamed, unit, VariantItem}
 use Rattle.scopes.specs.Names.{texts}
 use Rattle.shapes.specs.declared.tagging.Tagging.{Tagging}
-use Rattle.shapes.specs.Declarations.{no_fields, VariantOf, types_of, variant_names, variant_types, AreApartVariants}
-use Rattle.derive_decl.specs.declared.mixed_enum.MixedEnumVariant.{MixedEnumVariant}
+use Rattle.shapes.specs.Declarations.{no_fields, VariantOf, variant_names, AreApartVariants}
+use Rattle.derive_decl.specs.declared.written_variant.WrittenVariant.{WrittenVariant}
 use Rattle.derive_decl.specs.Fields.{named_at, field_rules}
-use Rattle.derive_decl.specs.Variants.{tagging_by, tagging_in, is_unit, are_units, is_kept_variant, kept_variants}
+use Rattle.derive_decl.specs.Variants.{tagging_in, is_unit, are_units, is_kept_variant, kept_variants}
 use Rattle.derive_decl.specs.Resolved.{Around, form_of}
-use Rattle.derive_decl.specs.Faults.{AreFaulty, IsUnnamed, IsFaultyVariant, AreUnnamed, AreFaultyVariants, IsFaultyEnum}
+use Rattle.derive_decl.specs.Faults.{AreFaultyFields, IsUnnamed, IsFaultyVariant, AreUnnamed, AreFaultyVariants, IsFaultyTagging, IsFaultyEnum}
 use Rattle.derive_decl.specs.Tags.{IsMisplacedTag}
-use Rattle.derive_decl.specs.Views.{form_view, variant_schema_view}
+use Rattle.derive_decl.specs.Views.{written_variant_view}
 use Rattle.derive_decl.proofs.TagLaws.{alone-tag}
 
 -- the name of an identifier that stands for one
@@ -31,24 +28,9 @@ pub name_of-ident : (x y : Ident) (o : Option (List ℕ)) → option_map (named_
 name_of-ident x y None e = absurd (none-some y e)
 name_of-ident x y (Some n) e = ap (λ (z : Ident). Some z.text) (same_Some (named_at x n) y e)
 
-pub variant_names-are : (xs : List MixedEnumVariant) → variant_names (map variant_schema_view xs) ≡ texts (map (λ (x : MixedEnumVariant). x.ident) xs)
+pub variant_names-are : (xs : List WrittenVariant) → variant_names (map written_variant_view xs) ≡ texts (map (λ (x : WrittenVariant). x.ident) xs)
 variant_names-are [] = refl
 variant_names-are (x ∷ xs) = ap (λ ns. x.ident.text ∷ ns) (variant_names-are xs)
-
-variant_types-push : (xs : List VariantOf) (x : VariantOf) → variant_types (xs ++ x ∷ []) ≡ variant_types xs ++ types_of x.form
-variant_types-push [] x = append-nil (types_of x.form)
-variant_types-push (y ∷ ys) x = ap (λ ts. types_of y.form ++ ts) (variant_types-push ys x) ∙ sym (append_assoc (types_of y.form) (variant_types ys) (types_of x.form))
-
--- the types of the variants so far, and of one more
-pub types_more : {A : Type 0} (view : A → Open) (vs : List MixedEnumVariant) (i : ℕ) (v : MixedEnumVariant) (types more : List A) → i < length vs → v ≡ get_or vs i v → map view types ≡ variant_types (map variant_schema_view (take i vs)) →
-    map view more ≡ types_of (form_view v.form) → map view (types ++ more) ≡ variant_types (map variant_schema_view (take (i + 1) vs))
-types_more view vs i v types more l is e g =
-    map-append view types more
-    ∙ (λ j. e j ++ g j)
-    ∙ sym (variant_types-push (map variant_schema_view (take i vs)) (variant_schema_view v))
-    ∙ ap (λ (x : MixedEnumVariant). variant_types (map variant_schema_view (take i vs) ++ variant_schema_view x ∷ [])) is
-    ∙ sym (ap variant_types (map_push variant_schema_view (take i vs) (get_or vs i v)))
-    ∙ sym (ap (λ xs. variant_types (map variant_schema_view xs)) (take_more vs i v l))
 
 -- ---- names that are apart
 
@@ -58,17 +40,12 @@ apart-append tagging (x ∷ xs) ys h g = (h.0, apart-append tagging xs ys h.1 g)
 
 -- ---- variants without fields
 
--- the first of the rest, and what follows it
-pub units_at : (vs : List Variant) (i : ℕ) (v : Variant) → i < length vs → v ≡ get_or vs i v →
-    are_units (map variant_view (drop i vs)) ≡ (is_unit (variant_view v).fields && are_units (map variant_view (drop (i + 1) vs)))
-units_at vs i v h e = rw (add-one, drop-cons vs i v, ← e)
-
 module _ (around : Around) (rule : Option RenameRule) (tagging : Tagging) (e : DeriveError) where
   unit-named : (v : VariantItem) (fs : FieldItems) → v.fields ≡ fs → is_unit fs ≡ true → IsFaultyVariant around rule tagging v e → IsUnnamed around.rows rule tagging v e
   unit-named v fs is u (inl h) = h
   unit-named v (named fs) is u (inr h) = absurd (false≢true u)
   unit-named v (unnamed fs) is u (inr h) = absurd (false≢true u)
-  unit-named v unit is u (inr (inl h)) = absurd (subst (λ fs. AreFaulty around (serde_items v.attrs) v.ident fs e) is h)
+  unit-named v unit is u (inr (inl h)) = absurd (subst (λ fs. AreFaultyFields around (serde_items v.attrs) v.ident fs e) is h)
   unit-named v unit is u (inr (inr (form, of, refused))) =
       let same : no_fields ≡ form = same_Some no_fields form (sym (ap (form_of around (field_rules (serde_items v.attrs))) is) ∙ of) in
       absurd (alone-tag tagging v e (subst (λ f. IsMisplacedTag tagging v f e) (sym same) refused))
@@ -106,9 +83,8 @@ module _ (around : Around) (items : List SerdeItem) (x : Ident) (vs : List Varia
   pub enum_refused : (e : DeriveError) → AreFaultyVariants around rule tagging vs e → IsFaultyEnum around items x vs e
   enum_refused e fault = inr (tagging, told, subst (λ r. AreFaultyVariants around r tagging vs e) rules fault)
 
-  pub enum_faultless : RefusesNone (IsContainerRefusal items) → RefusesNone (AreFaultyVariants around rule tagging vs) → RefusesNone (IsFaultyEnum around items x vs)
-  enum_faultless allowed none e (inl (inl refused)) = allowed e refused
-  enum_faultless allowed none e (inl (inr (content, unfinished, first, refused))) = none-some tagging (sym (ap tagging_by unfinished) ∙ told)
+  pub enum_faultless : RefusesNone (IsFaultyTagging items x) → RefusesNone (AreFaultyVariants around rule tagging vs) → RefusesNone (IsFaultyEnum around items x vs)
+  enum_faultless allowed none e (inl refused) = allowed e refused
   enum_faultless allowed none e (inr (other, is, fault)) =
       none e (subst (λ r. AreFaultyVariants around r tagging vs e) (sym rules)
       (subst (λ t. AreFaultyVariants around (rename_rule items) t vs e) (same_Some other tagging (sym is ∙ told)) fault))

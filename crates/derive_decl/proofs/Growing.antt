@@ -6,10 +6,10 @@ use Rattle.std.proofs.lemmas.Option.{none-some, same_Some}
 use Rattle.std.specs.List.{AllByRecursion, cons_option}
 use Rattle.texts.specs.Lists.{Somewhere}
 use Rattle.scopes.specs.Names.{texts}
-use Rattle.derive_decl.specs.declared.member.Member.{Member}
+use Rattle.derive_decl.specs.declared.written_member.WrittenMember.{WrittenMember}
 use Rattle.shapes.specs.Declarations.{DeclarationOf, member_names, IsApartBody, AreApartBodies}
 use Rattle.derive_decl.specs.Resolved.{all_of}
-use Rattle.derive_decl.specs.Views.{member_view}
+use Rattle.derive_decl.specs.Views.{written_member_view}
 
 -- ---- one more
 
@@ -136,6 +136,6 @@ pub apart-push : (ss : List DeclarationOf) (s : DeclarationOf) → AreApartBodie
 apart-push [] s d h = (h, tt)
 apart-push (t ∷ ss) s d h = (d.0, apart-push ss s d.1 h)
 
-pub member_names-are : (ms : List Member) → member_names (map member_view ms) ≡ texts (map (λ (m : Member). m.ident) ms)
+pub member_names-are : (ms : List WrittenMember) → member_names (map written_member_view ms) ≡ texts (map (λ (m : WrittenMember). m.ident) ms)
 member_names-are [] = refl
 member_names-are (m ∷ ms) = ap (λ ns. m.ident.text ∷ ns) (member_names-are ms)

@@ -1,8 +1,6 @@
-pub mod Alike
 pub mod First
 pub mod Lifetimes
 pub mod Growing
-pub mod Members
 pub mod Rules
 pub mod TagLaws
 pub mod Texts

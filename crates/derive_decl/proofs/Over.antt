@@ -13,7 +13,7 @@ use Rattle.open_types.specs.Open.{Open}
 use Rattle.open_types.specs.Within.{AreAllOver}
 use Rattle.resolving.specs.Resolved.{type_of, ResolvedAreOver}
 use Rattle.scopes.specs.Names.{declared_names, texts, place_among}
-use Rattle.shapes.specs.Declarations.{MemberOf, FormOf, named_fields, unnamed_fields, no_fields, VariantOf, BodyOf, fields, units, variants, DeclarationOf, member_types, types_of, variant_types, body_types, declaration_names, declaration_at, parameters_in, AreFitting}
+use Rattle.shapes.specs.Declarations.{MemberOf, FormOf, named_fields, unnamed_fields, no_fields, VariantOf, BodyOf, fields, units, variants, DeclarationOf, member_types, form_types, variant_types, body_types, declaration_names, declaration_at, parameters_in, AreFitting}
 use Rattle.shapes.specs.declared.tagging.Tagging.{Tagging}
 use Rattle.derive_decl.specs.Variants.{tagging_in, are_units, kept_variants, variant_name}
 use Rattle.derive_decl.specs.Fields.{FieldRules, field_rules, kept, written_name}
@@ -125,33 +125,33 @@ module _ (over : ResolvedAreOver) where
         let j = joined (type_of around.known f.ty) (all_of (λ (g : FieldItem). type_of around.known g.ty) fs) ts e in
         subst AreTypesOver j.4 (over around.known n own below within f.ty j.0 j.2, types_over fs j.1 j.3)
 
-    form_over : (rules : FieldRules) (fs : FieldItems) (form : FormOf) → form_of around rules fs ≡ Some form → AreTypesOver (types_of form)
+    form_over : (rules : FieldRules) (fs : FieldItems) (form : FormOf) → form_of around rules fs ≡ Some form → AreTypesOver (form_types form)
     form_over rules (named fs) form e =
-        let m = mapped (named_fields rules.denies) (all_of (member_of around rules) (kept fs)) form e in subst (λ f. AreTypesOver (types_of f)) m.2 (members_over rules (kept fs) m.0 m.1)
+        let m = mapped (named_fields rules.denies) (all_of (member_of around rules) (kept fs)) form e in subst (λ f. AreTypesOver (form_types f)) m.2 (members_over rules (kept fs) m.0 m.1)
     form_over rules (unnamed []) form e = absurd (none-some form e)
     form_over rules (unnamed (f ∷ fs)) form e =
-        let m = mapped unnamed_fields (all_of (λ (g : FieldItem). type_of around.known g.ty) (f ∷ fs)) form e in subst (λ x. AreTypesOver (types_of x)) m.2 (types_over (f ∷ fs) m.0 m.1)
-    form_over rules unit form e = subst (λ f. AreTypesOver (types_of f)) (same_Some no_fields form e) tt
+        let m = mapped unnamed_fields (all_of (λ (g : FieldItem). type_of around.known g.ty) (f ∷ fs)) form e in subst (λ x. AreTypesOver (form_types x)) m.2 (types_over (f ∷ fs) m.0 m.1)
+    form_over rules unit form e = subst (λ f. AreTypesOver (form_types f)) (same_Some no_fields form e) tt
 
     both_over : (ts us : List Open) → AreTypesOver ts → AreTypesOver us → AreTypesOver (ts ++ us)
     both_over [] us h g = g
     both_over (t ∷ ts) us h g = (h.0, both_over ts us h.1 g)
 
     -- the form of a variant is that of its fields
-    variant_over : (rule : Option RenameRule) (tagging : Tagging) (v : VariantItem) (x : VariantOf) → variant_of around rule tagging v ≡ Some x → AreTypesOver (types_of x.form)
+    variant_over : (rule : Option RenameRule) (tagging : Tagging) (v : VariantItem) (x : VariantOf) → variant_of around rule tagging v ≡ Some x → AreTypesOver (form_types x.form)
     variant_over rule tagging v x e = by (variant_name around.rows rule tagging v) e
       where
-        by : (o : Option (List ℕ)) → option_and_then (λ name. option_map (variant_from v name) (form_of around (field_rules (serde_items v.attrs)) v.fields)) o ≡ Some x → AreTypesOver (types_of x.form)
+        by : (o : Option (List ℕ)) → option_and_then (λ name. option_map (variant_from v name) (form_of around (field_rules (serde_items v.attrs)) v.fields)) o ≡ Some x → AreTypesOver (form_types x.form)
         by None h = absurd (none-some x h)
         by (Some name) h =
             let m = mapped (variant_from v name) (form_of around (field_rules (serde_items v.attrs)) v.fields) x h in
-            subst (λ (y : VariantOf). AreTypesOver (types_of y.form)) m.2 (form_over (field_rules (serde_items v.attrs)) v.fields m.0 m.1)
+            subst (λ (y : VariantOf). AreTypesOver (form_types y.form)) m.2 (form_over (field_rules (serde_items v.attrs)) v.fields m.0 m.1)
 
     variants_over : (rule : Option RenameRule) (tagging : Tagging) (vs : List VariantItem) (xs : List VariantOf) → all_of (variant_of around rule tagging) vs ≡ Some xs → AreTypesOver (variant_types xs)
     variants_over rule tagging [] xs e = subst (λ ys. AreTypesOver (variant_types ys)) (same_Some [] xs e) tt
     variants_over rule tagging (v ∷ vs) xs e =
         let j = joined (variant_of around rule tagging v) (all_of (variant_of around rule tagging) vs) xs e in
-        subst (λ ys. AreTypesOver (variant_types ys)) j.4 (both_over (types_of j.0.form) (variant_types j.1) (variant_over rule tagging v j.0 j.2) (variants_over rule tagging vs j.1 j.3))
+        subst (λ ys. AreTypesOver (variant_types ys)) j.4 (both_over (form_types j.0.form) (variant_types j.1) (variant_over rule tagging v j.0 j.2) (variants_over rule tagging vs j.1 j.3))
 
     mixed_over : (rule : Option RenameRule) (vs : List VariantItem) (tagging : Tagging) (body : BodyOf) → mixed_of around rule vs tagging ≡ Some body → AreTypesOver (body_types body)
     mixed_over rule vs tagging body e =

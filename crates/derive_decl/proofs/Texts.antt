@@ -15,9 +15,9 @@ use Rattle.derive_decl.specs.Fields.{named_at}
 use Rattle.derive_decl.specs.Variants.{variant_name, variant_ident}
 use Rattle.derive_decl.specs.Resolved.{all_of}
 
-pub map-texts : {B : Type 0} (f : List ℕ → B) (xs : List Ident) → map (λ (x : Ident). f x.text) xs ≡ map f (texts xs)
-map-texts f [] = refl
-map-texts f (x ∷ xs) = ap (λ ys. f x.text ∷ ys) (map-texts f xs)
+pub texts_are : (xs : List Ident) → map (λ (x : Ident). x.text) xs ≡ texts xs
+texts_are [] = refl
+texts_are (x ∷ xs) = ap (λ ys. x.text ∷ ys) (texts_are xs)
 
 -- the names are the texts of the identifiers that stand for them
 pub names-are : (rows : List RenameRow) (rule : Option RenameRule) (tagging : Tagging) (vs : List VariantItem) (xs : List Ident) → all_of (variant_ident rows rule tagging) vs ≡ Some xs → all_of (variant_name rows rule tagging) vs ≡ Some (texts xs)

@@ -129,10 +129,10 @@ abbrev pub AreFaultyTypes : Around → Ident → List FieldItem → DeriveError 
 AreFaultyTypes around x fs e =
     Somewhere (λ f. IsFaultyType around f e) fs ⊎ ((fs ≡ []) × IsRefusal Arity x.span fieldless_message e)
 
-abbrev pub AreFaulty : Around → List SerdeItem → Ident → FieldItems → DeriveError → Type 0
-AreFaulty around items x (named fs) e = AreFaultyNamed around items fs e
-AreFaulty around items x (unnamed fs) e = AreFaultyTypes around x fs e
-AreFaulty around items x unit e = ⊥
+abbrev pub AreFaultyFields : Around → List SerdeItem → Ident → FieldItems → DeriveError → Type 0
+AreFaultyFields around items x (named fs) e = AreFaultyNamed around items fs e
+AreFaultyFields around items x (unnamed fs) e = AreFaultyTypes around x fs e
+AreFaultyFields around items x unit e = ⊥
 
 -- ---- enums
 
@@ -162,7 +162,7 @@ IsFaultyTag around tagging v e = (form : FormOf) × (form_of around (field_rules
 
 -- the error refuses the variant's fields, or the enum's tag beside them
 abbrev pub IsFaultyContent : Around → Tagging → VariantItem → DeriveError → Type 0
-IsFaultyContent around tagging v e = AreFaulty around (serde_items v.attrs) v.ident v.fields e ⊎ IsFaultyTag around tagging v e
+IsFaultyContent around tagging v e = AreFaultyFields around (serde_items v.attrs) v.ident v.fields e ⊎ IsFaultyTag around tagging v e
 
 -- the error refuses the variant: its name, its fields, or the tag beside them
 abbrev pub IsFaultyVariant : Around → Option RenameRule → Tagging → VariantItem → DeriveError → Type 0
@@ -183,7 +183,7 @@ IsFaultyEnum around items x vs e =
 
 -- the error refuses the body of the declaration of the name, before which serde's items stand
 abbrev pub IsFaultyBody : Around → List SerdeItem → Ident → BodyItem → DeriveError → Type 0
-IsFaultyBody around items x (struct_body fs) e = AreFaulty around items x fs e
+IsFaultyBody around items x (struct_body fs) e = AreFaultyFields around items x fs e
 IsFaultyBody around items x (enum_body vs) e = IsFaultyEnum around items x vs e
 
 -- the error refuses the declaration of these attributes and the name: for an attribute that nothing is derived from, or else for its body

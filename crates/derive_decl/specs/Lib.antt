@@ -1,7 +1,6 @@
 pub mod Fields
 pub mod Faults
 pub mod Resolved
-pub mod Schemas
 pub mod Tags
 pub mod Variants
 pub mod Views

@@ -39,7 +39,7 @@ is_unit (named fs) = false
 is_unit (unnamed fs) = false
 is_unit unit = true
 
--- no variant has fields, skipped ones too
+-- no variant has braces or parentheses, even empty ones; skipped variants count too
 abbrev pub are_units : List VariantItem → Bool
 are_units vs = list_all (λ v. is_unit v.fields) vs
 

@@ -72,7 +72,7 @@ fn distinct_names(alloc: Global, generics: &Generics) -> Result<(), DeriveError>
 
 /// Refuses generics in which a type or constant parameter has the name of one before it, or a lifetime has, at the first
 /// that has. The kind is `DuplicateName`.
-pub(crate) fn distinct_parameters(alloc: Global, generics: &Generics) -> Result<(), DeriveError>
+pub fn distinct_parameters(alloc: Global, generics: &Generics) -> Result<(), DeriveError>
     ensures once { IfOk result
         (λ _. RefusesNone (AreFaultyParameters (generics_view generics.now))) }
     ensures refused { Refuses result (AreFaultyParameters (generics_view generics.now)) }

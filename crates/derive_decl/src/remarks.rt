@@ -32,8 +32,8 @@ fn description_of(alloc: Global, attributes: &[Attribute]) -> Result<Option<Text
     ComponentDescription::CommentAttributes(&comments).text(alloc)
 }
 
-/// What the attributes say of what they stand before.
-pub(crate) fn remarks_of(alloc: Global, attributes: &[Attribute]) -> Result<Remarks, AllocError>
+/// What the attributes say of the declaration, the variant or the field that they stand before.
+pub fn remarks_of(alloc: Global, attributes: &[Attribute]) -> Result<Remarks, AllocError>
     ensures { IfOk result (λ remarks. remarks ≡ remarks_of (map attribute_view attributes.now)) }
 {
     Ok(Remarks {

@@ -1,20 +1,18 @@
 //! Where the tag of a variant can stand.
 
-ghost use Rattle.std.specs.Prelude.{◌≡◌, ℕ, List, map, IfOk, MatchOption};
+ghost use Rattle.std.specs.Prelude.{◌≡◌, ℕ, List, map, IfOk};
 ghost use Rattle.diag.specs.Refusal.{IsErrorFor, IsHelpRefusal, Refuses, RefusesNone};
 ghost use Rattle.texts.specs.Names.{is_in, IsDistinct};
 ghost use Rattle.syntax.specs.Items.{variant_view};
 ghost use Rattle.open_types.specs.Open.{open_view};
-ghost use Rattle.shapes.specs.Declarations.{member_names, names_of, tagged_names, unnamed_fields};
-ghost use Rattle.derive_decl.specs.Tags.{is_tuple, can_be_tagged, IsTakenTag, IsMisplacedTag, tuple_message, tuple_help};
-ghost use Rattle.derive_decl.specs.Views.{member_view, form_view};
+ghost use Rattle.shapes.specs.Declarations.{member_names, form_names, tagged_names, unnamed_fields};
+ghost use Rattle.derive_decl.specs.Tags.{is_tuple, can_be_tagged, tag_is_taken, IsMisplacedTag, tuple_message, tuple_help};
+ghost use Rattle.shapes.specs.Views.{member_view, form_view};
 
-use crate::form_schema::FormSchema;
-use crate::member::Member;
 use diag::{DeriveError, Kind};
 use open_types::OpenType;
 use scopes::duplicate_name;
-use shapes::Tagging;
+use shapes::{Form, Member, Tagging};
 use std::alloc::Global;
 use syntax::Variant;
 use texts::{Span, Text};
@@ -29,7 +27,7 @@ fn is_tuple(ty: &OpenType) -> bool
     }
 }
 
-/// Whether a tag can stand among the members of what unnamed fields of these types are read as.
+/// Whether unnamed fields of these types are neither several nor a tuple or the unit: no other type is looked into.
 fn have_members(types: &[OpenType]) -> bool
     ensures { (tag : List ℕ) → result
         ≡ can_be_tagged (Tagging.Internal tag) (unnamed_fields (map open_view types.now)) }
@@ -41,14 +39,12 @@ fn have_members(types: &[OpenType]) -> bool
     }
 }
 
-/// Whether a tag can stand where the representation puts it.
-fn can_be_tagged(tagging: &Tagging, form: &FormSchema) -> bool
+/// Whether the tag is not one alone beside several unnamed fields, a tuple or the unit.
+fn can_be_tagged(tagging: &Tagging, form: &Form) -> bool
     ensures { result ≡ can_be_tagged tagging.now (form_view form.now) }
 {
     match (tagging, form) {
-        (Tagging::Internal { .. }, FormSchema::Unnamed(form)) => have_members(
-            form.types.as_slice(),
-        ),
+        (Tagging::Internal { .. }, Form::Unnamed(types)) => have_members(types.as_slice()),
         _ => true,
     }
 }
@@ -58,35 +54,28 @@ fn is_member(name: &Text, members: &[Member]) -> bool
     ensures { result ≡ is_in name.now (member_names (map member_view members.now)) }
 {
     for member in members {
-        if *name == member.ident.text {
+        if *name == member.name {
             return true;
         }
     }
     false
 }
 
-/// The tag, where it has the name of what stands beside it: of a member, or of the content.
-fn taken_tag<'t>(tagging: &'t Tagging, form: &FormSchema) -> Option<&'t Text>
-    ensures { MatchOption result
-        (IsDistinct (names_of (form_view form.now))
-        → IsDistinct (tagged_names tagging.now (form_view form.now)))
-        (λ tag. IsTakenTag tagging.now (form_view form.now) tag.now) }
+/// Whether the tag has the name of what stands beside it: of a member, or of the content.
+fn tag_is_taken(tagging: &Tagging, form: &Form) -> bool
+    ensures { result ≡ tag_is_taken tagging.now (form_view form.now) }
 {
     match (tagging, form) {
-        (Tagging::Internal { tag }, FormSchema::Named(form)) => {
-            is_member(tag, form.members.as_slice()).then_some(tag)
+        (Tagging::Internal { tag }, Form::Named { members, .. }) => {
+            is_member(tag, members.as_slice())
         }
-        (Tagging::Adjacent { tag, content }, FormSchema::Named(_)) => {
-            (tag == content).then_some(tag)
-        }
-        (Tagging::Adjacent { tag, content }, FormSchema::Unnamed(_)) => {
-            (tag == content).then_some(tag)
-        }
-        _ => None,
+        (Tagging::Adjacent { tag, content }, Form::Named { .. }) => tag == content,
+        (Tagging::Adjacent { tag, content }, Form::Unnamed(_)) => tag == content,
+        _ => false,
     }
 }
 
-/// The refusal of a tag among the elements of a list.
+/// The refusal of a tag among several fields, in a tuple or in the unit.
 fn tagged_tuple(alloc: Global, span: Span) -> DeriveError
     ensures { IsErrorFor (IsHelpRefusal Kind.TaggedTuple span tuple_message tuple_help) result }
 {
@@ -101,11 +90,11 @@ pub(crate) fn tag_stands(
     alloc: Global,
     tagging: &Tagging,
     variant: &Variant,
-    form: &FormSchema,
+    form: &Form,
 ) -> Result<(), DeriveError>
-    ensures apart { IfOk result (λ _. IsDistinct (names_of (form_view form.now))
+    ensures apart { IfOk result (λ _. IsDistinct (form_names (form_view form.now))
         → IsDistinct (tagged_names tagging.now (form_view form.now))) }
-    ensures faultless { IfOk result (λ _. IsDistinct (names_of (form_view form.now))
+    ensures faultless { IfOk result (λ _. IsDistinct (form_names (form_view form.now))
         → RefusesNone (IsMisplacedTag tagging.now (variant_view variant.now) (form_view form.now))) }
     ensures refused { Refuses result
         (IsMisplacedTag tagging.now (variant_view variant.now) (form_view form.now)) }
@@ -113,8 +102,13 @@ pub(crate) fn tag_stands(
     if !can_be_tagged(tagging, form) {
         return Err(tagged_tuple(alloc, variant.span));
     }
-    match taken_tag(tagging, form) {
-        Some(tag) => Err(duplicate_name(alloc, tag, variant.ident.span)?),
-        None => Ok(()),
+    if !tag_is_taken(tagging, form) {
+        return Ok(());
+    }
+    match tagging {
+        Tagging::Internal { tag } | Tagging::Adjacent { tag, .. } => {
+            Err(duplicate_name(alloc, tag, variant.ident.span)?)
+        }
+        Tagging::External | Tagging::Untagged => Ok(()),
     }
 }

@@ -2,24 +2,59 @@
 
 ghost use Rattle.std.specs.Prelude.{◌≡◌, map, IfOk, Some};
 ghost use Rattle.diag.specs.Refusal.{Refuses, RefusesNone};
-ghost use Rattle.syntax.specs.Items.{declaration_view, declarations_view};
+ghost use Rattle.syntax.specs.Items.{body_view, declaration_view, declarations_view};
 ghost use Rattle.syntax.specs.Named.{AreNamed, IsNamedBody};
 ghost use Rattle.scopes.specs.Names.{declared_names};
 ghost use Rattle.shapes.specs.Declarations.{declaration_names, AreFitting, IsApartBody, AreApartBodies};
+ghost use Rattle.shapes.specs.Views.{declaration_view as resolved_view};
 ghost use Rattle.derive_decl.specs.Resolved.{resolved_of};
-ghost use Rattle.derive_decl.specs.Faults.{IsFaultyItem, AreFaultyItems};
-ghost use Rattle.derive_decl.specs.Views.{known, resolved_view};
-ghost use Rattle.derive_decl.specs.Whole.{resolved_declarations};
+ghost use Rattle.derive_decl.specs.Faults.{IsFaultyDeclaration, IsFaultyItem, AreFaultyItems};
+ghost use Rattle.derive_decl.specs.Views.{attributes_of, known};
+ghost use Rattle.derive_decl.specs.Whole.{IsResolved, resolved_declarations};
 
+use crate::bodies::resolve_body;
 use crate::parameters::distinct_parameters;
-use crate::resolved::Resolved;
-use crate::schema::Schema;
+use crate::remarks::remarks_of;
+use crate::root::Root;
 use configuration::Config;
 use diag::DeriveError;
 use scopes::{Container, Places, Scope};
+use shapes::Declaration as Resolved;
 use std::alloc::Global;
-use syntax::Declaration;
+use syntax::{Body, Declaration};
 use texts::List;
+
+/// What the declaration of this body is resolved to, where its generic parameters are not looked at.
+///
+/// A refusal is of kind `Syntax`, at the first attribute of the declaration, its fields or its variants from which nothing is
+/// derived. Else it is `UnknownType`, `Arity`, `BadArgument` or `TypeSize`, for the type of a field; or `Arity`, at the name
+/// of a declaration or variant whose form is unnamed fields without a field. Of an enum, and of a struct or a variant with
+/// named fields, it may be `SerdeTag` or `BadValue`, for serde's attributes of it; or, of the fields or variants that are
+/// kept, `MissingRow`, at an identifier whose name is that of a row that there is not; or `DuplicateName`, at the first
+/// identifier whose name stands before it. Of a variant that a tag tells it may be `TaggedTuple`, at the variant, where a
+/// tag alone should stand among several unnamed fields, in a tuple or in the unit; or `DuplicateName`, at its identifier,
+/// where the tag has the name of what stands beside it.
+pub fn resolve_declaration(
+    alloc: Global,
+    root: &Root<'_>,
+    body: &Body,
+) -> Result<Resolved, DeriveError>
+    requires { IsNamedBody (body_view body.now) }
+    ensures resolved { IfOk result
+        (λ s. IsResolved (known root.now.container.now) (attributes_of root.now) root.now.ident.now
+        (body_view body.now) (resolved_view s)) }
+    ensures refused { Refuses result
+        (IsFaultyDeclaration (known root.now.container.now) (attributes_of root.now)
+        root.now.ident.now (body_view body.now)) }
+{
+    let body = resolve_body(alloc, root, body)?;
+    Ok(Resolved {
+        name: root.ident.text.copy(alloc)?,
+        parameters: root.container.scope.count,
+        remarks: remarks_of(alloc, root.attributes)?,
+        body,
+    })
+}
 
 /// What the declaration is resolved to.
 fn resolved_of(
@@ -38,19 +73,18 @@ fn resolved_of(
         (IsFaultyItem (known container.now) (declaration_view declaration.now)) }
 {
     distinct_parameters(alloc, &declaration.generics)?;
-    let schema = Schema {
-        body: &declaration.body,
-        attributes: declaration.attrs.as_slice(),
+    let root = Root {
         ident: &declaration.ident,
+        attributes: declaration.attrs.as_slice(),
         container,
     };
-    schema.resolve_distinct(alloc)
+    resolve_declaration(alloc, &root, &declaration.body)
 }
 
 /// What the declarations are resolved to, in their order, where each field in braces has a name.
 ///
 /// It refuses a declaration in which a type or constant parameter has the name of one before it, or a lifetime has, with
-/// the kind `DuplicateName`, at the first that has; and one that `Schema::resolve` refuses, as that does.
+/// the kind `DuplicateName`, at the first that has; and one that `resolve_declaration` refuses, as that does.
 pub fn resolved_declarations(
     alloc: Global,
     places: &Places<'_>,

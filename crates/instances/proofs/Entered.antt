@@ -10,7 +10,7 @@ use Rattle.type_table.specs.Types.{type_at, AllBelow, AreApart, IsInstance, Stan
 use Rattle.shapes.specs.Declarations.{DeclarationOf}
 use Rattle.shapes.specs.InstanceShape.{IsReachable}
 use Rattle.instances.specs.Lists.{IsOneOf, AreDifferent}
-use Rattle.instances.specs.Entering.{IsMarked, AreMarked, IsAmong, IsLonger, AreHeld, AreEntered, AreAdded}
+use Rattle.instances.specs.Entering.{IsMarked, AreMarked, IsAmong, IsLonger, AreHeld, AreEntered}
 
 -- the number behind one, where it is there
 abbrev pub after : Option ℕ → ℕ
@@ -21,10 +21,6 @@ after (Some n) = suc n
 pub instance-stands : (t : Open) (place : ℕ) → declaration_of t ≡ Some place → StandsIn t t × (declared_place t ≡ place)
 instance-stands (named d ts) place e = (inl refl, same_Some d place e)
 instance-stands _ place e = absurd (none-some place e)
-
-pub no-instance : (t : Open) → declaration_of t ≡ None → ¬ IsInstance t
-no-instance (named d ts) e h = none-some d (sym e)
-no-instance _ e h = h
 
 -- a size that is counted no further than a bound
 pub counted : (size bound most : ℕ) → min size bound ≤ most → most < bound → size ≤ most
@@ -159,30 +155,6 @@ marks-kept : (marks marks2 : List Bool) (ns : List ℕ) → ((n : ℕ) → IsMar
 marks-kept marks marks2 [] f h = tt
 marks-kept marks marks2 (n ∷ ns) f h = (f n h.0, marks-kept marks marks2 ns f h.1)
 
--- ---- what is added
-
-pub added-none : (marks : List Bool) (is : List ℕ) (ns : List ℕ) → AreMarked marks ns → AreAdded marks is marks is ns
-added-none marks is ns h = record { marked = h; kept = λ n m. m; above = λ n b m. m; room = refl; longer = longer-itself is }
-
-pub added-twice : (ma mb mc : List Bool) (a b c : List ℕ) (ms ns : List ℕ) → AreAdded ma a mb b ms → AreAdded mb b mc c ns → AreAdded ma a mc c (ms ++ ns)
-added-twice ma mb mc a b c ms ns f g = record {
-  marked = marks-left mc ms ns (marks-kept mb mc ms g.kept f.marked) g.marked;
-  kept = λ n m. g.kept n (f.kept n m);
-  above = λ n h m. f.above n (below-left n ms ns h) (g.above n (below-right n ms ns h) m);
-  room = g.room ∙ f.room;
-  longer = longer-twice a b c f.longer g.longer;
-}
-
--- parts that were added count no more once the whole, behind which they stand, was
-pub added-whole : (ma mb mc : List Bool) (a b c : List ℕ) (ms : List ℕ) (id : ℕ) → AllBelow id ms → AreAdded ma a mb b ms → AreAdded mb b mc c (id ∷ []) → AreAdded ma a mc c (id ∷ [])
-added-whole ma mb mc a b c ms id l f g = record {
-  marked = g.marked;
-  kept = λ n m. g.kept n (f.kept n m);
-  above = λ n h m. f.above n (below-more id n ms (omega (arith, h.0)) l) (g.above n h m);
-  room = g.room ∙ f.room;
-  longer = longer-twice a b c f.longer g.longer;
-}
-
 -- ---- what is entered
 
 module _ (ss : List DeclarationOf) (limit most : ℕ) where
@@ -199,44 +171,6 @@ module _ (ss : List DeclarationOf) (limit most : ℕ) where
 
     set-room : length (set marks id true) ≡ length marks
     set-room = length-set marks id true
-
-    set-above : (n : ℕ) → AllBelow n (id ∷ []) → IsMarked (set marks id true) n → IsMarked marks n
-    set-above n l m = by (mark-new marks id id-marks n m)
-      where
-        by : (n ≡ id) ⊎ IsMarked marks n → IsMarked marks n
-        by (inl e) = let k : id < n = l.0 in absurd (omega (arith, k, e))
-        by (inr h) = h
-
-    pub added-one : (js : List ℕ) → IsLonger is js → AreAdded marks is (set marks id true) js (id ∷ [])
-    added-one js longer = record { marked = (mark-set marks id id-marks, tt); kept = mark-kept marks id id-marks; above = set-above; room = set-room; longer = longer }
-
-    -- a type that is no instance
-    module _ (plain : ¬ IsInstance (type_at known id)) where
-      plain-held : (u : Open) → StandsIn u (type_at known id) → IsOneOf u (map (type_at known) is)
-      plain-held u s = by ((by-parts u (type_at known id)).0 s)
-        where
-          by : ((u ≡ type_at known id) × IsInstance (type_at known id)) ⊎ StandsInOne u (parts_of (type_at known id)) → IsOneOf u (map (type_at known) is)
-          by (inl h) = absurd (plain h.1)
-          by (inr h) = parts u h
-
-      plain-closed : (n : ℕ) → IsMarked (set marks id true) n → (u : Open) → StandsIn u (type_at known n) → IsOneOf u (map (type_at known) is)
-      plain-closed n m u s = by (mark-new marks id id-marks n m)
-        where
-          by : (n ≡ id) ⊎ IsMarked marks n → IsOneOf u (map (type_at known) is)
-          by (inl e) = plain-held u (subst (λ k. StandsIn u (type_at known k)) e s)
-          by (inr h) = entered.closed n h u s
-
-      pub entered-plain : AreEntered ss known limit most (set marks id true) is
-      entered-plain = record {
-        room = omega (arith, set-room, entered.room);
-        below = entered.below;
-        closed = plain-closed;
-        held = λ n a. mark-kept marks id id-marks n (entered.held n a);
-        different = entered.different;
-        reached = entered.reached;
-        few = entered.few;
-        small = entered.small;
-      }
 
     -- an instance
     module _ (apart : AreApart known) (fresh : ¬ IsMarked marks id) (reached : IsReachable ss (type_at known id)) where

@@ -7,7 +7,7 @@ use Rattle.open_types.specs.Open.{Open}
 use Rattle.shapes.specs.Declarations.{DeclarationOf}
 use Rattle.shapes.specs.InstanceNames.{instance_name}
 use Rattle.instances.specs.Lists.{IsOneOf, instance_at, AreDifferent}
-use Rattle.instances.specs.Names.{names_of, DistinctNamesDiffer, NumbersDiffer}
+use Rattle.instances.specs.Names.{instance_names, DistinctNamesDiffer, NumbersDiffer}
 
 in-left : (a b : Bool) → a ≡ true → a || b ≡ true
 in-left true b e = refl
@@ -21,15 +21,15 @@ module _ (ss : List DeclarationOf) where
   abbrev name : Open → List ℕ
   name = instance_name ss
 
-  name-in : (u : Open) (is : List Open) → IsOneOf u is → is_in (name u) (names_of ss is) ≡ true
+  name-in : (u : Open) (is : List Open) → IsOneOf u is → is_in (name u) (instance_names ss is) ≡ true
   name-in u [] o = absurd o
-  name-in u (i ∷ is) (inl e) = in-left (bytes_eq (name u) (name i)) (is_in (name u) (names_of ss is)) ((bytes_eq-Decides (name u) (name i)).1 (ap name e))
-  name-in u (i ∷ is) (inr o) = in-right (bytes_eq (name u) (name i)) (is_in (name u) (names_of ss is)) (name-in u is o)
+  name-in u (i ∷ is) (inl e) = in-left (bytes_eq (name u) (name i)) (is_in (name u) (instance_names ss is)) ((bytes_eq-Decides (name u) (name i)).1 (ap name e))
+  name-in u (i ∷ is) (inr o) = in-right (bytes_eq (name u) (name i)) (is_in (name u) (instance_names ss is)) (name-in u is o)
 
-  never : (t u : Open) (is : List Open) → is_in (name t) (names_of ss is) ≡ false → IsOneOf u is → name t ≡ name u → ⊥
-  never t u is fresh o e = false≢true (sym fresh ∙ ap (λ n. is_in n (names_of ss is)) e ∙ name-in u is o)
+  never : (t u : Open) (is : List Open) → is_in (name t) (instance_names ss is) ≡ false → IsOneOf u is → name t ≡ name u → ⊥
+  never t u is fresh o e = false≢true (sym fresh ∙ ap (λ n. is_in n (instance_names ss is)) e ∙ name-in u is o)
 
-  one-name : (is : List Open) → IsDistinct (names_of ss is) → (t u : Open) → IsOneOf t is → IsOneOf u is → name t ≡ name u → t ≡ u
+  one-name : (is : List Open) → IsDistinct (instance_names ss is) → (t u : Open) → IsOneOf t is → IsOneOf u is → name t ≡ name u → t ≡ u
   one-name [] d t u o p e = absurd o
   one-name (i ∷ is) d t u (inl a) (inl b) e = a ∙ sym b
   one-name (i ∷ is) d t u (inl a) (inr p) e = absurd (never i u is d.0 p (sym (ap name a) ∙ e))

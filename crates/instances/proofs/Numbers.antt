@@ -1,7 +1,7 @@
 -- Numbers of instances, as types of a table.
-use Rattle.std.proofs.Common.{ℕ, zero, suc, ◌<◌, ◌==◌, List, [], ◌∷◌, length, map, get_or, drop, set, drop-cons, Bool, true, false, cond, Option, Some, None, option_map, is_some, IsTrue, inl, inr, ◌≡◌, refl, ap, sym, subst, ◌∙◌, arith}
+use Rattle.std.proofs.Common.{ℕ, zero, suc, ◌<◌, ◌==◌, List, [], ◌∷◌, length, map, get_or, Bool, true, false, cond, Option, Some, None, option_map, is_some, IsTrue, inl, inr, ◌≡◌, refl, ap, sym, subst, ◌∙◌, arith}
 use Rattle.std.proofs.lemmas.Bool.{false≢true, eqb-true, eq-eqb}
-use Rattle.std.proofs.lemmas.List.{length-map, drop_all, get_or-set_same, get_or-set_other}
+use Rattle.std.proofs.lemmas.List.{length-map}
 use Rattle.std.proofs.lemmas.Option.{none-some, same_Some}
 use Rattle.open_types.specs.Open.{Open, opens_of, more_types}
 use Rattle.open_types.specs.Same.{same_type}
@@ -93,18 +93,6 @@ later-places at (m ∷ ms) n = next-place at (n == m) (place_from (suc (suc at))
 pub all-placed : (ms : List ℕ) (n : ℕ) → place_from 0 ms n ≡ place_among ms n
 all-placed [] n = refl
 all-placed (m ∷ ms) n = ap (cond (n == m) (Some 0)) (later-places 0 ms n ∙ ap (option_map suc) (all-placed ms n))
-
-pub none-from : (ids : List ℕ) (n : ℕ) → place_from (length ids) (drop (length ids) ids) n ≡ None
-none-from ids n = ap (λ ms. place_from (length ids) ms n) (drop_all (length ids) ids (omega arith))
-
--- one number more is entered
-pub one-placed : (numbers : List (Option ℕ)) (ids : List ℕ) (at id n : ℕ) → at < length ids → id ≡ get_or ids at id → id < length numbers → get_or numbers n None ≡ place_from (suc at) (drop (suc at) ids) n →
-    get_or (set numbers id (Some at)) n None ≡ place_from at (drop at ids) n
-one-placed numbers ids at id n l e within before = by (n == id) refl ∙ sym (ap (λ ms. place_from at ms n) (drop-cons ids at id l ∙ ap (λ m. m ∷ drop (suc at) ids) (sym e)))
-  where
-    by : (b : Bool) → (n == id) ≡ b → get_or (set numbers id (Some at)) n None ≡ cond (n == id) (Some at) (place_from (suc at) (drop (suc at) ids) n)
-    by true q = ap (λ m. get_or (set numbers id (Some at)) m None) (eqb-true n id q) ∙ get_or-set_same numbers id (Some at) None within ∙ sym (λ k. cond (q k) (Some at) (place_from (suc at) (drop (suc at) ids) n))
-    by false q = get_or-set_other numbers id n (Some at) None (λ same. false≢true (sym q ∙ eq-eqb n id same)) ∙ before ∙ sym (λ k. cond (q k) (Some at) (place_from (suc at) (drop (suc at) ids) n))
 
 -- ---- arguments
 

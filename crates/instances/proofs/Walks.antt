@@ -6,18 +6,18 @@ use Rattle.open_types.specs.Open.{Open, Opens, leaf, any_value, free_object, uni
 use Rattle.open_types.specs.Instances.{StandsIn, StandsInOne, declared_place, arguments_of, count}
 use Rattle.open_types.specs.Within.{IsOver, AreOver, AreAllOver}
 use Rattle.type_table.specs.Types.{type_at, types_at, AllBelow, IsFront}
-use Rattle.shapes.specs.Declarations.{MemberOf, FormOf, named_fields, unnamed_fields, no_fields, VariantOf, BodyOf, fields, units, variants, DeclarationOf, declaration_at, parameters_in, member_types, types_of, variant_types, body_types}
+use Rattle.shapes.specs.Declarations.{MemberOf, FormOf, named_fields, unnamed_fields, no_fields, VariantOf, BodyOf, fields, units, variants, DeclarationOf, declaration_at, parameters_in, member_types, form_types, variant_types, body_types}
 use Rattle.shapes.specs.Instances.{member_over, form_over, variant_over, body_over, places_at}
 use Rattle.shapes.specs.InstanceShape.{IsReachable, IsRoot, root}
 use Rattle.shapes.specs.Declarations.{AreFitting}
 use Rattle.instances.specs.Fitting.{IsFit}
 use Rattle.instances.specs.Lists.{IsOneOf, AreDifferent, instance_at, IsWhole}
 use Rattle.instances.specs.Walk.{AreReached}
-use Rattle.instances.specs.Entering.{AreHeld, IsLonger, AreEntered, AreAdded, AreFound, IsWalked, root_at, roots_among}
+use Rattle.instances.specs.Entering.{AreHeld, IsLonger, AreEntered, AreFound, IsWalked, root_at, roots_among}
 use Rattle.instances.specs.declared.bounds.Bounds.{Bounds}
 use Rattle.instances.specs.declared.enter.Found.{Found}
 use Rattle.instances.proofs.Lists.{whole-instances}
-use Rattle.instances.proofs.Entered.{one-left, stands-either, stands-left, stands-right, marked-within, marked-held, longer-itself, longer-twice}
+use Rattle.instances.proofs.Entered.{one-left, stands-either, stands-left, stands-right, marked-within, longer-itself, longer-twice}
 
 -- ---- a table that grows
 
@@ -72,19 +72,6 @@ module _ (ss : List DeclarationOf) (limit most : ℕ) where
         small = λ t o. e.small t (subst (IsOneOf t) (sym same) o);
       }
 
-  -- and where marks that are not set are added
-  pub entered-grown : (known : List Open) (marks marks2 : List Bool) (is : List ℕ) → length marks2 ≡ length known → ((n : ℕ) → get_or marks2 n false ≡ get_or marks n false) → AreEntered ss known limit most marks is → AreEntered ss known limit most marks2 is
-  entered-grown known marks marks2 is many same e = record {
-    room = omega (arith, many);
-    below = e.below;
-    closed = λ n m. e.closed n (sym (same n) ∙ m);
-    held = λ n a. same n ∙ e.held n a;
-    different = e.different;
-    reached = e.reached;
-    few = e.few;
-    small = e.small;
-  }
-
 -- ---- what is walked
 
 -- with the instances, those of a longer list
@@ -111,15 +98,6 @@ module _ (ss : List DeclarationOf) (bounds : Bounds) where
   pub walked-before : (a b c : List Open) (old : List ℕ) (new : Found) (ts : List Open) → IsFront a b → IsWalked ss bounds b old c new ts → IsWalked ss bounds a old c new ts
   walked-before a b c old new ts f g = record { found = g.found; front = front-twice a b c f g.front; longer = g.longer; held = g.held }
 
-  -- one type was entered
-  pub walked-one : (known : List Open) (old new : Found) (marks : List Bool) (id : ℕ) → AreFound ss known bounds new → AreAdded marks old.instances new.entered.items new.instances (id ∷ []) → IsWalked ss bounds known old.instances known new (map (type_at known) (id ∷ []))
-  walked-one known old new marks id e a = record {
-    found = e;
-    front = front-itself known;
-    longer = a.longer;
-    held = marked-held ss bounds.limit bounds.most known new.entered.items new.instances e (id ∷ []) a.marked;
-  }
-
 -- ---- places
 
 module _ (args : Opens) where
@@ -130,14 +108,14 @@ module _ (args : Opens) where
   members-put [] = refl
   members-put (m ∷ ms) = ap (λ ts. put m.of ∷ ts) (members-put ms)
 
-  form-put : (form : FormOf) → types_of (form_over args form) ≡ map put (types_of form)
+  form-put : (form : FormOf) → form_types (form_over args form) ≡ map put (form_types form)
   form-put (named_fields denies ms) = members-put ms
   form-put (unnamed_fields ts) = refl
   form-put no_fields = refl
 
   variants-put : (xs : List VariantOf) → variant_types (map (variant_over args) xs) ≡ map put (variant_types xs)
   variants-put [] = refl
-  variants-put (x ∷ xs) = (λ i. form-put x.form i ++ variants-put xs i) ∙ sym (map-append put (types_of x.form) (variant_types xs))
+  variants-put (x ∷ xs) = (λ i. form-put x.form i ++ variants-put xs i) ∙ sym (map-append put (form_types x.form) (variant_types xs))
 
   -- the types of the places with the arguments put in
   pub places-over : (body : BodyOf) → body_types (body_over args body) ≡ map put (body_types body)

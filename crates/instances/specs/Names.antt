@@ -7,8 +7,8 @@ use Rattle.shapes.specs.InstanceShape.{IsReachable}
 use Rattle.shapes.specs.InstanceNames.{instance_name}
 use Rattle.instances.specs.Lists.{instance_at, AreInstances}
 
-abbrev pub names_of : List DeclarationOf → List Open → List (List ℕ)
-names_of ss is = map (instance_name ss) is
+abbrev pub instance_names : List DeclarationOf → List Open → List (List ℕ)
+instance_names ss is = map (instance_name ss) is
 
 -- two reachable instances of one name are one
 abbrev pub NamesDiffer : List DeclarationOf → Type 0
@@ -20,7 +20,7 @@ IsClash ss is m n = (m < n) × (n < length is) × (instance_name ss (instance_at
 
 -- The law: where the names of all instances are distinct, reachable instances of one name are one.
 abbrev pub DistinctNamesDiffer : Type 0
-DistinctNamesDiffer = (ss : List DeclarationOf) (is : List Open) → AreInstances ss is → IsDistinct (names_of ss is) → NamesDiffer ss
+DistinctNamesDiffer = (ss : List DeclarationOf) (is : List Open) → AreInstances ss is → IsDistinct (instance_names ss is) → NamesDiffer ss
 
 -- The law: the instances of two numbers are reachable, and differ.
 abbrev pub NumbersDiffer : Type 0

@@ -3,12 +3,13 @@
 ghost use Rattle.std.specs.Prelude.{◌≡◌, ◌<◌, ◌≤◌, ℕ, [], ◌∷◌, Bool, false, Some, length, map, get_or, OnOk, IfErr};
 ghost use Rattle.type_table.specs.Types.{type_at, AllBelow, declaration_of, parts_of};
 ghost use Rattle.type_table.specs.Types.{number_in as numbers_of};
+ghost use Rattle.shapes.specs.Views.{declaration_view};
 ghost use Rattle.instances.specs.Walk.{IsWalkError};
 ghost use Rattle.instances.specs.Entering.{IsMarked, AreAllReached, AreHeld, AreFound, AreFoundMore};
 
 use crate::bounds::Bounds;
 use crate::walk::WalkError;
-use shapes::Declared;
+use shapes::Declaration;
 use std::alloc::AllocError;
 use texts::List;
 use type_table::{TypeId, Types};
@@ -36,8 +37,8 @@ pub(crate) fn grow(marks: &mut Vec<bool>, many: usize) -> Result<(), AllocError>
 
 /// Enters the type, behind its parts. The declarations are for contracts alone. It recurses as deep as the type nests.
 #[cycle(enter)]
-pub(crate) fn enter<D: Declared>(
-    declared: &[D],
+pub(crate) fn enter(
+    declared: &[Declaration],
     types: &Types,
     bounds: Bounds,
     found: &mut Found,
@@ -45,14 +46,14 @@ pub(crate) fn enter<D: Declared>(
 ) -> Result<(), WalkError>
     requires within { id < length types.now }
     requires room { length found.old.entered.items ≡ length types.now }
-    requires found { AreFound (map D.declaration declared.now) types.now bounds found.old }
-    requires reached { AreAllReached (map D.declaration declared.now)
+    requires found { AreFound (map declaration_view declared.now) types.now bounds found.old }
+    requires reached { AreAllReached (map declaration_view declared.now)
         (map (type_at types.now) (id ∷ [])) }
     ensures found { OnOk result
-        (AreFound (map D.declaration declared.now) types.now bounds found.new) }
+        (AreFound (map declaration_view declared.now) types.now bounds found.new) }
     ensures more { OnOk result (AreFoundMore found.old found.new (id ∷ [])) }
     ensures beyond { IfErr result
-        (IsWalkError (map D.declaration declared.now) bounds.limit bounds.most) }
+        (IsWalkError (map declaration_view declared.now) bounds.limit bounds.most) }
 {
     if found.entered[id.number()] {
         return Ok(());
@@ -65,8 +66,8 @@ pub(crate) fn enter<D: Declared>(
 
 /// Enters a part, where there is one.
 #[cycle(enter)]
-fn enter_part<D: Declared>(
-    declared: &[D],
+fn enter_part(
+    declared: &[Declaration],
     types: &Types,
     bounds: Bounds,
     found: &mut Found,
@@ -74,14 +75,14 @@ fn enter_part<D: Declared>(
 ) -> Result<(), WalkError>
     requires within { AllBelow (length types.now) (numbers_of part) }
     requires room { length found.old.entered.items ≡ length types.now }
-    requires found { AreFound (map D.declaration declared.now) types.now bounds found.old }
-    requires reached { AreAllReached (map D.declaration declared.now)
+    requires found { AreFound (map declaration_view declared.now) types.now bounds found.old }
+    requires reached { AreAllReached (map declaration_view declared.now)
         (map (type_at types.now) (numbers_of part)) }
     ensures found { OnOk result
-        (AreFound (map D.declaration declared.now) types.now bounds found.new) }
+        (AreFound (map declaration_view declared.now) types.now bounds found.new) }
     ensures more { OnOk result (AreFoundMore found.old found.new (numbers_of part)) }
     ensures beyond { IfErr result
-        (IsWalkError (map D.declaration declared.now) bounds.limit bounds.most) }
+        (IsWalkError (map declaration_view declared.now) bounds.limit bounds.most) }
 {
     match part {
         Some(id) => enter(declared, types, bounds, found, id),
@@ -90,8 +91,8 @@ fn enter_part<D: Declared>(
 }
 
 /// Enters a type whose parts are entered.
-fn enter_whole<D: Declared>(
-    declared: &[D],
+fn enter_whole(
+    declared: &[Declaration],
     types: &Types,
     bounds: Bounds,
     found: &mut Found,
@@ -99,17 +100,17 @@ fn enter_whole<D: Declared>(
 ) -> Result<(), WalkError>
     requires within { id < length types.now }
     requires room { length found.old.entered.items ≡ length types.now }
-    requires found { AreFound (map D.declaration declared.now) types.now bounds found.old }
-    requires reached { AreAllReached (map D.declaration declared.now)
+    requires found { AreFound (map declaration_view declared.now) types.now bounds found.old }
+    requires reached { AreAllReached (map declaration_view declared.now)
         (map (type_at types.now) (id ∷ [])) }
     requires fresh { ¬ IsMarked found.old.entered.items id }
     requires parts { AreHeld (parts_of (type_at types.now id))
         (map (type_at types.now) found.old.instances) }
     ensures found { OnOk result
-        (AreFound (map D.declaration declared.now) types.now bounds found.new) }
+        (AreFound (map declaration_view declared.now) types.now bounds found.new) }
     ensures more { OnOk result (AreFoundMore found.old found.new (id ∷ [])) }
     ensures beyond { IfErr result
-        (IsWalkError (map D.declaration declared.now) bounds.limit bounds.most) }
+        (IsWalkError (map declaration_view declared.now) bounds.limit bounds.most) }
 {
     match types.declaration(id) {
         Some(place) => enter_instance(declared, types, bounds, found, id, place),
@@ -122,8 +123,8 @@ fn enter_whole<D: Declared>(
 }
 
 /// Enters an instance of the declaration at the place, where its parts are entered.
-fn enter_instance<D: Declared>(
-    declared: &[D],
+fn enter_instance(
+    declared: &[Declaration],
     types: &Types,
     bounds: Bounds,
     found: &mut Found,
@@ -132,18 +133,18 @@ fn enter_instance<D: Declared>(
 ) -> Result<(), WalkError>
     requires within { id < length types.now }
     requires room { length found.old.entered.items ≡ length types.now }
-    requires found { AreFound (map D.declaration declared.now) types.now bounds found.old }
-    requires reached { AreAllReached (map D.declaration declared.now)
+    requires found { AreFound (map declaration_view declared.now) types.now bounds found.old }
+    requires reached { AreAllReached (map declaration_view declared.now)
         (map (type_at types.now) (id ∷ [])) }
     requires fresh { ¬ IsMarked found.old.entered.items id }
     requires parts { AreHeld (parts_of (type_at types.now id))
         (map (type_at types.now) found.old.instances) }
     requires place { declaration_of (type_at types.now id) ≡ Some place }
     ensures found { OnOk result
-        (AreFound (map D.declaration declared.now) types.now bounds found.new) }
+        (AreFound (map declaration_view declared.now) types.now bounds found.new) }
     ensures more { OnOk result (AreFoundMore found.old found.new (id ∷ [])) }
     ensures beyond { IfErr result
-        (IsWalkError (map D.declaration declared.now) bounds.limit bounds.most) }
+        (IsWalkError (map declaration_view declared.now) bounds.limit bounds.most) }
 {
     type_table::instances_stand_by_parts();
     types.stand_apart();

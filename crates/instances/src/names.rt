@@ -5,12 +5,13 @@ ghost use Rattle.open_types.specs.Open.{open_view, opens_view};
 ghost use Rattle.open_types.specs.TypeNames.{with_name, names_behind};
 ghost use Rattle.shapes.specs.Declarations.{declaration_at};
 ghost use Rattle.shapes.specs.InstanceNames.{instance_name};
+ghost use Rattle.shapes.specs.Views.{declaration_view};
 ghost use Rattle.texts.specs.Names.{place_in};
 ghost use Rattle.instances.specs.Naming.{IsNaming};
 
 use crate::reach::Reach;
 use open_types::OpenType;
-use shapes::Declared;
+use shapes::Declaration;
 use std::alloc::{AllocError, Global};
 use std::collections::BTreeMap;
 use std::marker::Model;
@@ -65,12 +66,12 @@ pub enum Naming {
 
 /// The name of each instance, as `instance_name`. Where two are equal, the numbers of two: the second is that of the first
 /// instance whose name stands before it.
-pub fn names_of<D: Declared>(
+pub fn instance_names(
     alloc: Global,
-    declared: &[D],
+    declared: &[Declaration],
     reach: &Reach,
 ) -> Result<Naming, AllocError>
-    ensures { IfOk result (IsNaming (map D.declaration declared.now) reach.now) }
+    ensures { IfOk result (IsNaming (map declaration_view declared.now) reach.now) }
 {
     let mut names = List::new(alloc);
     let mut numbers = BTreeMap::new(alloc);
@@ -88,13 +89,13 @@ pub fn names_of<D: Declared>(
 
 /// The name of the component of an instance, as `Page_Vec_User`: that of its declaration, and behind it those of its arguments.
 /// It recurses as deep as the type nests.
-pub fn instance_name<D: Declared>(
+pub fn instance_name(
     alloc: Global,
-    declared: &[D],
+    declared: &[Declaration],
     ty: &OpenType,
 ) -> Result<Text, AllocError>
     ensures { IfOk result (λ name. name
-        ≡ instance_name (map D.declaration declared.now) (open_view ty.now)) }
+        ≡ instance_name (map declaration_view declared.now) (open_view ty.now)) }
 {
     let mut name = Text::new(alloc, "")?;
     push_type(&mut name, declared, ty)?;
@@ -102,20 +103,20 @@ pub fn instance_name<D: Declared>(
 }
 
 /// The name of the declaration at the place; past the end, none.
-fn declared_name<D: Declared>(declared: &[D], place: usize) -> &str
-    ensures { result.now ≡ (declaration_at (map D.declaration declared.now) place).name }
+fn declared_name(declared: &[Declaration], place: usize) -> &str
+    ensures { result.now ≡ (declaration_at (map declaration_view declared.now) place).name }
 {
     match declared.get(place) {
-        Some(declaration) => declaration.name().as_str(),
+        Some(declaration) => declaration.name.as_str(),
         None => "",
     }
 }
 
 /// Adds the name of the type at the end of the text.
 #[cycle(name)]
-fn push_type<D: Declared>(text: &mut Text, declared: &[D], ty: &OpenType) -> Result<(), AllocError>
+fn push_type(text: &mut Text, declared: &[Declaration], ty: &OpenType) -> Result<(), AllocError>
     ensures { OnOk result (text.new
-        ≡ text.old ++ instance_name (map D.declaration declared.now) (open_view ty.now)) }
+        ≡ text.old ++ instance_name (map declaration_view declared.now) (open_view ty.now)) }
 {
     match ty {
         OpenType::Leaf(leaf) => text.push(leaf.name()),
@@ -141,14 +142,14 @@ fn push_type<D: Declared>(text: &mut Text, declared: &[D], ty: &OpenType) -> Res
 
 /// Adds a name, and behind it that of the type.
 #[cycle(name)]
-fn push_applied<D: Declared>(
+fn push_applied(
     text: &mut Text,
-    declared: &[D],
+    declared: &[Declaration],
     name: &str,
     of: &OpenType,
 ) -> Result<(), AllocError>
     ensures { OnOk result (text.new ≡ text.old ++ with_name name.now
-        (instance_name (map D.declaration declared.now) (open_view of.now))) }
+        (instance_name (map declaration_view declared.now) (open_view of.now))) }
 {
     text.push(name)?;
     text.push("_")?;
@@ -157,13 +158,13 @@ fn push_applied<D: Declared>(
 
 /// Adds the names of the arguments.
 #[cycle(name)]
-fn push_arguments<D: Declared>(
+fn push_arguments(
     text: &mut Text,
-    declared: &[D],
+    declared: &[Declaration],
     arguments: &[OpenType],
 ) -> Result<(), AllocError>
     ensures { OnOk result (text.new ≡ text.old
-        ++ names_behind (λ d. (declaration_at (map D.declaration declared.now) d).name)
+        ++ names_behind (λ d. (declaration_at (map declaration_view declared.now) d).name)
         (opens_view arguments.now)) }
 {
     for ty in arguments {

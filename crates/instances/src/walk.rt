@@ -7,6 +7,7 @@ ghost use Rattle.type_table.specs.Types.{type_at, types_at, AllBelow};
 ghost use Rattle.shapes.specs.Instances.{places_at};
 ghost use Rattle.shapes.specs.InstanceShape.{IsReachable};
 ghost use Rattle.shapes.specs.Declarations.{AreFitting};
+ghost use Rattle.shapes.specs.Views.{declaration_view};
 ghost use Rattle.instances.specs.Lists.{IsWhole};
 ghost use Rattle.instances.specs.Walk.{AreReached, IsWalkError};
 ghost use Rattle.instances.specs.Entering.{AreAllReached, AreFound, HoldsNone, IsWalked, root_at, roots_among};
@@ -16,7 +17,7 @@ use crate::enter::{Found, enter, grow};
 use crate::law::reachable_fit;
 use crate::reach::Reach;
 use open_types::{ClosedType, OpenType};
-use shapes::Declared;
+use shapes::Declaration;
 use std::alloc::{AllocError, Global};
 use texts::List;
 use type_table::{TypeId, Types};
@@ -46,16 +47,16 @@ impl From<AllocError> for WalkError {
 /// The reachable instances of the declarations: the roots in the order of their declarations, and behind them what stands in
 /// the places of those before. Parts of a type stand before it, and its first part before the second. It recurses as deep as
 /// types nest.
-pub fn reach_of<D: Declared>(
+pub fn reach_of(
     alloc: Global,
-    declared: &[D],
+    declared: &[Declaration],
     limit: usize,
     most: usize,
 ) -> Result<Reach, WalkError>
-    requires fitting { AreFitting (map D.declaration declared.now) }
+    requires fitting { AreFitting (map declaration_view declared.now) }
     requires most { most < usize.MAX }
-    ensures reached { IfOk result (AreReached (map D.declaration declared.now) limit most) }
-    ensures beyond { IfErr result (IsWalkError (map D.declaration declared.now) limit most) }
+    ensures reached { IfOk result (AreReached (map declaration_view declared.now) limit most) }
+    ensures beyond { IfErr result (IsWalkError (map declaration_view declared.now) limit most) }
 {
     let bounds = Bounds { limit, most };
     let mut types = Types::new(alloc);
@@ -68,21 +69,21 @@ pub fn reach_of<D: Declared>(
 }
 
 /// Enters the roots, and by number what stands in the places of the instances.
-fn enter_all<D: Declared>(
+fn enter_all(
     alloc: Global,
-    declared: &[D],
+    declared: &[Declaration],
     types: &mut Types,
     bounds: Bounds,
     found: &mut Found,
 ) -> Result<(), WalkError>
-    requires fitting { AreFitting (map D.declaration declared.now) }
-    requires found { AreFound (map D.declaration declared.now) types.old bounds found.old }
+    requires fitting { AreFitting (map declaration_view declared.now) }
+    requires found { AreFound (map declaration_view declared.now) types.old bounds found.old }
     ensures found { OnOk result
-        (AreFound (map D.declaration declared.now) types.new bounds found.new) }
+        (AreFound (map declaration_view declared.now) types.new bounds found.new) }
     ensures whole { OnOk result
-        (IsWhole (map D.declaration declared.now) (map (type_at types.new) found.new.instances)) }
+        (IsWhole (map declaration_view declared.now) (map (type_at types.new) found.new.instances)) }
     ensures beyond { IfErr result
-        (IsWalkError (map D.declaration declared.now) bounds.limit bounds.most) }
+        (IsWalkError (map declaration_view declared.now) bounds.limit bounds.most) }
 {
     enter_roots(alloc, declared, types, bounds, found)?;
     let mut number = 0;
@@ -95,19 +96,19 @@ fn enter_all<D: Declared>(
 }
 
 /// Enters each declaration that has no parameters.
-fn enter_roots<D: Declared>(
+fn enter_roots(
     alloc: Global,
-    declared: &[D],
+    declared: &[Declaration],
     types: &mut Types,
     bounds: Bounds,
     found: &mut Found,
 ) -> Result<(), WalkError>
-    requires { AreFound (map D.declaration declared.now) types.old bounds found.old }
-    ensures walked { OnOk result (IsWalked (map D.declaration declared.now) bounds
+    requires { AreFound (map declaration_view declared.now) types.old bounds found.old }
+    ensures walked { OnOk result (IsWalked (map declaration_view declared.now) bounds
         types.old found.old.instances types.new found.new
-        (roots_among (map D.declaration declared.now) (length declared.now))) }
+        (roots_among (map declaration_view declared.now) (length declared.now))) }
     ensures beyond { IfErr result
-        (IsWalkError (map D.declaration declared.now) bounds.limit bounds.most) }
+        (IsWalkError (map declaration_view declared.now) bounds.limit bounds.most) }
 {
     for place in 0..declared.len() {
         enter_root(alloc, declared, types, bounds, found, place)?;
@@ -116,23 +117,23 @@ fn enter_roots<D: Declared>(
 }
 
 /// Enters the declaration at the place, where it has no parameters.
-fn enter_root<D: Declared>(
+fn enter_root(
     alloc: Global,
-    declared: &[D],
+    declared: &[Declaration],
     types: &mut Types,
     bounds: Bounds,
     found: &mut Found,
     place: usize,
 ) -> Result<(), WalkError>
     requires place { place < length declared.now }
-    requires found { AreFound (map D.declaration declared.now) types.old bounds found.old }
-    ensures walked { OnOk result (IsWalked (map D.declaration declared.now) bounds
+    requires found { AreFound (map declaration_view declared.now) types.old bounds found.old }
+    ensures walked { OnOk result (IsWalked (map declaration_view declared.now) bounds
         types.old found.old.instances types.new found.new
-        (root_at (map D.declaration declared.now) place)) }
+        (root_at (map declaration_view declared.now) place)) }
     ensures beyond { IfErr result
-        (IsWalkError (map D.declaration declared.now) bounds.limit bounds.most) }
+        (IsWalkError (map declaration_view declared.now) bounds.limit bounds.most) }
 {
-    if declared[place].parameters() != 0 {
+    if declared[place].parameters != 0 {
         return Ok(());
     }
     let root = ClosedType::declared(alloc, place);
@@ -140,23 +141,23 @@ fn enter_root<D: Declared>(
 }
 
 /// Enters what stands in the places of the instance.
-fn enter_places<D: Declared>(
+fn enter_places(
     alloc: Global,
-    declared: &[D],
+    declared: &[Declaration],
     types: &mut Types,
     bounds: Bounds,
     found: &mut Found,
     id: TypeId,
 ) -> Result<(), WalkError>
-    requires fitting { AreFitting (map D.declaration declared.now) }
+    requires fitting { AreFitting (map declaration_view declared.now) }
     requires within { id < length types.old }
-    requires found { AreFound (map D.declaration declared.now) types.old bounds found.old }
-    requires reached { IsReachable (map D.declaration declared.now) (type_at types.old id) }
-    ensures walked { OnOk result (IsWalked (map D.declaration declared.now) bounds
+    requires found { AreFound (map declaration_view declared.now) types.old bounds found.old }
+    requires reached { IsReachable (map declaration_view declared.now) (type_at types.old id) }
+    ensures walked { OnOk result (IsWalked (map declaration_view declared.now) bounds
         types.old found.old.instances types.new found.new
-        (places_at (map D.declaration declared.now) (type_at types.old id))) }
+        (places_at (map declaration_view declared.now) (type_at types.old id))) }
     ensures beyond { IfErr result
-        (IsWalkError (map D.declaration declared.now) bounds.limit bounds.most) }
+        (IsWalkError (map declaration_view declared.now) bounds.limit bounds.most) }
 {
     reachable_fit();
     let place = declared_place(types, id);
@@ -181,8 +182,8 @@ fn declared_place(types: &Types, id: TypeId) -> usize
 }
 
 /// Enters the type with the arguments in the places of its parameters.
-fn enter_place<D: Declared>(
-    declared: &[D],
+fn enter_place(
+    declared: &[Declaration],
     types: &mut Types,
     bounds: Bounds,
     found: &mut Found,
@@ -191,14 +192,14 @@ fn enter_place<D: Declared>(
 ) -> Result<(), WalkError>
     requires over { IsOverFirst (length arguments.now) (open_view ty.now) }
     requires numbers { AllBelow (length types.old) arguments.now }
-    requires found { AreFound (map D.declaration declared.now) types.old bounds found.old }
-    requires reached { AreAllReached (map D.declaration declared.now)
+    requires found { AreFound (map declaration_view declared.now) types.old bounds found.old }
+    requires reached { AreAllReached (map declaration_view declared.now)
         (substituted (types_at types.old arguments.now) (open_view ty.now) ∷ []) }
-    ensures walked { OnOk result (IsWalked (map D.declaration declared.now) bounds
+    ensures walked { OnOk result (IsWalked (map declaration_view declared.now) bounds
         types.old found.old.instances types.new found.new
         (substituted (types_at types.old arguments.now) (open_view ty.now) ∷ [])) }
     ensures beyond { IfErr result
-        (IsWalkError (map D.declaration declared.now) bounds.limit bounds.most) }
+        (IsWalkError (map declaration_view declared.now) bounds.limit bounds.most) }
 {
     if holds_none(ty) {
         return Ok(());
@@ -207,7 +208,8 @@ fn enter_place<D: Declared>(
     enter_grown(declared, types, bounds, found, id)
 }
 
-/// Whether no instance stands in the type, whatever its parameters are; if not, one may. It recurses as deep as types nest.
+/// True only where no instance stands in the type, whatever its parameters are. Of a type with a tuple it is false without a
+/// look into it. It recurses as deep as types nest.
 #[cycle(holds)]
 fn holds_none(ty: &OpenType) -> bool
     ensures { IsTrue result → HoldsNone (open_view ty.now) }
@@ -224,21 +226,21 @@ fn holds_none(ty: &OpenType) -> bool
 }
 
 /// Enters the type of the number in a table that may have grown.
-fn enter_grown<D: Declared>(
-    declared: &[D],
+fn enter_grown(
+    declared: &[Declaration],
     types: &Types,
     bounds: Bounds,
     found: &mut Found,
     id: TypeId,
 ) -> Result<(), WalkError>
     requires within { id < length types.now }
-    requires found { AreFound (map D.declaration declared.now) types.now bounds found.old }
-    requires reached { AreAllReached (map D.declaration declared.now)
+    requires found { AreFound (map declaration_view declared.now) types.now bounds found.old }
+    requires reached { AreAllReached (map declaration_view declared.now)
         (map (type_at types.now) (id ∷ [])) }
-    ensures walked { OnOk result (IsWalked (map D.declaration declared.now) bounds
+    ensures walked { OnOk result (IsWalked (map declaration_view declared.now) bounds
         types.now found.old.instances types.now found.new (map (type_at types.now) (id ∷ []))) }
     ensures beyond { IfErr result
-        (IsWalkError (map D.declaration declared.now) bounds.limit bounds.most) }
+        (IsWalkError (map declaration_view declared.now) bounds.limit bounds.most) }
 {
     grow(&mut found.entered, types.len())?;
     enter(declared, types, bounds, found, id)

@@ -8,7 +8,8 @@ ghost use Rattle.component.specs.Leaves.{term_view};
 ghost use Rattle.component.specs.Places.{place, without_option};
 ghost use Rattle.place_schemas.specs.Schemas.{IsSchemaOf, IsRefusedPlace};
 
-use component::{Place, SchemaReference, Term, ToTerm, copy_term, place_term, references_of};
+use crate::to_term::ToTerm;
+use component::{Place, SchemaReference, Term, copy_term, place_term, references_of};
 use diag::{DeriveError, Diagnostics};
 use open_types::OpenType;
 use scopes::{ComponentDescription, Container, resolve};

@@ -2,5 +2,7 @@
 #![tactic(auto)]
 
 mod component_schema;
+mod to_term;
 
 pub use component_schema::{ComponentSchema, ComponentSchemaProps};
+pub use to_term::ToTerm;

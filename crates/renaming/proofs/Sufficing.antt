@@ -33,7 +33,7 @@ use Rattle.derive_decl.specs.Fields.{FieldRules, field_rules, value_of, kept, or
 use Rattle.derive_decl.specs.Variants.{tagging_by, value_of_variant, kept_variants}
 use Rattle.derive_decl.specs.Resolved.{Around, around_of}
 use Rattle.derive_decl.specs.Tags.{IsMisplacedTag}
-use Rattle.derive_decl.specs.Faults.{IsFaultyType, IsUnwritten, IsFaultyMember, AreFaulty, IsFaultyTagging, IsUnnamed, IsFaultyTag, IsFaultyVariant, AreFaultyVariants, IsFaultyBody, IsFaultyItem}
+use Rattle.derive_decl.specs.Faults.{IsFaultyType, IsUnwritten, IsFaultyMember, AreFaultyFields, IsFaultyTagging, IsUnnamed, IsFaultyTag, IsFaultyVariant, AreFaultyVariants, IsFaultyBody, IsFaultyItem}
 use Rattle.renaming.specs.declared.asked.Asked.{Asked}
 use Rattle.renaming.specs.Asked.{is_given, asked_for, asked_as, asked_of_field, asked_of_fields, asked_of_variant, asked_of_variants, asked_told, asked_of_body, asked_of_item, asked_of}
 use Rattle.renaming.specs.Law.{RowsSuffice}
@@ -91,7 +91,7 @@ module _ (span : Span) (message : List ℕ) (e : DeriveError) (missing : IsRefus
 
   no_misplaced_tag : (tagging : Tagging) (v : VariantItem) (form : FormOf) → IsMisplacedTag tagging v form e → ⊥
   no_misplaced_tag tagging v form (inl (tuple, refusal)) = let same : TaggedTuple ≡ MissingRow = help_clash TaggedTuple MissingRow _ span _ message _ e refusal missing in absurd (cc)
-  no_misplaced_tag tagging v form (inr (tag, taken, refusal)) = other_kind DuplicateName _ _ (λ same. cc) refusal
+  no_misplaced_tag tagging v form (inr (taken, (tag, told, refusal))) = other_kind DuplicateName _ _ (λ same. cc) refusal
 
   no_tag_twice : (around : Around) (tagging : Tagging) (v : VariantItem) → IsFaultyTag around tagging v e → ⊥
   no_tag_twice around tagging v (form, is, misplaced) = no_misplaced_tag tagging v form misplaced
@@ -123,7 +123,7 @@ module _ (span : Span) (message : List ℕ) (e : DeriveError) (missing : IsRefus
     no_faulty_member rules f has (inr (x, is, fault)) =
         no_unwritten Field rules.rule (value_of f) x (subst (λ o. AllByRecursion HasRow (asked_as rules.rule (value_of f) o)) is has) fault
 
-    no_faulty_fields : (items : List SerdeItem) (x : Ident) (fs : FieldItems) → AllByRecursion HasRow (asked_of_fields items fs) → AreFaulty around items x fs e → ⊥
+    no_faulty_fields : (items : List SerdeItem) (x : Ident) (fs : FieldItems) → AllByRecursion HasRow (asked_of_fields items fs) → AreFaultyFields around items x fs e → ⊥
     no_faulty_fields items x (named fs) has (inl fault) = no_container_fault items fault
     no_faulty_fields items x (named fs) has (inr (inl fault)) =
         met (λ f. IsFaultyMember around (field_rules items) f e) (λ f. AllByRecursion HasRow (asked_of_field (rename_rule items) f)) ⊥ (kept fs) (λ f faulty own. no_faulty_member (field_rules items) f own faulty) fault

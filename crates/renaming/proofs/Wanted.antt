@@ -22,7 +22,7 @@ use Rattle.shapes.specs.declared.tagging.Tagging.TheVariants.{External, Internal
 use Rattle.derive_decl.specs.Fields.{field_rules, value_of, kept, or_as_it_was}
 use Rattle.derive_decl.specs.Variants.{tagging_by, value_of_variant, kept_variants}
 use Rattle.derive_decl.specs.Resolved.{Around, around_of}
-use Rattle.derive_decl.specs.Faults.{row_message, IsUnwritten, IsFaultyName, IsFaultyMember, AreFaulty, IsUnnamed, IsFaultyVariant, AreFaultyVariants, IsFaultyEnum, IsFaultyBody}
+use Rattle.derive_decl.specs.Faults.{row_message, IsUnwritten, IsFaultyName, IsFaultyMember, AreFaultyFields, IsUnnamed, IsFaultyVariant, AreFaultyVariants, IsFaultyEnum, IsFaultyBody}
 use Rattle.renaming.specs.declared.asked.Asked.{Asked}
 use Rattle.renaming.specs.Asked.{is_given, asked_for, asked_as, asked_of_field, asked_of_fields, asked_of_variant, asked_of_variants, asked_told, asked_of_body, asked_of_item}
 use Rattle.renaming.specs.Law.{IsWanted, RowsAreWanted}
@@ -70,11 +70,11 @@ module _ (known : Known) (parameters : ℕ) where
   field_wanted rule f None is = tt
   field_wanted rule f (Some x) is = weaker (asked_for Field rule (value_of f) x) (IsUnwritten Field [] rule (value_of f) x) (IsFaultyName [] rule f) (λ e fault. (x, is, fault)) (name_wanted Field rule (value_of f) x)
 
-  fields_wanted : (items : List SerdeItem) (x : Ident) (fs : FieldItems) → Refuse (asked_of_fields items fs) (AreFaulty around items x fs)
+  fields_wanted : (items : List SerdeItem) (x : Ident) (fs : FieldItems) → Refuse (asked_of_fields items fs) (AreFaultyFields around items x fs)
   fields_wanted items x (named fs) =
       let each : (f : FieldItem) → Refuse (asked_of_field (rename_rule items) f) (IsFaultyMember around (field_rules items) f) =
       λ f. weaker (asked_of_field (rename_rule items) f) (IsFaultyName [] (rename_rule items) f) (IsFaultyMember around (field_rules items) f) (λ e fault. inr fault) (field_wanted (rename_rule items) f f.ident refl) in
-      weaker (flat_map (asked_of_field (rename_rule items)) (kept fs)) _ (AreFaulty around items x (named fs)) (λ e fault. inr (inl fault))
+      weaker (flat_map (asked_of_field (rename_rule items)) (kept fs)) _ (AreFaultyFields around items x (named fs)) (λ e fault. inr (inl fault))
       (all_lifted Misses (IsFaultyMember around (field_rules items)) (asked_of_field (rename_rule items)) (kept fs) each)
   fields_wanted items x (unnamed fs) = tt
   fields_wanted items x unit = tt
@@ -91,7 +91,7 @@ module _ (known : Known) (parameters : ℕ) where
   variant_wanted rule tagging v =
       all-append (λ a. (e : DeriveError) → Misses a e → IsFaultyVariant around rule tagging v e) (asked_for Variant (told_rule tagging rule) (value_of_variant v) v.ident) (asked_of_fields (serde_items v.attrs) v.fields)
       (weaker _ (IsUnnamed [] rule tagging v) (IsFaultyVariant around rule tagging v) (λ e fault. inl fault) (variant_named rule tagging v))
-      (weaker _ (AreFaulty around (serde_items v.attrs) v.ident v.fields) (IsFaultyVariant around rule tagging v) (λ e fault. inr (inl fault)) (fields_wanted (serde_items v.attrs) v.ident v.fields))
+      (weaker _ (AreFaultyFields around (serde_items v.attrs) v.ident v.fields) (IsFaultyVariant around rule tagging v) (λ e fault. inr (inl fault)) (fields_wanted (serde_items v.attrs) v.ident v.fields))
 
   variants_wanted : (rule : Option RenameRule) (tagging : Tagging) (vs : List VariantItem) → Refuse (asked_of_variants (told_rule tagging rule) vs) (AreFaultyVariants around rule tagging vs)
   variants_wanted rule tagging vs =

@@ -10,7 +10,7 @@ use Rattle.std.proofs.lemmas.Map.Keys.{Less-from_sorted}
 use Rattle.std.proofs.lemmas.Slice.Eq.{bytes_eq-Decides}
 use Rattle.std.proofs.lemmas.List.{length-map, get_or-map}
 use Rattle.std.proofs.Math.Seq.{take-nil}
-use Rattle.schema_core.specs.Entries.{entries_of, names_of, find, with_entry, IsInOrder}
+use Rattle.schema_core.specs.Entries.{entries_of, entry_names, find, with_entry, IsInOrder}
 
 abbrev pub compare : List ℕ → List ℕ → Ordering
 compare = slice_cmp nat_cmp
@@ -47,10 +47,10 @@ all_at P (n ∷ ns) zero h l = h.0
 all_at P (n ∷ ns) (suc i) h l = all_at P ns i h.1 (omega arith)
 
 module _ {S : Type 0} where
-  pub names_of-entries_of : (ns : List (List ℕ)) (ss : List S) → length ns ≡ length ss → names_of (entries_of ns ss) ≡ ns
-  names_of-entries_of [] ss e = refl
-  names_of-entries_of (n ∷ ns) [] e = absurd (omega arith)
-  names_of-entries_of (n ∷ ns) (s ∷ ss) e = ap (λ xs. n ∷ xs) (names_of-entries_of ns ss (omega arith))
+  pub entry_names-entries_of : (ns : List (List ℕ)) (ss : List S) → length ns ≡ length ss → entry_names (entries_of ns ss) ≡ ns
+  entry_names-entries_of [] ss e = refl
+  entry_names-entries_of (n ∷ ns) [] e = absurd (omega arith)
+  entry_names-entries_of (n ∷ ns) (s ∷ ss) e = ap (λ xs. n ∷ xs) (entry_names-entries_of ns ss (omega arith))
 
   -- a name between others is not found
   absent-above : (k : List ℕ) (ns : List (List ℕ)) (ss : List S) → AllByRecursion (λ n. compare n k ≡ Greater) ns → find k (entries_of ns ss) ≡ None

@@ -6,7 +6,7 @@ use Rattle.acceptance.specs.Json.{Json, Members, no_members, put, put_all, entri
 use Rattle.texts.specs.Names.{is_in, IsDistinct}
 use Rattle.schema_core.specs.Form.{form}
 use Rattle.schema_core.specs.Document.{Entry, entry_form}
-use Rattle.schema_core.specs.Entries.{names_of, find}
+use Rattle.schema_core.specs.Entries.{entry_names, find}
 use Rattle.schema_core.proofs.Fields.{look-put}
 
 abbrev or_else : Option Json → Option Json → Option Json
@@ -29,7 +29,7 @@ look-put_all j (p ∷ ps) ms d =
         ap (λ o. or_else o (Some p.1)) absent
     by false e = refl
 
-names-forms : (es : List Entry) → names (map_list entry_form es) ≡ names_of es
+names-forms : (es : List Entry) → names (map_list entry_form es) ≡ entry_names es
 names-forms [] = refl
 names-forms (e ∷ es) = ap (λ ns. e.0 ∷ ns) (names-forms es)
 
@@ -45,6 +45,6 @@ or_else-none : (o : Option Json) → or_else o None ≡ o
 or_else-none None = refl
 or_else-none (Some x) = refl
 
-pub found_in_document : (es : List Entry) → IsDistinct (names_of es) → (j : List ℕ) → look j (entries (put_all (map_list entry_form es) no_members)) ≡ option_map form (find j es)
+pub found_in_document : (es : List Entry) → IsDistinct (entry_names es) → (j : List ℕ) → look j (entries (put_all (map_list entry_form es) no_members)) ≡ option_map form (find j es)
 found_in_document es d j =
     look-put_all j (map_list entry_form es) no_members (subst IsDistinct (sym (names-forms es)) d) ∙ or_else-none (look j (map_list entry_form es)) ∙ look-forms j es

@@ -11,7 +11,7 @@ use Rattle.serde_json.specs.Written.{compact_text, members_text, comma_if}
 use Rattle.acceptance.specs.Json.{Json, Members, no_members, member, put, put_all}
 use Rattle.acceptance.specs.Data.{data_of, members_data}
 use Rattle.schema_core.specs.Document.{Entry, entry_form, entry_text, entries_text, document, text_of}
-use Rattle.schema_core.specs.Entries.{names_of, IsInOrder}
+use Rattle.schema_core.specs.Entries.{entry_names, IsInOrder}
 use Rattle.schema_core.proofs.EntryLaws.{compare, reversed}
 
 -- ---- one entry more
@@ -55,11 +55,11 @@ behind_more : (bs : List (List ℕ × Json)) (b : List ℕ × Json) (k : List �
 behind_more [] b k h l = (l, tt)
 behind_more (c ∷ bs) b k h l = (h.0, behind_more bs b k h.1 l)
 
-all_more : (bs : List (List ℕ × Json)) (b : List ℕ × Json) (es : List Entry) → AllByRecursion (IsBehind bs) (names_of es) → AllByRecursion (λ k. compare b.0 k ≡ Less) (names_of es) → AllByRecursion (IsBehind (bs ++ b ∷ [])) (names_of es)
+all_more : (bs : List (List ℕ × Json)) (b : List ℕ × Json) (es : List Entry) → AllByRecursion (IsBehind bs) (entry_names es) → AllByRecursion (λ k. compare b.0 k ≡ Less) (entry_names es) → AllByRecursion (IsBehind (bs ++ b ∷ [])) (entry_names es)
 all_more bs b [] h o = tt
 all_more bs b (e ∷ es) h o = (behind_more bs b e.0 h.0 o.0, all_more bs b es h.1 o.1)
 
-put_in_order : (bs : List (List ℕ × Json)) (es : List Entry) → AllByRecursion (IsBehind bs) (names_of es) → IsInOrder (names_of es) → put_all (map entry_form es) (members_of bs) ≡ members_of (bs ++ map entry_form es)
+put_in_order : (bs : List (List ℕ × Json)) (es : List Entry) → AllByRecursion (IsBehind bs) (entry_names es) → IsInOrder (entry_names es) → put_all (map entry_form es) (members_of bs) ≡ members_of (bs ++ map entry_form es)
 unfolding IsStrictlySortedBy
 put_in_order bs [] h o = ap members_of (sym (append-nil bs))
 put_in_order bs (e ∷ es) h o =
@@ -92,10 +92,10 @@ head = codes "{\"components\":{\"schemas\":{"
 three_ends : (xs : List ℕ) → (((xs ++ 125 ∷ []) ++ 125 ∷ []) ++ 125 ∷ []) ++ 10 ∷ [] ≡ xs ++ codes "}}}\n"
 three_ends xs = append_assoc ((xs ++ 125 ∷ []) ++ 125 ∷ []) (125 ∷ []) (10 ∷ []) ∙ append_assoc (xs ++ 125 ∷ []) (125 ∷ []) (125 ∷ 10 ∷ []) ∙ append_assoc xs (125 ∷ []) (125 ∷ 125 ∷ 10 ∷ [])
 
-pub document_text : (es : List Entry) → IsInOrder (names_of es) → (head ++ entries_text false es) ++ codes "}}}\n" ≡ text_of (document es)
+pub document_text : (es : List Entry) → IsInOrder (entry_names es) → (head ++ entries_text false es) ++ codes "}}}\n" ≡ text_of (document es)
 unfolding text_of escape_byte
 document_text es o =
-    let members = put_in_order [] es (behind_none (names_of es)) o in
+    let members = put_in_order [] es (behind_none (entry_names es)) o in
     let inner = ap (λ ms. members_text false (members_data ms)) members ∙ written false es in
     ap (λ xs. head ++ xs) (sym (three_ends (entries_text false es)))
     ∙ ap (λ xs. head ++ (((xs ++ 125 ∷ []) ++ 125 ∷ []) ++ 10 ∷ [])) (sym inner)

@@ -11,9 +11,9 @@ module _ {S : Type 0} where
   entries_of (n ∷ ns) [] = []
   entries_of (n ∷ ns) (s ∷ ss) = (n, s) ∷ entries_of ns ss
 
-  abbrev pub names_of : List (List ℕ × S) → List (List ℕ)
-  names_of [] = []
-  names_of (e ∷ es) = e.0 ∷ names_of es
+  abbrev pub entry_names : List (List ℕ × S) → List (List ℕ)
+  entry_names [] = []
+  entry_names (e ∷ es) = e.0 ∷ entry_names es
 
   -- what stands under the name
   abbrev pub find : List ℕ → List (List ℕ × S) → Option S

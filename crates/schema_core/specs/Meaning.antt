@@ -12,7 +12,7 @@ use Rattle.schema_trees.specs.declared.tree.RefLeaf.{RefLeaf}
 use Rattle.schema_trees.specs.Schema.{SchemaOf, leaf, object, array, one_of, all_of, SchemasOf, no_schemas, schema, schema_count, PropertiesOf, no_properties, property, property_names, PartOf, no_part, truth, part, EachLeaf}
 use Rattle.schema_core.specs.Form.{word_text, array_word, form}
 use Rattle.schema_core.specs.Document.{Entry, document}
-use Rattle.schema_core.specs.Entries.{names_of, find}
+use Rattle.schema_core.specs.Entries.{entry_names, find}
 
 -- the value is of the word's kind
 abbrev pub word_accepts : TypeWord → Json → Bool
@@ -126,4 +126,4 @@ FormsRefer = (passes : List ℕ → Bool) (s : SchemaOf RefLeaf) → EachLeaf (�
 
 -- The document has under each name the form of the entry of that name.
 abbrev pub DocumentsHold : Type 0
-DocumentsHold = (es : List Entry) → IsDistinct (names_of es) → (name : List ℕ) → component_schema (document es) name ≡ option_map form (find name es)
+DocumentsHold = (es : List Entry) → IsDistinct (entry_names es) → (name : List ℕ) → component_schema (document es) name ≡ option_map form (find name es)

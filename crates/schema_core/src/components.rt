@@ -8,7 +8,7 @@ ghost use Rattle.serde_json.specs.View.{view, members_view};
 ghost use Rattle.acceptance.specs.Json.{put_all, no_members};
 ghost use Rattle.acceptance.specs.Data.{data_of, members_data};
 ghost use Rattle.schema_core.specs.Document.{document, entry_form, entry_text, entries_text, text_of};
-ghost use Rattle.schema_core.specs.Entries.{entries_of, names_of, find, with_entry, IsInOrder};
+ghost use Rattle.schema_core.specs.Entries.{entries_of, entry_names, find, with_entry, IsInOrder};
 ghost use Rattle.schema_trees.specs.Schema.{schema_view};
 
 use crate::form::schema_value;
@@ -129,7 +129,7 @@ impl Components {
 
     /// The names, in byte order.
     pub fn names(&self) -> &[Text]
-        ensures names { result.now ≡ names_of self.now }
+        ensures names { result.now ≡ entry_names self.now }
         ensures order { IsInOrder result.now }
     {
         self.names.as_slice()

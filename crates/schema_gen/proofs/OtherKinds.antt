@@ -33,9 +33,9 @@ use Rattle.shapes.specs.declared.tagging.Tagging.TheVariants.{External, Internal
 use Rattle.derive_decl.specs.Fields.{FieldRules, field_rules, value_of, kept}
 use Rattle.derive_decl.specs.Variants.{value_of_variant, kept_variants}
 use Rattle.derive_decl.specs.Resolved.{Around, around_of}
-use Rattle.derive_decl.specs.Faults.{AreFaulty as AreFaultyFields, IsUnwritten, IsFaultyType, IsFaultyMember, IsUnnamed, IsFaultyVariant, IsFaultyBody, IsFaultyItem}
+use Rattle.derive_decl.specs.Faults.{AreFaultyFields, IsUnwritten, IsFaultyType, IsFaultyMember, IsUnnamed, IsFaultyVariant, IsFaultyBody, IsFaultyItem}
 use Rattle.compose.specs.Bounds.{IsRefusalOf, IsUnbounded}
-use Rattle.compose.specs.Faults.{AreFaulty, AreAtFault, IsBeyond, IsRefused}
+use Rattle.compose.specs.Faults.{AreFaultyDeclarations, AreAtFault, IsBeyond, IsRefused}
 use Rattle.schema_gen.specs.Refusals.{IsRefusedSource}
 
 -- an error that refuses is no want of memory
@@ -123,7 +123,7 @@ module _ (ds : List DiangosticsInner) (first : HasFirst ds (λ d. d.kind ≡ Bad
   variant around rule tagging v (inl h) = unnamed_variant around.rows rule tagging v h
   variant around rule tagging v (inr (inl h)) = form around (serde_items v.attrs) v.ident v.fields h
   variant around rule tagging v (inr (inr (of, is, inl (cannot, refused)))) = helped TaggedTuple _ _ _ (λ e. cc) refused
-  variant around rule tagging v (inr (inr (of, is, inr (tag, taken, refused)))) = other DuplicateName _ _ (λ e. cc) refused
+  variant around rule tagging v (inr (inr (of, is, inr (taken, (tag, told, refused))))) = other DuplicateName _ _ (λ e. cc) refused
 
   body : (around : Around) (items : List SerdeItem) (x : Ident) (b : BodyItem) → IsFaultyBody around items x b (Refused ds) → ⊥
   body around items x (struct_body fs) h = form around items x fs h
@@ -138,7 +138,7 @@ module _ (ds : List DiangosticsInner) (first : HasFirst ds (λ d. d.kind ≡ Bad
   item around d (inr (inl (span, first, is))) = other Syntax _ _ (λ e. cc) is
   item around d (inr (inr (derivable, h))) = body around (serde_items d.attrs) d.ident d.body h
 
-  faulty : (rows : List RenameRow) (items : List DeclaredItem) → AreFaulty rows items (Refused ds) → ⊥
+  faulty : (rows : List RenameRow) (items : List DeclaredItem) → AreFaultyDeclarations rows items (Refused ds) → ⊥
   faulty rows items (inl h) = twice _ h
   faulty rows items (inr h) = nowhere _ items (λ d. item (around_of rows items d.generics) d) h
 

@@ -1,21 +1,14 @@
--- Small sources, computed: null, what is required, what is alike, and an enum with a tag.
+-- Small sources, computed: null, what is required, the types of places, and an enum with a tag.
 use Rattle.std.proofs.Common.{ℕ, List, [], ◌∷◌, Bool, true, false, codes, ◌≡◌, refl}
 use Rattle.acceptance.specs.Json.{Json, null, text, boolean, map, no_members, member}
 use Rattle.leaves.specs.declared.leaf.Leaf.TheVariants.{I32, Bool as BoolLeaf}
-use Rattle.schema_trees.specs.Notes.{no_notes}
-use Rattle.schema_trees.specs.Schema.{SchemaOf, no_schemas, schema, no_properties, property, truth, part}
-use Rattle.schema_core.specs.Meaning.{tree_accepts}
 use Rattle.open_types.specs.declared.open_type.ListHead.TheVariants.{Vec}
 use Rattle.open_types.specs.Open.{Open, Opens, leaf, items, option, param, named, no_types, more_types}
-use Rattle.component.specs.Leaves.{LeafOf}
-use Rattle.component.specs.Places.{null_alone, leaf_object, one_of_null}
 use Rattle.shapes.specs.declared.tagging.Tagging.TheVariants.{Internal}
 use Rattle.shapes.specs.Declarations.{MemberOf, named_fields, unnamed_fields, no_fields, fields, variants, DeclarationOf, parameters_in, no_remarks}
-use Rattle.shapes.specs.Terms.{object_of, list_of_length, term}
-use Rattle.shapes.specs.Instances.{declared_by, places_at, instance_term}
+use Rattle.shapes.specs.Instances.{places_at}
 use Rattle.shapes.specs.InstanceNames.{instance_name}
 use Rattle.shapes.specs.InstanceShape.{shape}
-use Rattle.shapes.specs.Meaning.{leaf_shape}
 
 abbrev pub a_member : List ℕ → Bool → Open → MemberOf
 a_member name required t = record { name = name; required = required; remarks = no_remarks; of = t }
@@ -38,10 +31,7 @@ empty = map no_members
 abbrev with_v : Json → Json
 with_v x = map (member (codes "v") x no_members)
 
-abbrev an_i32 : SchemaOf LeafOf
-an_i32 = leaf_object false no_notes I32
-
--- struct N<T> { v: Option<T> }: the member may be missing, or null; at Option<i32> both schemas accept null
+-- struct N<T> { v: Option<T> }: the member may be missing, or null
 abbrev n_source : List DeclarationOf
 n_source = a_struct (codes "N") 1 (a_member (codes "v") false (option (param 0)) ∷ []) ∷ []
 
@@ -51,33 +41,12 @@ n_is = (refl, refl, refl)
 n_shape : (shape n_source 1 at_i32 empty ≡ true) × (shape n_source 1 at_i32 (with_v null) ≡ true) × (shape n_source 1 at_i32 (with_v (text [])) ≡ false)
 n_shape = (refl, refl, refl)
 
-n_term : instance_term n_source at_option ≡ object_of no_notes false [] (property (codes "v") (one_of_null no_notes (leaf_object true no_notes I32)) no_properties)
-n_term = refl
-
-null_twice : (says : LeafOf → Json → Bool) → (tree_accepts says (leaf_object true no_notes I32) null ≡ true) × (tree_accepts says null_alone null ≡ true)
-null_twice says = (refl, refl)
-
 -- struct S<T> { v: T }: at Option<i32> the member may be null, and must be there
 abbrev s_source : List DeclarationOf
 s_source = a_struct (codes "S") 1 (a_member (codes "v") true (param 0) ∷ []) ∷ []
 
 s_shape : (shape s_source 1 at_option (with_v null) ≡ true) × (shape s_source 1 at_option empty ≡ false)
 s_shape = (refl, refl)
-
-s_accepts : (says : LeafOf → Json → Bool) → (tree_accepts says (instance_term s_source at_option) (with_v null) ≡ true) × (tree_accepts says (instance_term s_source at_option) empty ≡ false)
-s_accepts says = (refl, refl)
-
--- struct W<T>(T, i32); struct V<T>(T, T); at i32: whether fields are alike is told over the parameters
-abbrev pairs : List DeclarationOf
-pairs =
-    record { name = codes "W"; parameters = 1; remarks = no_remarks; body = fields (unnamed_fields (param 0 ∷ leaf I32 ∷ [])) }
-    ∷ record { name = codes "V"; parameters = 1; remarks = no_remarks; body = fields (unnamed_fields (param 0 ∷ param 0 ∷ [])) } ∷ []
-
-mixed : instance_term pairs at_i32 ≡ list_of_length 2 no_notes (schema an_i32 (schema an_i32 no_schemas)) (truth false)
-mixed = refl
-
-alike : instance_term pairs (named 1 (one (leaf I32))) ≡ list_of_length 2 no_notes no_schemas (part an_i32)
-alike = refl
 
 -- struct M<A, B> { a: B, b: Vec<A> } at bool and i32
 abbrev m_source : List DeclarationOf
@@ -108,9 +77,3 @@ e_u = named 0 (one (named 1 no_types))
 
 e_shape : (shape tagged 2 e_u (told (codes "A")) ≡ true) × (shape tagged 2 e_u (tag_only (codes "A")) ≡ false) × (shape tagged 2 e_u (tag_only (codes "C")) ≡ true)
 e_shape = (refl, refl, refl)
-
-e_accepts : (tree_accepts (leaf_shape (shape tagged 1)) (instance_term tagged e_u) (told (codes "A")) ≡ true) × (tree_accepts (leaf_shape (shape tagged 1)) (instance_term tagged e_u) (tag_only (codes "A")) ≡ false)
-e_accepts = (refl, refl)
-
-root_term : instance_term tagged (named 1 no_types) ≡ term (declared_by tagged (named 1 no_types))
-root_term = refl

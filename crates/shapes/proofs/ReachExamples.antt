@@ -1,18 +1,14 @@
 -- Small sources, computed: what is reached, and what is plain.
-use Rattle.std.proofs.Common.{List, [], ◌∷◌, Bool, true, false, codes, pos, ◌≡◌, refl, inl, inr, arith}
+use Rattle.std.proofs.Common.{List, [], ◌∷◌, true, false, codes, pos, ◌≡◌, refl, inl, inr, arith}
 use Rattle.acceptance.specs.Json.{Json, number, list, no_items, item, map, no_members, member}
 use Rattle.leaves.specs.declared.leaf.Leaf.TheVariants.{I32, F32, Bool as BoolLeaf}
 use Rattle.open_types.specs.declared.open_type.ListHead.TheVariants.{Vec}
 use Rattle.open_types.specs.declared.open_type.ThroughHead.TheVariants.{Box}
-use Rattle.schema_trees.specs.Notes.{no_notes}
-use Rattle.schema_trees.specs.Schema as tree
 use Rattle.open_types.specs.Open.{Open, leaf, items, through, param, named, no_types}
-use Rattle.component.specs.Leaves as leaves
 use Rattle.shapes.specs.Declarations.{DeclarationOf}
 use Rattle.shapes.specs.Plain.{IsPlainType}
-use Rattle.shapes.specs.Instances.{places_at, with_arguments}
+use Rattle.shapes.specs.Instances.{places_at}
 use Rattle.shapes.specs.InstanceShape.{shape, HasShape, Reaches, itself, through_place, IsPlain, IsRoot, IsReachable, root, stands}
-use Rattle.shapes.specs.Meaning.{leaf_shape}
 use Rattle.shapes.proofs.Examples.{a_member, a_struct, one}
 
 -- struct Tree<T> { v: T, kids: Vec<Box<Tree<T>>> } at i32: it stands in its own places, and each kid is a step deeper
@@ -76,9 +72,3 @@ p_p_reachable = stands (named 1 no_types) (named 0 (one p_bool)) (root 1 r_root)
 
 p_reachable : IsReachable nested p_bool
 p_reachable = stands (named 1 no_types) p_bool (root 1 r_root) (inl (inr (inl (inl refl))))
-
-put_in : with_arguments (one (leaf BoolLeaf)) (leaves.named (named 0 (one (param 0))) false no_notes) ≡ tree.leaf (leaves.named p_bool false no_notes)
-put_in = refl
-
-at_leaves : (instance : Open → Json → Bool) (v : Json) → (leaf_shape instance (leaves.named p_bool true no_notes) v ≡ instance p_bool v) × (leaf_shape instance (leaves.param 0) v ≡ false)
-at_leaves instance v = (refl, refl)

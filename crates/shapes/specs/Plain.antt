@@ -1,9 +1,9 @@
 -- Declarations whose schema can say their whole shape: what stands in the places that they reach, and which variants their enums have.
-use Rattle.std.specs.Prelude.{◌≡◌, ◌≢◌, ◌⊎◌, ℕ, List, [], ◌∷◌, false}
+use Rattle.std.specs.Prelude.{◌≡◌, ◌≢◌, List, [], ◌∷◌, false}
 use Rattle.leaves.specs.Leaves.{kind_of}
 use Rattle.leaves.specs.declared.leaf.LeafKind.TheVariants as kinds
 use Rattle.open_types.specs.Open.{Open, Opens, leaf, any_value, free_object, unit, tuple, items, set, map_of, option, through, param, named, no_types, more_types}
-use Rattle.shapes.specs.Declarations.{FormOf, named_fields, unnamed_fields, no_fields, VariantOf, BodyOf, fields, units, variants, DeclarationOf, declaration_at, types_of, body_types}
+use Rattle.shapes.specs.Declarations.{FormOf, named_fields, unnamed_fields, no_fields, VariantOf, BodyOf, fields, units, variants, DeclarationOf, declaration_at, form_types}
 use Rattle.shapes.specs.declared.tagging.Tagging.{Tagging}
 use Rattle.shapes.specs.declared.tagging.Tagging.TheVariants.{External, Internal, Untagged}
 
@@ -44,7 +44,7 @@ AreAllPlain ss [] = Unit {0}
 AreAllPlain ss (t ∷ ts) = IsPlainType ss t × AreAllPlain ss ts
 
 abbrev pub IsPlainForm : List DeclarationOf → FormOf → Type 0
-IsPlainForm ss (named_fields denies ms) = AreAllPlain ss (types_of (named_fields denies ms))
+IsPlainForm ss (named_fields denies ms) = AreAllPlain ss (form_types (named_fields denies ms))
 IsPlainForm ss (unnamed_fields ts) = AreAllPlain ss ts
 IsPlainForm ss no_fields = ⊥
 
@@ -64,15 +64,15 @@ AreContent ss (t ∷ []) = IsContent ss t
 AreContent ss _ = ⊥
 
 -- the tag can stand where the representation puts it
-abbrev pub IsTold : List DeclarationOf → Tagging → FormOf → Type 0
-IsTold ss (Internal tag) (unnamed_fields ts) = AreContent ss ts
-IsTold ss _ _ = Unit {0}
+abbrev pub CanBeTagged : List DeclarationOf → Tagging → FormOf → Type 0
+CanBeTagged ss (Internal tag) (unnamed_fields ts) = AreContent ss ts
+CanBeTagged ss _ _ = Unit {0}
 
 -- as of a struct, but a variant may have no fields
 abbrev pub IsPlainVariant : List DeclarationOf → Tagging → FormOf → Type 0
 IsPlainVariant ss tagging no_fields = Unit {0}
 IsPlainVariant ss tagging (named_fields denies ms) = IsPlainForm ss (named_fields denies ms)
-IsPlainVariant ss tagging (unnamed_fields ts) = IsPlainForm ss (unnamed_fields ts) × IsTold ss tagging (unnamed_fields ts)
+IsPlainVariant ss tagging (unnamed_fields ts) = IsPlainForm ss (unnamed_fields ts) × CanBeTagged ss tagging (unnamed_fields ts)
 
 abbrev pub ArePlainVariants : List DeclarationOf → Tagging → List VariantOf → Type 0
 ArePlainVariants ss tagging [] = Unit {0}

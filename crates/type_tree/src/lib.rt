@@ -1,5 +1,5 @@
 //! Type trees: what a written type is for a schema, before its names are looked up (The Rust Reference, "Types"); and, by
-//! the names of the crates below, what it stands for once they are, where they are looked up, and the configuration.
+//! the names of the crates below, what it stands for once they are.
 #![tactic(auto)]
 
 mod ask;
@@ -13,7 +13,6 @@ mod primitive;
 mod schema_type;
 mod tree;
 
-pub use configuration::{Config, SchemaCollect};
 pub use known_format::KnownFormat;
 pub use laws::{formats_are_equal, trees_are_equal_by_text};
 pub use open_types::{
@@ -22,6 +21,5 @@ pub use open_types::{
 pub use path::SchemaPath;
 pub use primitive::PrimitiveType;
 pub use schema_type::SchemaType;
-pub use scopes::{Scope, resolve, type_text};
 pub use tree::{GenericType, TypeTree, ValueType};
 pub use type_table::{TypeId, Types};

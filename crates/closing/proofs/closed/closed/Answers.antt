@@ -1,19 +1,16 @@
-use Rattle.std.proofs.Common.{◌≡◌, ◌<◌, ◌+◌, ◌∙◌, length, map, take, get_or, set, IsTrue, false, ap, sym, subst, arith, rules}
+use Rattle.std.proofs.Common.{◌<◌, ◌+◌, ◌∙◌, length, map, take, get_or, ap, sym, subst, arith}
 use Rattle.std.proofs.lemmas.Bool.{false≢true}
 use Rattle.std.proofs.lemmas.List.{take_all, length-set, get_or_default}
 use Rattle.schema_trees.specs.Schema.{schema_view}
-use Rattle.inlining.specs.Inlining.{targets_of}
-use Rattle.inlining.specs.Marks.{mark}
-use Rattle.instances.specs.Lists.{instance_at}
-use Rattle.closing.specs.Closed.{instance_schema}
+use Rattle.shapes.specs.Views.{declaration_view}
 use Rattle.closing.specs.Links.{inlining_of}
-use Rattle.closing.proofs.Made.{AreMade, AreWaiting, made_more, made_over, waiting_more, fresh_at, as-many, next_schema}
+use Rattle.closing.proofs.Made.{AreMade, made_more, made_over, waiting_more, fresh_at, as-many, next_schema}
 use Rattle.closing.proofs.closed.closed.Goals as goal
 use Rattle.closing.proofs.closed.closed.Goals.{then-marks-number+in_ok-schema, else-marks-number}
 
 pub loop-number-preserved : goal.loop-number-preserved
-loop-number-preserved g c =
-    let ss = map g.D.Declared.declaration c.args.declared.now in
+loop-number-preserved c =
+    let ss = map declaration_view c.args.declared.now in
     let is = c.args.reach.now in
     let marks = c.args.marks.now in
     let order = c.args.order.now in
@@ -46,8 +43,8 @@ loop-number-preserved g c =
     ]
 
 pub returns-clause-schemas : goal.returns-clause-schemas
-returns-clause-schemas g c = λ n l m.
-    let ss = map g.D.Declared.declaration c.args.declared.now in
+returns-clause-schemas c = λ n l m.
+    let ss = map declaration_view c.args.declared.now in
     let order = c.args.order.now in
     let many : n < length (inlining_of ss c.args.reach.now) =
     subst (λ k. n < k) (sym (as-many ss c.args.reach.now)) l in

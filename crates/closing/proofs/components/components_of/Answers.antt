@@ -2,20 +2,18 @@ use Rattle.std.proofs.Common.{◌≡◌, ◌<◌, ◌≤◌, ◌+◌, ◌∙◌,
 use Rattle.std.proofs.lemmas.List.{take_all, length-set, length-map, get_or-map, get_or_default}
 use Rattle.open_types.specs.Open.{unit}
 use Rattle.schema_trees.specs.Schema.{schema_view}
-use Rattle.shapes.specs.Declarations.{DeclarationOf}
 use Rattle.shapes.specs.InstanceNames.{instance_name}
+use Rattle.shapes.specs.Views.{declaration_view}
 use Rattle.inlining.specs.Inlining.{IsAmong}
 use Rattle.inlining.specs.Marks.{mark}
-use Rattle.instances.specs.Lists.{instance_at}
-use Rattle.instances.specs.Names.{names_of}
-use Rattle.closing.specs.Closed.{instance_schema}
+use Rattle.instances.specs.Names.{instance_names}
 use Rattle.closing.proofs.Made.{AreLeft, schema_at, left_more, one-at, among_at, fresh_at}
 use Rattle.closing.proofs.Entered.{AreKnown, name_at, its_schema, known_none, known_more, all_entered}
 use Rattle.closing.proofs.components.components_of.Goals as goal
 
 pub loop-number-init : goal.loop-number-init
-loop-number-init g c =
-    let ss = map g.D.Declared.declaration c.args.declared.now in
+loop-number-init c =
+    let ss = map declaration_view c.args.declared.now in
     let is = c.args.reach.now in
     record {
       many = c.in_ok-made.ensures.many;
@@ -24,7 +22,7 @@ loop-number-init g c =
     }
 
 pub index_mut-requires : goal.index_mut-requires
-index_mut-requires g c =
+index_mut-requires c =
     let items = c.as_slice-number-items.result.now in
     let i = c.loop-number.number-index in
     let among : IsAmong (get_or items i 0) items = among_at items i c.loop-number-test.true in
@@ -33,8 +31,8 @@ index_mut-requires g c =
     search rules
 
 pub bounds-names-number : goal.bounds-names-number
-bounds-names-number g c =
-    let ss = map g.D.Declared.declaration c.args.declared.now in
+bounds-names-number c =
+    let ss = map declaration_view c.args.declared.now in
     let items = c.as_slice-number-items.result.now in
     let i = c.loop-number.number-index in
     let among : IsAmong (get_or items i 0) items = among_at items i c.loop-number-test.true in
@@ -42,8 +40,8 @@ bounds-names-number g c =
     subst (λ n. get_or items i 0 < n) (sym (ap length c.requires.names ∙ length-map c.args.reach.now (instance_name ss))) here
 
 pub offset_bounds-names-number : goal.offset_bounds-names-number
-offset_bounds-names-number g c =
-    let ss = map g.D.Declared.declaration c.args.declared.now in
+offset_bounds-names-number c =
+    let ss = map declaration_view c.args.declared.now in
     let items = c.as_slice-number-items.result.now in
     let i = c.loop-number.number-index in
     let among : IsAmong (get_or items i 0) items = among_at items i c.loop-number-test.true in
@@ -52,8 +50,8 @@ offset_bounds-names-number g c =
     search rules
 
 pub loop-number-preserved : goal.loop-number-preserved
-loop-number-preserved g c =
-    let ss = map g.D.Declared.declaration c.args.declared.now in
+loop-number-preserved c =
+    let ss = map declaration_view c.args.declared.now in
     let is = c.args.reach.now in
     let comps = c.args.shown.now.components in
     let items = c.as_slice-number-items.result.now in
@@ -72,7 +70,7 @@ loop-number-preserved g c =
     c.replace-schema.ensures.value ∙ c.index_mut.ensures.value ∙ ap (λ n. get_or made n c.index_mut.result.now) where_is ∙ get_or_default made place c.index_mut.result.now c.replace-schema.result there in
     let schema : schema_view c.replace-schema.result ≡ its_schema ss is place =
     ap schema_view taken ∙ sym (schema_at made place c.replace-schema.result there) ∙ c.loop-number.invariant.left place here marked fresh in
-    let names : c.args.names.now ≡ names_of ss is = c.requires.names in
+    let names : c.args.names.now ≡ instance_names ss is = c.requires.names in
     let named : c.in_ok-name.name ≡ name_at ss is place =
     c.in_ok-name.ensures ∙ c.index-names-number.is ∙ ap (λ n. get_or c.args.names.now n c.index-names-number.result) where_is ∙ ap (λ ns. get_or ns place c.index-names-number.result) names ∙ get_or-map (instance_name ss) is place unit c.index-names-number.result here in
     record {
@@ -82,8 +80,8 @@ loop-number-preserved g c =
     }
 
 pub returns : goal.returns
-returns g c =
-    let ss = map g.D.Declared.declaration c.args.declared.now in
+returns c =
+    let ss = map declaration_view c.args.declared.now in
     let is = c.args.reach.now in
     let comps = c.args.shown.now.components in
     let all : take c.loop-number.number-index comps ≡ comps = take_all c.loop-number.number-index comps (subst (λ (xs : List ℕ). length xs ≤ c.loop-number.number-index) c.as_slice-number-items.ensures (omega arith)) in

@@ -1,12 +1,13 @@
 use Rattle.std.proofs.Common.{◌≡◌, length, map, take}
+use Rattle.shapes.specs.Views.{declaration_view}
 use Rattle.closing.proofs.Made.{AreLeft}
 use Rattle.closing.proofs.Entered.{AreKnown, name_at, its_schema}
 use Rattle.closing.proofs.components.components_of.Given as goal
 
 -- the components so far are entered, and the schemas of the others are left
 abbrev pub invariant-loop-number : goal.invariant-loop-number
-invariant-loop-number g l = record {
+invariant-loop-number l = record {
   many : length l.made.items ≡ length l.reach;
-  left : AreLeft (map g.D.Declared.declaration l.declared) l.reach l.shown.marks l.made.items (take l.number-index l.shown.components);
-  known : AreKnown (name_at (map g.D.Declared.declaration l.declared) l.reach) (its_schema (map g.D.Declared.declaration l.declared) l.reach) (take l.number-index l.shown.components) l.components;
+  left : AreLeft (map declaration_view l.declared) l.reach l.shown.marks l.made.items (take l.number-index l.shown.components);
+  known : AreKnown (name_at (map declaration_view l.declared) l.reach) (its_schema (map declaration_view l.declared) l.reach) (take l.number-index l.shown.components) l.components;
 }

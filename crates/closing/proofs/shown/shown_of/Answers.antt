@@ -4,6 +4,7 @@ use Rattle.inlining.specs.Inlining.{IsAmong, AreOnce}
 use Rattle.inlining.specs.Marks.{mark}
 use Rattle.inlining.specs.Shown.{IsShown as IsNumberShown, shown_first, shown_inline, shown_referred, IsComponent as IsNumberComponent, first_component, referred_component}
 use Rattle.instances.specs.Lists.{instance_at}
+use Rattle.shapes.specs.Views.{declaration_view}
 use Rattle.closing.specs.Links.{inlining_of, IsFirst, IsShown, AreComponentsOf}
 use Rattle.closing.specs.Made.{AreAlong}
 use Rattle.closing.proofs.ShownNumbers.{first-there, targets-there, references-there, many, as-many, shown-marks, components-within, are-components}
@@ -14,10 +15,10 @@ both (Ok x) P Q p q = (p, q)
 both (Err e) P Q p q = tt
 
 pub find_shown-requires : goal.find_shown-requires
-find_shown-requires g c =
+find_shown-requires c =
     let same = c.same_types_are_equal.ensures in
     let none = c.types_stay_without_arguments.ensures in
-    let ss = map g.D.Declared.declaration c.args.declared.now in
+    let ss = map declaration_view c.args.declared.now in
     let is = c.args.reach.now in
     let first = c.as_slice.result.now in
     let targets = c.as_slice-targets.result.now in
@@ -38,10 +39,10 @@ component-shown n (first_component m among) = shown_first m among
 component-shown n (referred_component m k shown among) = shown_referred m k shown among
 
 pub returns : goal.returns
-returns g c =
+returns c =
     let same = c.same_types_are_equal.ensures in
     let none = c.types_stay_without_arguments.ensures in
-    let ss = map g.D.Declared.declaration c.args.declared.now in
+    let ss = map declaration_view c.args.declared.now in
     let is = c.args.reach.now in
     let first = c.as_slice.result.now in
     let targets = c.as_slice-targets.result.now in

@@ -1,11 +1,11 @@
-use Rattle.std.proofs.Common.{map, ◌<◌, ◌∙◌, length, subst, sym}
-use Rattle.derive_decl.specs.Views.{resolved_view}
+use Rattle.std.proofs.Common.{map, subst}
+use Rattle.shapes.specs.Views.{declaration_view}
 use Rattle.instances.specs.Naming.{IsNaming}
 use Rattle.compose.proofs.bounds.names_apart.Goals as goal
 
 pub clash-requires-clause-reachable : goal.clash-requires-clause-reachable
 clash-requires-clause-reachable c =
-    let ss = map resolved_view c.args.resolved.now in
+    let ss = map declaration_view c.args.resolved.now in
     let is = c.args.reach.now in
     let twice = subst (IsNaming ss is) c.in-Clash.is c.in_ok-names.ensures in
     let differ = c.distinct_names_differ.ensures.numbers ss is c.requires.instances c.in-Clash.first c.in-Clash.second twice.0 twice.1 in
@@ -13,7 +13,7 @@ clash-requires-clause-reachable c =
 
 pub clash-requires-clause-differ : goal.clash-requires-clause-differ
 clash-requires-clause-differ c =
-    let ss = map resolved_view c.args.resolved.now in
+    let ss = map declaration_view c.args.resolved.now in
     let is = c.args.reach.now in
     let twice = subst (IsNaming ss is) c.in-Clash.is c.in_ok-names.ensures in
     (c.distinct_names_differ.ensures.numbers ss is c.requires.instances c.in-Clash.first c.in-Clash.second twice.0 twice.1).2

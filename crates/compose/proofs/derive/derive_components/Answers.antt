@@ -1,15 +1,15 @@
-use Rattle.std.proofs.Common.{◌≡◌, ◌∙◌, ℕ, List, map, ap, sym, subst, inl, inr, Bool}
+use Rattle.std.proofs.Common.{◌∙◌, ℕ, List, map, subst, inl, inr}
 use Rattle.std.proofs.lemmas.Result.{err_from_is_err_and}
 use Rattle.texts.specs.declared.span.Span.{Span}
 use Rattle.schema_core.specs.Document.{Entry}
-use Rattle.schema_core.specs.Entries.{names_of}
+use Rattle.schema_core.specs.Entries.{entry_names}
 use Rattle.open_types.specs.Open.{open_view}
 use Rattle.configuration.specs.Configuration.{Configuration}
 use Rattle.syntax.specs.Source.{Reads, NestsTooDeep}
 use Rattle.syntax.specs.Items.{DeclaredItem, declarations_view}
 use Rattle.scopes.specs.Names.{declared_idents}
-use Rattle.derive_decl.specs.declared.resolved.Resolved.{Resolved}
-use Rattle.derive_decl.specs.Views.{resolved_view}
+use Rattle.shapes.specs.declared.declaration.Declaration.{Declaration}
+use Rattle.shapes.specs.Views.{declaration_view}
 use Rattle.shapes.specs.Declarations.{DeclarationOf}
 use Rattle.closing.specs.Described.{AreComponents}
 use Rattle.compose.specs.Bounds.{AreBounded, IsUnbounded, collects_all}
@@ -63,8 +63,8 @@ returns-in_err-bounded-clause-refused c =
           (
             declarations_of c.in_ok-terms.terms,
             settled.resolves,
-            subst (λ (xs : List Resolved). IsUnbounded c.args.config.now (declared_idents ds) (map resolved_view xs) e) c.as_slice-resolved.ensures
-                (subst (λ xs. IsUnbounded c.args.config.now xs (map resolved_view c.as_slice-resolved.result.now) e) (c.as_slice.ensures ∙ c.in_ok-terms.ensures.terms.idents) unbounded),
+            subst (λ (xs : List Declaration). IsUnbounded c.args.config.now (declared_idents ds) (map declaration_view xs) e) c.as_slice-resolved.ensures
+                (subst (λ xs. IsUnbounded c.args.config.now xs (map declaration_view c.as_slice-resolved.result.now) e) (c.as_slice.ensures ∙ c.in_ok-terms.ensures.terms.idents) unbounded),
           ),
         ),
       )))
@@ -92,9 +92,9 @@ returns-clause-describes c =
     let config = c.args.config.now in
     let components = c.in_ok-components_within.field-0.components in
     let settled = c.in_ok-terms.ensures.terms.settled in
-    let bounded : AreBounded config ss = subst (λ (xs : List Resolved). AreBounded config (map resolved_view xs)) c.as_slice-resolved.ensures c.in_ok-bounded.ensures.bounded in
+    let bounded : AreBounded config ss = subst (λ (xs : List Declaration). AreBounded config (map declaration_view xs)) c.as_slice-resolved.ensures c.in_ok-bounded.ensures.bounded in
     let made : AreComponents ss (collects_all config.collect) components =
-    subst (λ all. AreComponents ss all components) c.in_ok-bounded.ensures.all (subst (λ (xs : List Resolved). AreComponents (map resolved_view xs) c.in_ok-bounded.bounded.all components) c.as_slice-resolved.ensures c.in_ok-components_within.ensures.components) in (
+    subst (λ all. AreComponents ss all components) c.in_ok-bounded.ensures.all (subst (λ (xs : List Declaration). AreComponents (map declaration_view xs) c.in_ok-bounded.bounded.all components) c.as_slice-resolved.ensures c.in_ok-components_within.ensures.components) in (
       derived_of ds ss c.in_ok-declarations.ensures.found c.in_ok-declarations.ensures.shallow settled bounded made,
       c.components_describe.ensures ss (collects_all config.collect) components settled.apart bounded.differ bounded.shallow made,
     )
@@ -106,10 +106,10 @@ returns-clause-types c =
     let config = c.args.config.now in
     let derived = c.in_ok-components_within.field-0 in
     let settled = c.in_ok-terms.ensures.terms.settled in
-    let bounded : AreBounded config ss = subst (λ (xs : List Resolved). AreBounded config (map resolved_view xs)) c.as_slice-resolved.ensures c.in_ok-bounded.ensures.bounded in
+    let bounded : AreBounded config ss = subst (λ (xs : List Declaration). AreBounded config (map declaration_view xs)) c.as_slice-resolved.ensures c.in_ok-bounded.ensures.bounded in
     let made : AreComponents ss (collects_all config.collect) derived.components =
-    subst (λ all. AreComponents ss all derived.components) c.in_ok-bounded.ensures.all (subst (λ (xs : List Resolved). AreComponents (map resolved_view xs) c.in_ok-bounded.bounded.all derived.components) c.as_slice-resolved.ensures c.in_ok-components_within.ensures.components) in (
+    subst (λ all. AreComponents ss all derived.components) c.in_ok-bounded.ensures.all (subst (λ (xs : List Declaration). AreComponents (map declaration_view xs) c.in_ok-bounded.bounded.all derived.components) c.as_slice-resolved.ensures c.in_ok-components_within.ensures.components) in (
       derived_of ds ss c.in_ok-declarations.ensures.found c.in_ok-declarations.ensures.shallow settled bounded made,
-      subst (λ all. AreTypesOf ss all (names_of derived.components) (map open_view derived.types)) c.in_ok-bounded.ensures.all
-          (subst (λ (xs : List Resolved). AreTypesOf (map resolved_view xs) c.in_ok-bounded.bounded.all (names_of derived.components) (map open_view derived.types)) c.as_slice-resolved.ensures c.in_ok-components_within.ensures.types),
+      subst (λ all. AreTypesOf ss all (entry_names derived.components) (map open_view derived.types)) c.in_ok-bounded.ensures.all
+          (subst (λ (xs : List Declaration). AreTypesOf (map declaration_view xs) c.in_ok-bounded.bounded.all (entry_names derived.components) (map open_view derived.types)) c.as_slice-resolved.ensures c.in_ok-components_within.ensures.types),
     )

@@ -1,11 +1,11 @@
-use Rattle.std.proofs.Common.{◌≡◌, ◌∙◌, ◌++◌, ◌∷◌, [], List, map, take, get_or, ap, sym}
+use Rattle.std.proofs.Common.{◌∙◌, List, map, take, get_or, ap, sym}
 use Rattle.std.proofs.lemmas.List.{map_more, map_push}
 use Rattle.scopes.specs.Names.{declared_names}
 use Rattle.syntax.specs.declared.item.Declaration.{Declaration}
 use Rattle.syntax.specs.Items.{declaration_view}
 use Rattle.shapes.specs.Declarations.{declaration_names}
-use Rattle.derive_decl.specs.declared.resolved.Resolved.{Resolved}
-use Rattle.derive_decl.specs.Views.{resolved_view}
+use Rattle.shapes.specs.declared.declaration.Declaration.{Declaration as Resolved}
+use Rattle.shapes.specs.Views.{declaration_view as resolved_view}
 use Rattle.compose.proofs.NamedAlone.{names-more}
 use Rattle.compose.proofs.names.by_name.Goals as goal
 

@@ -2,7 +2,7 @@ use Rattle.std.proofs.Common.{◌≡◌, map, take}
 use Rattle.scopes.specs.Names.{declared_names}
 use Rattle.syntax.specs.Items.{declaration_view}
 use Rattle.shapes.specs.Declarations.{declaration_names}
-use Rattle.derive_decl.specs.Views.{resolved_view}
+use Rattle.shapes.specs.Views.{declaration_view as resolved_view}
 use Rattle.compose.proofs.names.by_name.Given as goal
 
 -- the names so far

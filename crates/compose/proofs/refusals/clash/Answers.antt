@@ -1,9 +1,9 @@
-use Rattle.std.proofs.Common.{◌≡◌, ◌≢◌, ◌∙◌, ◌⊎◌, ℕ, List, map, ap, sym, subst, inl, inr, nat_cmp, Ordering, Less, Equal, Greater}
+use Rattle.std.proofs.Common.{◌≡◌, ◌≢◌, ◌∙◌, ℕ, List, map, ap, sym, inl, inr, nat_cmp, Ordering, Less, Equal, Greater}
 use Rattle.std.specs.Cmp.Lexicographic.{slice_cmp}
 use Rattle.std.specs.Ordering.{ordering_reverse}
 use Rattle.std.proofs.lemmas.Cmp.{nat_list_cmp_total}
 use Rattle.std.proofs.lemmas.Result.{IfOk-weaker}
-use Rattle.derive_decl.specs.Views.{resolved_view}
+use Rattle.shapes.specs.Views.{declaration_view}
 use Rattle.instances.specs.Lists.{instance_at}
 use Rattle.compose.specs.Bounds.{instance_text, IsClash, IsClashOf}
 use Rattle.compose.proofs.refusals.clash.Goals as goal
@@ -23,7 +23,7 @@ compared o a b x y e f g = e ∙ (λ i. slice_cmp nat_cmp (f i) (g i))
 pub returns-in-Greater : goal.returns-in-Greater
 returns-in-Greater c =
     let ds = c.args.idents.now in
-    let ss = map resolved_view c.args.resolved.now in
+    let ss = map declaration_view c.args.resolved.now in
     let t = instance_at c.args.reach.now c.args.first in
     let u = instance_at c.args.reach.now c.args.second in
     let order = compared c.cmp.result c.as_str.result.now c.as_str-2.result.now (instance_text ds t) (instance_text ds u) c.cmp.ensures (c.as_str.ensures ∙ c.in_ok-text.ensures) (c.as_str-2.ensures ∙ c.in_ok-other.ensures) in
@@ -33,7 +33,7 @@ returns-in-Greater c =
 pub returns : goal.returns
 returns c =
     let ds = c.args.idents.now in
-    let ss = map resolved_view c.args.resolved.now in
+    let ss = map declaration_view c.args.resolved.now in
     let t = instance_at c.args.reach.now c.args.first in
     let u = instance_at c.args.reach.now c.args.second in
     let order = compared c.cmp.result c.as_str.result.now c.as_str-2.result.now (instance_text ds t) (instance_text ds u) c.cmp.ensures (c.as_str.ensures ∙ c.in_ok-text.ensures) (c.as_str-2.ensures ∙ c.in_ok-other.ensures) in

@@ -1,8 +1,8 @@
-use Rattle.std.proofs.Common.{◌≡◌, ◌∙◌, ◌∷◌, [], ℕ, List, map, ap, subst, rules}
+use Rattle.std.proofs.Common.{◌≡◌, ◌∙◌, ◌∷◌, [], map, ap, subst, rules}
 use Rattle.std.proofs.lemmas.Result.{IfOk-weaker}
 use Rattle.diag.specs.declared.kind.Kind.TheVariants.{NameClash}
 use Rattle.open_types.specs.Open.{open_view}
-use Rattle.derive_decl.specs.Views.{resolved_view}
+use Rattle.shapes.specs.Views.{declaration_view}
 use Rattle.instances.specs.Lists.{instance_at}
 use Rattle.shapes.specs.InstanceNames.{instance_name}
 use Rattle.compose.specs.Bounds.{instance_text, IsRefusalOf, IsClashOf, clash_message}
@@ -11,7 +11,7 @@ use Rattle.compose.proofs.refusals.ordered_clash.Goals as goal
 pub returns : goal.returns
 returns c =
     let ds = c.args.idents.now in
-    let ss = map resolved_view c.args.resolved.now in
+    let ss = map declaration_view c.args.resolved.now in
     let t = instance_at c.args.reach.now c.args.first in
     let u = instance_at c.args.reach.now c.args.second in
     let typed : open_view c.as_open.result.now ≡ t = ap open_view c.as_open.ensures.same ∙ c.in_ok-ty.ensures in

@@ -1,4 +1,4 @@
-use Rattle.std.proofs.Common.{◌≡◌, ◌<◌, ℕ, List, length, map, get_or, Ok, Err}
+use Rattle.std.proofs.Common.{map, get_or}
 use Rattle.std.proofs.lemmas.Result.{IfOk-weaker}
 use Rattle.diag.specs.declared.kind.Kind.TheVariants.{InlineDepth}
 use Rattle.texts.specs.declared.span.Span.{Span}

@@ -1,4 +1,3 @@
-use Rattle.std.proofs.Common.{map}
 use Rattle.syntax.specs.Items.{declarations_view}
 use Rattle.compose.proofs.Counts.{as-many}
 use Rattle.compose.proofs.sets.instances.Goals as goal

@@ -4,7 +4,7 @@ use Rattle.syntax.specs.Items.{declarations_view}
 use Rattle.scopes.specs.Names.{declared_names}
 use Rattle.shapes.specs.Declarations.{declaration_names}
 use Rattle.derive_decl.specs.Faults.{AreFaultyItems}
-use Rattle.derive_decl.specs.Views.{resolved_view}
+use Rattle.shapes.specs.Views.{declaration_view}
 use Rattle.derive_decl.specs.Whole.{resolved_declarations}
 use Rattle.compose.proofs.sets.settle.Goals as goal
 
@@ -41,7 +41,7 @@ pub returns-clause-settled : goal.returns-clause-settled
 returns-clause-settled c =
     let rows = c.args.config.now.renames in
     let same = ap declarations_view c.in_ok-places.ensures.declarations in
-    let resolved = map resolved_view c.in_ok-resolved.resolved in
+    let resolved = map declaration_view c.in_ok-resolved.resolved in
     record {
       resolves = subst (λ ds. resolved_declarations rows ds ≡ Some resolved) same c.in_ok-resolved.ensures.resolved;
       clear = record {

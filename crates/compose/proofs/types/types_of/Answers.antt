@@ -1,7 +1,7 @@
-use Rattle.std.proofs.Common.{◌≡◌, ◌∙◌, ◌++◌, [], List, map, option_map, ℕ, ap, arith}
+use Rattle.std.proofs.Common.{◌∙◌, ◌++◌, [], List, map, option_map, ℕ, ap}
 use Rattle.std.specs.List.{cons_option}
 use Rattle.texts.specs.Names.{place_in}
-use Rattle.open_types.specs.Open.{Open, open_view}
+use Rattle.open_types.specs.Open.{open_view}
 use Rattle.instances.specs.Lists.{instance_at}
 use Rattle.compose.proofs.TypesFound.{found_more}
 use Rattle.compose.proofs.types.types_of.Goals as goal

@@ -1,7 +1,7 @@
 use Rattle.std.proofs.Common.{◌≡◌, ◌<◌, ◌≤◌, ◌∙◌, length, map, inl, inr, ap, sym, subst}
 use Rattle.std.proofs.lemmas.List.{length-map}
 use Rattle.std.proofs.lemmas.Result.{err_from_is_err_and}
-use Rattle.derive_decl.specs.Views.{resolved_view}
+use Rattle.shapes.specs.Views.{declaration_view}
 use Rattle.inlining.specs.Inlining.{IsAmong, IsAtMost, IsOrder, copies, sum_of}
 use Rattle.instances.specs.Lists.{instance_at}
 use Rattle.closing.specs.Closed.{most_inlined}
@@ -37,14 +37,14 @@ returns-in_err-order-clause-refused c =
 
 pub few_copies-requires-clause-within : goal.few_copies-requires-clause-within
 few_copies-requires-clause-within c = λ n among.
-    let ss = map resolved_view c.args.resolved.now in
+    let ss = map declaration_view c.args.resolved.now in
     let is = c.in_ok-reach.reach in
     let here : n < length is = c.in_ok-shown.ensures.numbers n (subst (IsAmong n) c.as_slice-2.ensures among) in
     subst (λ m. n < m) (sym (ap length (c.as_slice-targets.ensures ∙ c.in_ok-terms.ensures.targets) ∙ length-map is (λ t. numbered is (targets_at ss t)))) here
 
 pub returns-in_err-few_copies-clause-refused : goal.returns-in_err-few_copies-clause-refused
 returns-in_err-few_copies-clause-refused c =
-    let ss = map resolved_view c.args.resolved.now in
+    let ss = map declaration_view c.args.resolved.now in
     let is = c.in_ok-reach.reach in
     let are = c.in_ok-reach.ensures.reached.instances in
     let comps = c.in_ok-shown.shown.components in
@@ -78,7 +78,7 @@ returns-in_err-few_copies-clause-refused c =
 
 pub returns-clause-bounded : goal.returns-clause-bounded
 returns-clause-bounded c =
-    let ss = map resolved_view c.args.resolved.now in
+    let ss = map declaration_view c.args.resolved.now in
     let is = c.in_ok-reach.reach in
     let are = c.in_ok-reach.ensures.reached.instances in
     let comps = c.in_ok-shown.shown.components in
@@ -98,7 +98,7 @@ returns-clause-bounded c =
 
 pub returns-clause-within : goal.returns-clause-within
 returns-clause-within c =
-    let ss = map resolved_view c.args.resolved.now in
+    let ss = map declaration_view c.args.resolved.now in
     let is = c.in_ok-reach.reach in
     let are = c.in_ok-reach.ensures.reached.instances in
     let targets : c.as_slice-targets.result.now ≡ inlining_of ss is = c.as_slice-targets.ensures ∙ c.in_ok-terms.ensures.targets in

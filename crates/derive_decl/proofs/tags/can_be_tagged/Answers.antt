@@ -4,7 +4,7 @@ use Rattle.open_types.specs.Open.{open_view}
 use Rattle.shapes.specs.declared.tagging.Tagging.TheVariants.{Internal}
 use Rattle.shapes.specs.Declarations.{unnamed_fields}
 use Rattle.derive_decl.specs.Tags.{can_be_tagged}
-use Rattle.derive_decl.specs.Views.{form_view}
+use Rattle.shapes.specs.Views.{form_view}
 use Rattle.derive_decl.proofs.tags.can_be_tagged.Goals as goal
 
 pub returns-in-Internal-Unnamed : goal.returns-in-Internal-Unnamed

@@ -1,7 +1,7 @@
 use Rattle.std.proofs.Common.{◌≡◌, map, drop}
 use Rattle.texts.specs.Names.{is_in}
 use Rattle.shapes.specs.Declarations.{member_names}
-use Rattle.derive_decl.specs.Views.{member_view}
+use Rattle.shapes.specs.Views.{member_view}
 use Rattle.derive_decl.proofs.tags.is_member.Given as goal
 
 -- none of the members so far has the name, so those still to come decide

@@ -10,7 +10,7 @@ use Rattle.syntax.specs.Named.{IsNamedBody}
 use Rattle.shapes.specs.Declarations.{AreApartBodies}
 use Rattle.derive_decl.specs.Resolved.{around_of, all_of, resolved_of, Around}
 use Rattle.derive_decl.specs.Faults.{IsFaultyItem}
-use Rattle.derive_decl.specs.Views.{resolved_view}
+use Rattle.shapes.specs.Views.{declaration_view as resolved_view}
 use Rattle.derive_decl.proofs.Faultless.{none_somewhere}
 use Rattle.derive_decl.proofs.Growing.{all_more, facts_more, fact_at, somewhere, apart-push}
 use Rattle.derive_decl.proofs.Over.{names_are, all_fitting}

@@ -5,7 +5,7 @@ use Rattle.syntax.specs.Items.{declaration_view, declarations_view}
 use Rattle.shapes.specs.Declarations.{AreApartBodies}
 use Rattle.derive_decl.specs.Resolved.{around_of, all_of}
 use Rattle.derive_decl.specs.Faults.{IsFaultyItem}
-use Rattle.derive_decl.specs.Views.{resolved_view}
+use Rattle.shapes.specs.Views.{declaration_view as resolved_view}
 use Rattle.derive_decl.proofs.whole.resolved_declarations.Given as goal
 use Rattle.derive_decl.specs.Whole.{resolved_among}
 

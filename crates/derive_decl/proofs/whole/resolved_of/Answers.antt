@@ -18,12 +18,12 @@ returns-in_err-distinct_parameters-clause-refused c =
 pub returns-clause-faultless : goal.returns-clause-faultless
 returns-clause-faultless c =
     let d = c.args.declaration.now in
-    let none = subst (λ (xs : List Attribute). IfOk c.resolve_distinct.result (λ _. RefusesNone (IsFaultyDeclaration (known c.args.container.now) (map attribute_view xs) d.ident (body_view d.body)))) c.as_slice.ensures
-    (IfOk-weaker c.resolve_distinct.result _ _ (λ s resolves. none_faulty (known c.args.container.now) (map attribute_view c.as_slice.result.now) d.ident (body_view d.body) resolves.derivable resolves.faultless) c.resolve_distinct.ensures.resolved) in
-    IfOk-weaker c.resolve_distinct.result _ _ (λ s faultless. λ e fault. elim fault [ inl twice ↦ c.in_ok-distinct_parameters.ensures.once e twice | inr faulty ↦ faultless e faulty ]) none
+    let none = subst (λ (xs : List Attribute). IfOk c.resolve_declaration.result (λ _. RefusesNone (IsFaultyDeclaration (known c.args.container.now) (map attribute_view xs) d.ident (body_view d.body)))) c.as_slice.ensures
+    (IfOk-weaker c.resolve_declaration.result _ _ (λ s resolves. none_faulty (known c.args.container.now) (map attribute_view c.as_slice.result.now) d.ident (body_view d.body) resolves.derivable resolves.faultless) c.resolve_declaration.ensures.resolved) in
+    IfOk-weaker c.resolve_declaration.result _ _ (λ s faultless. λ e fault. elim fault [ inl twice ↦ c.in_ok-distinct_parameters.ensures.once e twice | inr faulty ↦ faultless e faulty ]) none
 
 pub returns-clause-refused : goal.returns-clause-refused
 returns-clause-refused c =
     let d = c.args.declaration.now in
-    let refused = subst (λ (xs : List Attribute). Refuses c.resolve_distinct.result (IsFaultyDeclaration (known c.args.container.now) (map attribute_view xs) d.ident (body_view d.body))) c.as_slice.ensures c.resolve_distinct.ensures.refused in
-    IfErr-weaker c.resolve_distinct.result _ _ (λ e fault. elim fault [ inl memory ↦ inl memory | inr faulty ↦ inr (inr faulty) ]) refused
+    let refused = subst (λ (xs : List Attribute). Refuses c.resolve_declaration.result (IsFaultyDeclaration (known c.args.container.now) (map attribute_view xs) d.ident (body_view d.body))) c.as_slice.ensures c.resolve_declaration.ensures.refused in
+    IfErr-weaker c.resolve_declaration.result _ _ (λ e fault. elim fault [ inl memory ↦ inl memory | inr faulty ↦ inr (inr faulty) ]) refused

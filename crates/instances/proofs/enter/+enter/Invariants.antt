@@ -3,7 +3,7 @@ use Rattle.instances.proofs.Entered.{after}
 use Rattle.instances.proofs.enter.+enter.Given as goal
 
 abbrev pub decreases-enter : goal.decreases-enter
-decreases-enter g l = 2 * l.id + 1
+decreases-enter l = 2 * l.id + 1
 
 abbrev pub decreases-enter_part : goal.decreases-enter_part
-decreases-enter_part g l = 2 * after l.part
+decreases-enter_part l = 2 * after l.part

@@ -3,13 +3,14 @@ use Rattle.std.proofs.lemmas.List.{length-map}
 use Rattle.open_types.specs.Instances.{type_size}
 use Rattle.type_table.specs.Types.{type_at}
 use Rattle.shapes.specs.InstanceShape.{IsReachable}
+use Rattle.shapes.specs.Views.{declaration_view}
 use Rattle.instances.specs.Entering.{AreEntered}
 use Rattle.instances.proofs.Entered.{instance-stands, counted, new-instance, each-cons, entered-instance}
 use Rattle.instances.proofs.enter.enter_instance.Goals as goal
 
 pub returns-then-len-bounds-clause-beyond : goal.returns-then-len-bounds-clause-beyond
-returns-then-len-bounds-clause-beyond g c =
-    let ss = map g.D.Declared.declaration c.args.declared.now in
+returns-then-len-bounds-clause-beyond c =
+    let ss = map declaration_view c.args.declared.now in
     let known = c.args.types.now in
     let found = c.requires.found in
     let marks = c.args.found.now.entered.items in
@@ -23,8 +24,8 @@ returns-then-len-bounds-clause-beyond g c =
     ((t ∷ is, (new, found.different), each-cons (IsReachable ss) t is reached found.reached, more), (t, reached, tt, stands.1))
 
 pub returns-clause-found : goal.returns-clause-found
-returns-clause-found g c =
-    let ss = map g.D.Declared.declaration c.args.declared.now in
+returns-clause-found c =
+    let ss = map declaration_view c.args.declared.now in
     let known = c.args.types.now in
     let limit = c.args.bounds.limit in
     let most = c.args.bounds.most in

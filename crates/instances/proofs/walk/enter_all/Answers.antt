@@ -2,6 +2,7 @@ use Rattle.std.proofs.Common.{◌≡◌, ◌<◌, refl, ap, sym, subst, length, 
 use Rattle.std.proofs.lemmas.List.{length-map}
 use Rattle.type_table.specs.Types.{type_at}
 use Rattle.shapes.specs.Instances.{places_at}
+use Rattle.shapes.specs.Views.{declaration_view}
 use Rattle.instances.specs.Lists.{IsOneOf, instance_at}
 use Rattle.instances.specs.Entering.{AreHeld, roots_among}
 use Rattle.instances.proofs.NameLaws.{at-one}
@@ -10,12 +11,12 @@ use Rattle.instances.proofs.Walks.{walked-whole, no-fewer, roots-still, places-m
 use Rattle.instances.proofs.walk.enter_all.Goals as goal
 
 pub loop-number-init : goal.loop-number-init
-loop-number-init g c =
+loop-number-init c =
     let walked = c.in_ok-enter_roots.ensures.walked in
     record { found = walked.found; within = omega arith; roots = walked.held; places = λ k l. absurd (omega (arith, l)) }
 
 pub enter_places-requires-clause-within : goal.enter_places-requires-clause-within
-enter_places-requires-clause-within g c =
+enter_places-requires-clause-within c =
     let known = c.loop-number.types in
     let ids = c.loop-number.found.instances in
     let is = map (type_at known) ids in
@@ -23,10 +24,10 @@ enter_places-requires-clause-within g c =
     id-within known ids c.as_slice.result.now is c.loop-number.number c.index-as_slice-number.result c.loop-number.invariant.found.below c.as_slice.ensures refl l c.index-as_slice-number.is
 
 pub enter_places-requires-clause-found : goal.enter_places-requires-clause-found
-enter_places-requires-clause-found g c = c.loop-number.invariant.found
+enter_places-requires-clause-found c = c.loop-number.invariant.found
 
 pub enter_places-requires-clause-reached : goal.enter_places-requires-clause-reached
-enter_places-requires-clause-reached g c =
+enter_places-requires-clause-reached c =
     let known = c.loop-number.types in
     let ids = c.loop-number.found.instances in
     let is = map (type_at known) ids in
@@ -36,8 +37,8 @@ enter_places-requires-clause-reached g c =
     c.loop-number.invariant.found.reached (type_at known c.index-as_slice-number.result) (subst (λ t. IsOneOf t is) (sym same) (at-one is c.loop-number.number l))
 
 pub loop-number-preserved : goal.loop-number-preserved
-loop-number-preserved g c =
-    let ss = map g.D.Declared.declaration c.args.declared.now in
+loop-number-preserved c =
+    let ss = map declaration_view c.args.declared.now in
     let known = c.loop-number.types in
     let old = c.loop-number.found in
     let after = c.enter_places.new.types in
@@ -59,14 +60,14 @@ loop-number-preserved g c =
     }
 
 pub returns-clause-found : goal.returns-clause-found
-returns-clause-found g c = c.loop-number.invariant.found
+returns-clause-found c = c.loop-number.invariant.found
 
 pub returns-clause-whole : goal.returns-clause-whole
-returns-clause-whole g c =
-    let ss = map g.D.Declared.declaration c.args.declared.now in
+returns-clause-whole c =
+    let ss = map declaration_view c.args.declared.now in
     let known = c.loop-number.types in
     let ids = c.loop-number.found.instances in
     let is = map (type_at known) ids in
-    let roots : AreHeld (roots_among ss (length ss)) is = subst (λ n. AreHeld (roots_among ss n) is) (sym (length-map c.args.declared.now g.D.Declared.declaration)) c.loop-number.invariant.roots in
+    let roots : AreHeld (roots_among ss (length ss)) is = subst (λ n. AreHeld (roots_among ss n) is) (sym (length-map c.args.declared.now declaration_view)) c.loop-number.invariant.roots in
     walked-whole ss is roots
     (λ k l. c.loop-number.invariant.places k (omega (arith, l, length-map ids (type_at known), c.loop-number-test.false, c.len.ensures)))

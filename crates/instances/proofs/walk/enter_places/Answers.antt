@@ -8,6 +8,7 @@ use Rattle.type_table.specs.Types.{type_at, types_at, AllBelow}
 use Rattle.shapes.specs.Declarations.{DeclarationOf, declaration_at, body_types}
 use Rattle.shapes.specs.Instances.{places_at}
 use Rattle.shapes.specs.InstanceShape.{stands}
+use Rattle.shapes.specs.Views.{declaration_view}
 use Rattle.instances.specs.Fitting.{IsFit}
 use Rattle.instances.specs.Entering.{IsWalked}
 use Rattle.instances.proofs.DeclaredAt.{declared-at}
@@ -29,15 +30,15 @@ module _ {A : Type 0} (f : A → DeclarationOf) (ds : List A) (t : Open) (fit : 
       ∙ ap (λ n. body_types (declaration_at (map f ds) n).body) is
 
 pub loop-ty-init : goal.loop-ty-init
-loop-ty-init g c =
-    let ss = map g.D.Declared.declaration c.args.declared.now in
+loop-ty-init c =
+    let ss = map declaration_view c.args.declared.now in
     let args = arguments_of (type_at c.args.types.now c.args.id) in
     subst (IsWalked ss c.args.bounds c.args.types.now c.args.found.now.instances c.args.types.now c.args.found.now) (sym (taken-none view (substituted args) c.deref-ty-items.result.now))
     (walked-none ss c.args.bounds c.args.types.now c.args.found.now c.requires.found)
 
 pub enter_place-requires-clause-over : goal.enter_place-requires-clause-over
-enter_place-requires-clause-over g c =
-    let f = g.D.Declared.declaration in
+enter_place-requires-clause-over c =
+    let f = declaration_view in
     let ss = map f c.args.declared.now in
     let known = c.args.types.now in
     let t = type_at known c.args.id in
@@ -53,17 +54,17 @@ enter_place-requires-clause-over g c =
     subst (λ m. IsOverFirst m (view item)) many (place-over ss c.requires.fitting t fit (map view items) are n (view item) within here)
 
 pub enter_place-requires-clause-numbers : goal.enter_place-requires-clause-numbers
-enter_place-requires-clause-numbers g c =
+enter_place-requires-clause-numbers c =
     let known = c.args.types.now in
     subst (AllBelow (length c.loop-ty.types)) (sym c.as_slice-arguments.ensures)
     (below-front known c.loop-ty.types c.in_ok-ids.ids c.loop-ty.invariant.front (below-up c.args.id known c.in_ok-ids.ids c.requires.within c.in_ok-ids.ensures.below))
 
 pub enter_place-requires-clause-found : goal.enter_place-requires-clause-found
-enter_place-requires-clause-found g c = c.loop-ty.invariant.found
+enter_place-requires-clause-found c = c.loop-ty.invariant.found
 
 pub enter_place-requires-clause-reached : goal.enter_place-requires-clause-reached
-enter_place-requires-clause-reached g c =
-    let f = g.D.Declared.declaration in
+enter_place-requires-clause-reached c =
+    let f = declaration_view in
     let ss = map f c.args.declared.now in
     let known = c.args.types.now in
     let t = type_at known c.args.id in
@@ -80,8 +81,8 @@ enter_place-requires-clause-reached g c =
     λ u s. stands t u c.requires.reached (place-stands ss c.requires.fitting t fit (map view items) are n (view item) within here u (subst (λ ts. StandsInOne u (substituted ts (view item) ∷ [])) args s))
 
 pub loop-ty-preserved : goal.loop-ty-preserved
-loop-ty-preserved g c =
-    let ss = map g.D.Declared.declaration c.args.declared.now in
+loop-ty-preserved c =
+    let ss = map declaration_view c.args.declared.now in
     let known = c.args.types.now in
     let t = type_at known c.args.id in
     let items = c.deref-ty-items.result.now in
@@ -99,8 +100,8 @@ loop-ty-preserved g c =
     (walked-twice ss c.args.bounds known c.loop-ty.types after old c.loop-ty.found new (map put (map view (take n items))) (put (view item) ∷ []) c.loop-ty.invariant one)
 
 pub returns-clause-walked : goal.returns-clause-walked
-returns-clause-walked g c =
-    let f = g.D.Declared.declaration in
+returns-clause-walked c =
+    let f = declaration_view in
     let ss = map f c.args.declared.now in
     let known = c.args.types.now in
     let t = type_at known c.args.id in

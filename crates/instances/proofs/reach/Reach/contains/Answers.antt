@@ -1,6 +1,5 @@
-use Rattle.std.proofs.Common.{◌≡◌, ◌∙◌, ◌↔◌, IsTrue, is_some, ap, subst, sym}
+use Rattle.std.proofs.Common.{◌∙◌, IsTrue, is_some, ap, subst, sym}
 use Rattle.open_types.specs.Open.{open_view}
-use Rattle.instances.specs.Lists.{IsOneOf}
 use Rattle.instances.proofs.Numbers.{found-one, one-found}
 use Rattle.instances.proofs.reach.Reach.contains.Goals as goal
 

@@ -1,4 +1,4 @@
-use Rattle.std.proofs.Common.{◌≡◌, ◌∙◌, IsTrue, is_some, ap, sym, subst}
+use Rattle.std.proofs.Common.{◌∙◌, is_some, ap, sym}
 use Rattle.std.proofs.lemmas.Bool.{false≢true}
 use Rattle.open_types.specs.Open.{open_view}
 use Rattle.instances.proofs.Numbers.{one-found, number-is}

@@ -1,0 +1,20 @@
+use Rattle.std.proofs.Common.{inl, inr, subst}
+use Rattle.std.proofs.lemmas.Result.{IfOk-weaker, err_from_is_err_and}
+use Rattle.diag.specs.Refusal.{RefusesNone}
+use Rattle.derive_decl.specs.Faults.{AreFaultyParameters}
+use Rattle.declaration_schemas.proofs.schema.Schema.resolve.Goals as goal
+
+pub returns-in_err-distinct_parameters-clause-refused : goal.returns-in_err-distinct_parameters-clause-refused
+returns-in_err-distinct_parameters-clause-refused c =
+    let p = err_from_is_err_and c.from_residual.result c.from_residual.ensures.1 in
+    rw (p.1, p.2)
+    (elim c.in_err-distinct_parameters.ensures.refused [
+      | inl memory ↦ inl memory
+      | inr twice ↦ inr (inl (subst (λ ps. AreFaultyParameters ps c.in_err-distinct_parameters.field-0.0) c.generics_of.ensures twice))
+    ])
+
+pub returns-clause-resolved : goal.returns-clause-resolved
+returns-clause-resolved c =
+    IfOk-weaker c.resolve_declaration.result _ _
+    (λ s is. record { once = subst (λ ps. RefusesNone (AreFaultyParameters ps)) c.generics_of.ensures c.in_ok-distinct_parameters.ensures.once; resolved = is })
+    c.resolve_declaration.ensures.resolved

@@ -1,0 +1,71 @@
+//! The schema of the body of a declaration.
+
+ghost use Rattle.std.specs.Prelude.{◌≡◌, IfOk, None, Some};
+ghost use Rattle.diag.specs.Refusal.{Refuses, RefusesNone};
+ghost use Rattle.syntax.specs.Items.{body_view};
+ghost use Rattle.syntax.specs.Named.{IsNamedBody};
+ghost use Rattle.shapes.specs.Declarations.{IsApartBody};
+ghost use Rattle.shapes.specs.Views.{body_view as resolved_view};
+ghost use Rattle.derive_decl.specs.Resolved.{body_of, remarks_of};
+ghost use Rattle.derive_decl.specs.Faults.{attributes_with, first_other, IsFaultyBody, IsFaultyDeclaration};
+ghost use Rattle.derive_decl.specs.Views.{attributes_of, items_of, known};
+
+use component::Term;
+use derive_decl::{Root, remarks_of, resolve_body};
+use diag::DeriveError;
+use place_schemas::ToTerm;
+use shapes::{Body as Resolved, Remarks};
+use std::alloc::Global;
+use syntax::Body;
+use terms::body_term;
+
+/// The body of a declaration, and what is said of the declaration.
+#[derive(Debug, Drop)]
+pub struct SchemaVariant {
+    pub remarks: Remarks,
+    pub body: Resolved,
+}
+
+impl SchemaVariant {
+    /// The body of the declaration, with its types resolved. It is refused as `Schema::resolve` is, but that no parameter is
+    /// looked at.
+    pub fn new(alloc: Global, body: &Body, root: &Root<'_>) -> Result<SchemaVariant, DeriveError>
+        requires { IsNamedBody (body_view body.now) }
+        ensures body { IfOk result
+            (λ s. body_of (known root.now.container.now) (items_of root.now) (body_view body.now)
+            ≡ Some (resolved_view s.body)) }
+        ensures remarks { IfOk result (λ s. s.remarks ≡ remarks_of (attributes_of root.now)) }
+        ensures apart { IfOk result (λ s. IsApartBody (resolved_view s.body)) }
+        ensures derivable { IfOk result
+            (λ _. first_other (attributes_with (attributes_of root.now) (body_view body.now)) ≡ None) }
+        ensures faultless { IfOk result
+            (λ _. RefusesNone
+            (IsFaultyBody (known root.now.container.now) (items_of root.now) root.now.ident.now
+            (body_view body.now))) }
+        ensures refused { Refuses result
+            (IsFaultyDeclaration (known root.now.container.now) (attributes_of root.now)
+            root.now.ident.now (body_view body.now)) }
+    {
+        let body = resolve_body(alloc, root, body)?;
+        Ok(SchemaVariant {
+            remarks: remarks_of(alloc, root.attributes)?,
+            body,
+        })
+    }
+}
+
+impl ToTerm for SchemaVariant {
+    ghost use Rattle.std.specs.Prelude.{◌≡◌};
+    ghost use Rattle.shapes.specs.Views.{body_view as resolved_view};
+    ghost use Rattle.terms.specs.Terms.{body_term};
+
+    ghost is_ready = { λ _. Unit {0} };
+
+    ghost has_term = { λ s t. t ≡ body_term s.remarks (resolved_view s.body) };
+
+    ghost is_refused = { λ _ _. ⊥ };
+
+    fn to_term(&self, alloc: Global) -> Result<Term, DeriveError> {
+        Ok(body_term(alloc, &self.remarks, &self.body)?)
+    }
+}

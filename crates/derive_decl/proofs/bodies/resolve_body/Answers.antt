@@ -1,0 +1,17 @@
+use Rattle.std.proofs.Common.{inl, inr}
+use Rattle.std.proofs.lemmas.Result.{IfErr-weaker, err_from_is_err_and}
+use Rattle.derive_decl.proofs.bodies.resolve_body.Goals as goal
+
+pub returns-in_err-derivable-clause-refused : goal.returns-in_err-derivable-clause-refused
+returns-in_err-derivable-clause-refused c =
+    let p = err_from_is_err_and c.from_residual.result c.from_residual.ensures.1 in
+    rw (p.1, p.2)
+    (elim c.in_err-derivable.ensures.refused [
+      | inl memory ↦ inl memory
+      | inr other ↦ inr (inl other)
+    ])
+
+pub returns-clause-refused : goal.returns-clause-refused
+returns-clause-refused c =
+    IfErr-weaker c.body_of.result _ _ (λ e fault. elim fault [ inl memory ↦ inl memory | inr h ↦ inr (inr (c.in_ok-derivable.ensures.derivable, h)) ])
+    c.body_of.ensures.refused

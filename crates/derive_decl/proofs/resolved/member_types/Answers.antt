@@ -1,9 +1,0 @@
-use Rattle.std.proofs.Common.{◌≡◌, map, take, ap, ◌∙◌, arith}
-use Rattle.std.proofs.lemmas.Grind.{common_steps}
-use Rattle.derive_decl.proofs.Members.{type_in, types_are}
-use Rattle.derive_decl.proofs.resolved.member_types.Goals as goal
-
-pub returns : goal.returns
-returns c =
-    let whole : take c.loop-member.member-index c.args.members.now ≡ c.args.members.now = grind (arith, common_steps) in
-    c.loop-member.invariant ∙ ap (map type_in) whole ∙ types_are c.args.members.now

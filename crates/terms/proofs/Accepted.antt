@@ -1,0 +1,407 @@
+-- What the schemas of places and of fields accept: a place what has the shape of its type, fields what has the shape of their form.
+use Rattle.std.proofs.Common.{ℕ, suc, drop, length, None, Option, pos, int_le, List, [], ◌∷◌, Bool, true, false, not, ◌&&◌, ◌||◌, cond, Some, IsTrue, ◌≡◌, ◌≢◌, refl, ap, sym, subst, ◌∙◌, map as map_over}
+use Rattle.std.specs.List.{list_all}
+use Rattle.std.proofs.Math.Dec.{leb-zero, leb-suc-zero, leb-suc-suc}
+use Rattle.acceptance.specs.Acceptance.{others_pass, names_pass}
+use Rattle.acceptance.specs.Json.{Json, Members, null, boolean, number, text, list, map, entries, names, look, distinct, on_map, on_list, if_there}
+use Rattle.texts.specs.Names.{is_in}
+use Rattle.schema_trees.specs.declared.tree.SchemaTypeInner.TheVariants as word
+use Rattle.schema_trees.specs.declared.tree.TypeWord.TheVariants.{Any, One}
+use Rattle.schema_trees.specs.declared.notes.Annotations.{Annotations as Notes}
+use Rattle.schema_trees.specs.Notes.{no_notes, noted, described}
+use Rattle.schema_trees.specs.Schema.{SchemaOf, schema_count, property_names}
+use Rattle.schema_trees.specs.Schema as tree
+use Rattle.schema_core.specs.Form.{array_word}
+use Rattle.schema_core.specs.Meaning.{each_in_order, word_accepts, minimum_accepts, required_accepts, tree_accepts, properties_accept}
+use Rattle.leaves.specs.declared.leaf.LeafKind.{LeafKind}
+use Rattle.leaves.specs.declared.leaf.LeafKind.TheVariants as kinds
+use Rattle.leaves.specs.Leaves.{kind_of}
+use Rattle.open_types.specs.Open.{Open, Opens, leaf, any_value, free_object, unit, tuple, items, set, map_of, option, through, param, named, no_types, more_types, argument_at, substituted, all_substituted}
+use Rattle.open_types.specs.Same.{same_type}
+use Rattle.open_types.specs.Laws.{SameIsEqual, SubstitutedNone}
+use Rattle.component.specs.Leaves.{LeafOf}
+use Rattle.component.specs.Leaves as named_leaf
+use Rattle.schema_trees.specs.Objects.{only_word}
+use Rattle.component.specs.Places.{word_of, minimum_of, type_word, one_of_null, or_null, beside, in_place, declared, argument, place, inline_places}
+use Rattle.shapes.specs.declared.remarks.Remarks.{Remarks}
+use Rattle.shapes.specs.Declarations.{MemberOf, FormOf, named_fields, unnamed_fields, no_fields, DeclarationOf, member_types, member_names}
+use Rattle.shapes.specs.Instances.{member_over, form_over}
+use Rattle.shapes.specs.Shape.{is_null, is_text, is_boolean, is_number, is_list, is_map, reads, type_shape, items_fit, member_fits, no_others, elements_fit, unnamed_shape, form_shape}
+use Rattle.shapes.specs.Plain.{IsPlainType, ArePlainTypes, AreAllPlain, IsPlainForm}
+use Rattle.terms.specs.Terms.{properties_of, required_names, object_of, are_all, alike_term, field_terms, mixed_term, unnamed_term, form_term, remarked}
+use Rattle.terms.specs.Meaning.{leaf_shape}
+
+-- ---- conditions
+
+pub and-true : (a : Bool) → (a && true) ≡ a
+and-true true = refl
+and-true false = refl
+
+and-swap : (a b : Bool) → (a && b) ≡ (b && a)
+and-swap true true = refl
+and-swap true false = refl
+and-swap false true = refl
+and-swap false false = refl
+
+pub and-assoc : (a b c : Bool) → ((a && b) && c) ≡ (a && (b && c))
+and-assoc true b c = refl
+and-assoc false b c = refl
+
+and-left : (a b : Bool) → IsTrue (a && b) → IsTrue a
+and-left true b h = refl
+and-left false b h = h
+
+and-right : (a b : Bool) → IsTrue (a && b) → IsTrue b
+and-right true b h = h
+and-right false b h = cc
+
+and-both : (a b : Bool) → IsTrue a → IsTrue b → IsTrue (a && b)
+and-both true b f g = g
+and-both false b f g = f
+
+-- two pairs of conditions, taken the other way
+and-cross : (a b c d : Bool) → ((a && b) && (c && d)) ≡ ((c && a) && (b && d))
+and-cross true b true d = refl
+and-cross true true false d = refl
+and-cross true false false d = refl
+and-cross false b true d = refl
+and-cross false b false d = refl
+
+-- two conditions, and a third before them
+and-third : (a b c d : Bool) → (a && (b && (c && d))) ≡ (c && (a && (b && d)))
+and-third true true c d = refl
+and-third true false true d = refl
+and-third true false false d = refl
+and-third false b true d = refl
+and-third false b false d = refl
+
+-- a condition in the middle, taken to the end
+pub and-last : (a b c : Bool) → (a && (b && c)) ≡ ((a && c) && b)
+and-last true b c = and-swap b c
+and-last false b c = refl
+
+pub or-false : (a : Bool) → (a || false) ≡ a
+or-false true = refl
+or-false false = refl
+
+or-swap : (a b : Bool) → (a || (b || false)) ≡ (b || a)
+or-swap true true = refl
+or-swap true false = refl
+or-swap false true = refl
+or-swap false false = refl
+
+or-twice : (n a b : Bool) → (a || b) ≡ ((n && a) || (a || b))
+or-twice true true b = refl
+or-twice true false b = refl
+or-twice false a b = refl
+
+or-true : (n a : Bool) → true ≡ ((n && a) || true)
+or-true true true = refl
+or-true true false = refl
+or-true false a = refl
+
+-- ---- leaves
+
+-- each kind: what its word and its minimum accept, is what serde reads, or null where it may be
+text-accepts : (n : Bool) (v : Json) → (word_accepts (type_word n word.String) v && (on_map v (λ es. true) && (required_accepts [] v && true))) ≡ ((n && is_null v) || is_text v)
+text-accepts true null = refl
+text-accepts false null = refl
+text-accepts _ _ = refl
+
+boolean-accepts : (n : Bool) (v : Json) → (word_accepts (type_word n word.Boolean) v && (on_map v (λ es. true) && (required_accepts [] v && true))) ≡ ((n && is_null v) || is_boolean v)
+boolean-accepts true null = refl
+boolean-accepts false null = refl
+boolean-accepts _ _ = refl
+
+signed-accepts : (n : Bool) (v : Json) → (word_accepts (type_word n word.Integer) v && (on_map v (λ es. true) && (required_accepts [] v && true))) ≡ ((n && is_null v) || is_number v (λ m. true))
+signed-accepts true null = refl
+signed-accepts false null = refl
+signed-accepts _ _ = refl
+
+unsigned-accepts : (n : Bool) (v : Json) →
+    (word_accepts (type_word n word.Integer) v && (on_map v (λ es. true) && (required_accepts [] v && minimum_accepts (Some (pos 0)) v))) ≡ ((n && is_null v) || is_number v (λ m. int_le (pos 0) m))
+unsigned-accepts true null = refl
+unsigned-accepts false null = refl
+unsigned-accepts _ _ = refl
+
+kind-accepts : (n : Bool) (x : LeafKind) (v : Json) → x ≢ kinds.Float →
+    (word_accepts (type_word n (word_of x)) v && (on_map v (λ es. true) && (required_accepts [] v && minimum_accepts (minimum_of x) v))) ≡ ((n && is_null v) || reads x v)
+kind-accepts n kinds.Text v h = text-accepts n v
+kind-accepts n kinds.Boolean v h = boolean-accepts n v
+kind-accepts n kinds.Signed v h = signed-accepts n v
+kind-accepts n kinds.Unsigned v h = unsigned-accepts n v
+kind-accepts n kinds.Float v h = absurd (h refl)
+
+object-accepts : (n : Bool) (v : Json) → (word_accepts (type_word n word.Object) v && (on_map v (λ es. true) && (required_accepts [] v && true))) ≡ ((n && is_null v) || is_map v (λ es. true))
+object-accepts true null = refl
+object-accepts false null = refl
+object-accepts _ _ = refl
+
+-- ---- null and descriptions
+module _ {X : Type 0} (says : X → Json → Bool) where
+  any-accepts : (notes : Notes) (v : Json) → tree_accepts says (only_word Any notes) v ≡ true
+  any-accepts notes null = refl
+  any-accepts notes _ = refl
+
+  pub null-accepts : (notes : Notes) (v : Json) → tree_accepts says (only_word (One word.Null) notes) v ≡ is_null v
+  null-accepts notes null = refl
+  null-accepts notes _ = refl
+
+  or-null-accepts : (notes : Notes) (s : SchemaOf X) (v : Json) → tree_accepts says (one_of_null notes s) v ≡ (is_null v || tree_accepts says s v)
+  or-null-accepts notes s v = (λ i. tree_accepts says s v || (null-accepts no_notes v i || false)) ∙ or-swap (tree_accepts says s v) (is_null v)
+
+  -- where null may be
+  nullable-accepts : (n : Bool) (s : SchemaOf X) (v : Json) → tree_accepts says (or_null n s) v ≡ ((n && is_null v) || tree_accepts says s v)
+  nullable-accepts false s v = refl
+  nullable-accepts true s v = or-null-accepts no_notes s v
+
+  -- a description says nothing
+  beside-accepts : (description : Option (List ℕ)) (s : SchemaOf X) (v : Json) → tree_accepts says (beside description s) v ≡ tree_accepts says s v
+  beside-accepts None s v = refl
+  beside-accepts (Some x) s v = (λ i. tree_accepts says s v && (any-accepts (described (Some x)) v i && true)) ∙ and-true (tree_accepts says s v)
+
+  in_place-accepts : (n : Bool) (description : Option (List ℕ)) (s : SchemaOf X) (v : Json) → tree_accepts says (in_place n description s) v ≡ ((n && is_null v) || tree_accepts says s v)
+  in_place-accepts false description s v = beside-accepts description s v
+  in_place-accepts true description s v = or-null-accepts (described description) s v
+
+-- ---- lists and maps
+
+-- two tests of a list are one of both
+both-lists : (v : Json) (p q : List Json → Bool) → (on_list v p && on_list v q) ≡ on_list v (λ vs. p vs && q vs)
+both-lists null p q = refl
+both-lists _ p q = refl
+
+list-accepts : (n : Bool) (v : Json) (p : List Json → Bool) → (word_accepts (array_word n) v && on_list v p) ≡ ((n && is_null v) || is_list v p)
+list-accepts true null p = refl
+list-accepts false null p = refl
+list-accepts _ _ p = refl
+
+-- elements that all pass
+items-accept : (n : Bool) (v : Json) (p : List Json → Bool) → (word_accepts (array_word n) v && (on_list v (λ vs. true) && on_list v p)) ≡ ((n && is_null v) || is_list v p)
+items-accept n v p = (λ i. word_accepts (array_word n) v && both-lists v (λ vs. true) p i) ∙ list-accepts n v p
+
+-- elements that all pass, no two of them equal
+distinct-accept : (n : Bool) (v : Json) (p : List Json → Bool) →
+    (word_accepts (array_word n) v && (on_list v distinct && (on_list v (λ vs. true) && on_list v p))) ≡ ((n && is_null v) || is_list v (λ vs. p vs && distinct vs))
+distinct-accept n v p =
+    (λ i. word_accepts (array_word n) v && (on_list v distinct && both-lists v (λ vs. true) p i))
+    ∙ (λ i. word_accepts (array_word n) v && both-lists v distinct p i)
+    ∙ (λ i. word_accepts (array_word n) v && on_list v (λ vs. and-swap (distinct vs) (p vs) i))
+    ∙ list-accepts n v (λ vs. p vs && distinct vs)
+
+-- no more elements and no fewer, of which those in front pass and the others do
+exactly-accept : (v : Json) (more fewer front rest : List Json → Bool) →
+    (word_accepts (array_word false) v && (on_list v more && (on_list v fewer && (on_list v front && on_list v rest)))) ≡ is_list v (λ vs. more vs && (fewer vs && (front vs && rest vs)))
+exactly-accept v more fewer front rest =
+    (λ i. word_accepts (array_word false) v && (on_list v more && (on_list v fewer && both-lists v front rest i)))
+    ∙ (λ i. word_accepts (array_word false) v && (on_list v more && both-lists v fewer (λ vs. front vs && rest vs) i))
+    ∙ (λ i. word_accepts (array_word false) v && both-lists v more (λ vs. fewer vs && (front vs && rest vs)) i)
+    ∙ list-accepts false v (λ vs. more vs && (fewer vs && (front vs && rest vs)))
+
+-- a map whose values pass, and whose names
+map-accepts : (n : Bool) (v : Json) (p q : List (List ℕ × Json) → Bool) →
+    (word_accepts (type_word n word.Object) v && (on_map v (λ es. true) && (on_map v p && (on_map v q && (required_accepts [] v && true))))) ≡ ((n && is_null v) || is_map v (λ es. p es && q es))
+map-accepts true (map ms) p q = ap (λ b. p (entries ms) && b) (and-true (q (entries ms)))
+map-accepts false (map ms) p q = ap (λ b. p (entries ms) && b) (and-true (q (entries ms)))
+map-accepts true null p q = refl
+map-accepts false null p q = refl
+map-accepts _ _ p q = refl
+
+-- the names and the values of entries, tested apart or together
+entries-pass : (p q : Json → Bool) (es : List (List ℕ × Json)) → (others_pass [] q es && names_pass p es) ≡ list_all (λ e. p (text e.0) && q e.1) es
+entries-pass p q [] = refl
+entries-pass p q (e ∷ es) = and-cross (q e.1) (others_pass [] q es) (p (text e.0)) (names_pass p es) ∙ ap (λ b. (p (text e.0) && q e.1) && b) (entries-pass p q es)
+
+-- where other names are denied, each name is among these
+pub others-denied : (ks : List (List ℕ)) (es : List (List ℕ × Json)) → others_pass ks (λ w. false) es ≡ list_all (λ e. is_in e.0 ks) es
+others-denied ks [] = refl
+others-denied ks (e ∷ es) = (λ i. or-false (is_in e.0 ks) i && others-denied ks es i)
+
+pub property_names-are : (args : Opens) (ms : List MemberOf) → property_names (properties_of ms) ≡ member_names (map_over (member_over args) ms)
+property_names-are args [] = refl
+property_names-are args (m ∷ ms) = ap (λ ns. m.name ∷ ns) (property_names-are args ms)
+
+-- ---- required names
+
+needed : (a b p q : Bool) → ((a && p) && ((b && q) && true)) ≡ ((b && a) && (p && (q && true)))
+needed true true p q = refl
+needed true false true q = refl
+needed true false false q = refl
+needed false true p q = refl
+needed false false p q = refl
+
+not_needed : (a p q : Bool) → ((a && p) && (q && true)) ≡ (a && (p && (q && true)))
+not_needed true p q = refl
+not_needed false p q = refl
+
+-- the name of one more member, which may be required, beside the names of the others
+member-accepts : (required a p : Bool) (is : List ℕ → Bool) (k : List ℕ) (ks : List (List ℕ)) →
+    ((a && p) && (list_all is (cond required (k ∷ ks) ks) && true)) ≡ ((not required || is k) && a) && (p && (list_all is ks && true))
+member-accepts true a p is k ks = needed a (is k) p (list_all is ks)
+member-accepts false a p is k ks = not_needed a p (list_all is ks)
+
+-- ---- places
+
+-- Leaves that accept what has the shape of their types, with arguments in the places of the parameters.
+module _ (ss : List DeclarationOf) (instance : Open → Json → Bool) (args : Opens) (says : LeafOf → Json → Bool)
+    (at_named : (d : ℕ) (ts : Opens) (inline : Bool) (notes : Notes) (v : Json) → says (named_leaf.named (named d ts) inline notes) v ≡ type_shape instance (substituted args (named d ts)) v)
+    (at_param : (i : ℕ) → IsPlainType ss (argument_at args i) → (v : Json) → says (named_leaf.param i) v ≡ type_shape instance (argument_at args i) v) where
+  abbrev has : Open → Json → Bool
+  has t = type_shape instance (substituted args t)
+
+  abbrev over : List Open → List Open
+  over ts = map_over (substituted args) ts
+
+  either : (n : Bool) (v : Json) (a b : Bool) → a ≡ b → ((n && is_null v) || a) ≡ ((n && is_null v) || b)
+  either n v a b e = ap (λ c. (n && is_null v) || c) e
+
+  declared-accepts : (n inline : Bool) (description : Option (List ℕ)) (d : ℕ) (ts : Opens) (v : Json) → tree_accepts says (declared n inline description (named d ts)) v ≡ ((n && is_null v) || has (named d ts) v)
+  declared-accepts n false description d ts v = nullable-accepts says n (tree.leaf (named_leaf.named (named d ts) false (described description))) v ∙ either n v _ _ (at_named d ts false (described description) v)
+  declared-accepts n true description d ts v = in_place-accepts says n description (tree.leaf (named_leaf.named (named d ts) true no_notes)) v ∙ either n v _ _ (at_named d ts true no_notes v)
+
+  argument-accepts : (n inline : Bool) (description : Option (List ℕ)) (j : ℕ) → IsPlainType ss (argument_at args j) → (v : Json) →
+      tree_accepts says (argument n inline description j) v ≡ ((n && is_null v) || type_shape instance (argument_at args j) v)
+  argument-accepts n false description j h v = nullable-accepts says n (tree.leaf (named_leaf.param j)) v ∙ either n v _ _ (at_param j h v)
+  argument-accepts n true description j h v = in_place-accepts says n description (tree.leaf (named_leaf.param j)) v ∙ either n v _ _ (at_param j h v)
+
+  -- The schema of a place accepts null where it may be, and what has the shape of the type with its arguments.
+  mutual
+    pub place-accepts : (n inline deprecated : Bool) (description : Option (List ℕ)) (t : Open) → IsPlainType ss (substituted args t) → (v : Json) →
+        tree_accepts says (place n inline deprecated description t) v ≡ ((n && is_null v) || has t v)
+    place-accepts n inline deprecated description (leaf x) h v = kind-accepts n (kind_of x) v h
+    place-accepts n inline deprecated description any_value h v = any-accepts says (noted deprecated description) v ∙ or-true n (is_null v)
+    place-accepts n inline deprecated description free_object h v = object-accepts n v
+    place-accepts n inline deprecated description unit h v = absurd h
+    place-accepts n inline deprecated description (tuple ts) h v =
+        (λ i. word_accepts (array_word n) v && both-lists v (each_in_order says (inline_places ts)) (λ vs. list_all (λ w. false) (drop (schema_count (inline_places ts)) vs)) i)
+        ∙ (λ i. word_accepts (array_word n) v && on_list v (λ vs. places-accept ts h vs i))
+        ∙ list-accepts n v (items_fit instance (all_substituted args ts))
+    place-accepts n inline deprecated description (items x t) h v =
+        (λ i. word_accepts (array_word n) v && (on_list v (λ vs. true) && on_list v (list_all (λ w. place-accepts false inline false None t h w i)))) ∙ items-accept n v (list_all (has t))
+    place-accepts n inline deprecated description (set x t) h v =
+        (λ i. word_accepts (array_word n) v && (on_list v distinct && (on_list v (λ vs. true) && on_list v (list_all (λ w. place-accepts false inline false None t h w i)))))
+        ∙ distinct-accept n v (list_all (has t))
+    place-accepts n inline deprecated description (map_of x k t) h v =
+        (λ i. word_accepts (type_word n word.Object) v && (on_map v (λ es. true) && (on_map v (others_pass [] (λ w. place-accepts false inline false None t h.2 w i))
+        && (on_map v (names_pass (λ w. place-accepts false true false None k h.1 w i)) && (required_accepts [] v && true)))))
+        ∙ map-accepts n v (others_pass [] (has t)) (names_pass (has k))
+        ∙ (λ i. (n && is_null v) || is_map v (λ es. entries-pass (has k) (has t) es i))
+    place-accepts n inline deprecated description (option t) h v = place-accepts true inline deprecated description t h v ∙ or-twice n (is_null v) (has t v)
+    place-accepts n inline deprecated description (through x t) h v = place-accepts n inline deprecated description t h v
+    place-accepts n inline deprecated description (param j) h v = argument-accepts n inline description j h v
+    place-accepts n inline deprecated description (named d ts) h v = declared-accepts n inline description d ts v
+
+    -- the items of a tuple, and no element behind them
+    places-accept : (ts : Opens) → ArePlainTypes ss (all_substituted args ts) → (vs : List Json) →
+        (each_in_order says (inline_places ts) vs && list_all (λ w. false) (drop (schema_count (inline_places ts)) vs)) ≡ items_fit instance (all_substituted args ts) vs
+    places-accept no_types h [] = refl
+    places-accept no_types h (v ∷ vs) = refl
+    places-accept (more_types t ts) h [] = refl
+    places-accept (more_types t ts) h (v ∷ vs) =
+        and-assoc (tree_accepts says (place false true false None t) v) (each_in_order says (inline_places ts) vs) (list_all (λ w. false) (drop (schema_count (inline_places ts)) vs))
+        ∙ (λ i. place-accepts false true false None t h.0 v i && places-accept ts h.1 vs i)
+
+  -- ---- named fields
+
+  abbrev members_over : List MemberOf → List MemberOf
+  members_over ms = map_over (member_over args) ms
+
+  -- the properties of members and the names that are required ask what the members do
+  pub members-accept : (ms : List MemberOf) → AreAllPlain ss (member_types (members_over ms)) → (es : List (List ℕ × Json)) →
+      (properties_accept says (properties_of ms) es && (list_all (λ k. is_in k (names es)) (required_names ms) && true)) ≡ list_all (member_fits instance es) (members_over ms)
+  members-accept [] h es = refl
+  members-accept (m ∷ ms) h es =
+      (λ i. (if_there (look m.name es) (λ v. place-accepts false false m.remarks.deprecated m.remarks.description m.of h.0 v i) && properties_accept says (properties_of ms) es)
+      && (list_all (λ k. is_in k (names es)) (required_names (m ∷ ms)) && true))
+      ∙ member-accepts m.required (if_there (look m.name es) (has m.of)) (properties_accept says (properties_of ms) es) (λ k. is_in k (names es)) m.name (required_names ms)
+      ∙ ap (λ b. member_fits instance es (member_over args m) && b) (members-accept ms h.1 es)
+
+  -- what members ask of entries, and where others are denied that there are none
+  fields-accept : (denies : Bool) (notes : Notes) (ms : List MemberOf) → AreAllPlain ss (member_types (members_over ms)) → (es : Members) →
+      tree_accepts says (object_of notes denies (required_names ms) (properties_of ms)) (map es)
+      ≡ (list_all (member_fits instance (entries es)) (members_over ms) && (not denies || no_others (members_over ms) (entries es)))
+  fields-accept false notes ms h es = members-accept ms h (entries es) ∙ sym (and-true (list_all (member_fits instance (entries es)) (members_over ms)))
+  fields-accept true notes ms h es =
+      and-last (properties_accept says (properties_of ms) (entries es)) (others_pass (property_names (properties_of ms)) (λ w. false) (entries es))
+      (list_all (λ k. is_in k (names (entries es))) (required_names ms) && true)
+      ∙ (λ i. members-accept ms h (entries es) i && others-denied (property_names-are args ms i) (entries es) i)
+
+  -- ---- unnamed fields
+
+  -- Where the types are all t, elements fit them exactly if they are as many and each has the shape of t.
+  elements-accept : SameIsEqual → (t : Open) (ts : List Open) → IsTrue (are_all t ts) → (vs : List Json) →
+      (int_le (pos (length vs)) (pos (length ts)) && (int_le (pos (length ts)) (pos (length vs)) && list_all (has t) vs)) ≡ elements_fit instance (over ts) vs
+  elements-accept same t [] h [] = refl
+  elements-accept same t [] h (v ∷ vs) = λ i. leb-suc-zero (length vs) i && (int_le (pos 0) (pos (suc (length vs))) && list_all (has t) (v ∷ vs))
+  elements-accept same t (u ∷ us) h [] = λ i. leb-zero (suc (length us)) i && (leb-suc-zero (length us) i && true)
+  elements-accept same t (u ∷ us) h (v ∷ vs) =
+      let equal : t ≡ u = (same t u).0 (and-left (same_type t u) (are_all t us) h) in
+      (λ i. leb-suc-suc (length vs) (length us) i && (leb-suc-suc (length us) (length vs) i && list_all (has t) (v ∷ vs)))
+      ∙ and-third (int_le (pos (length vs)) (pos (length us))) (int_le (pos (length us)) (pos (length vs))) (has t v) (list_all (has t) vs)
+      ∙ (λ i. has (equal i) v && elements-accept same t us (and-right (same_type t u) (are_all t us) h) vs i)
+
+  -- Elements that the fields' schemas accept by position, as many as there are types, fit the types.
+  in_order-accept : (ts : List Open) → AreAllPlain ss (over ts) → (vs : List Json) →
+      (int_le (pos (length vs)) (pos (length ts)) && (int_le (pos (length ts)) (pos (length vs))
+      && (each_in_order says (field_terms ts) vs && list_all (λ w. false) (drop (schema_count (field_terms ts)) vs)))) ≡ elements_fit instance (over ts) vs
+  in_order-accept [] h [] = refl
+  in_order-accept [] h (v ∷ vs) = λ i. leb-suc-zero (length vs) i && (int_le (pos 0) (pos (suc (length vs))) && (true && list_all (λ w. false) (v ∷ vs)))
+  in_order-accept (t ∷ ts) h [] = λ i. leb-zero (suc (length ts)) i && (leb-suc-zero (length ts) i && (true && true))
+  in_order-accept (t ∷ ts) h (v ∷ vs) =
+      let more : Bool = int_le (pos (length vs)) (pos (length ts)) in
+      let fewer : Bool = int_le (pos (length ts)) (pos (length vs)) in
+      let front : Bool = each_in_order says (field_terms ts) vs in
+      let rest : Bool = list_all (λ w. false) (drop (schema_count (field_terms ts)) vs) in
+      (λ i. leb-suc-suc (length vs) (length ts) i && (leb-suc-suc (length ts) (length vs) i && ((place-accepts false false false None t h.0 v i && front) && rest)))
+      ∙ (λ i. more && (fewer && and-assoc (has t v) front rest i))
+      ∙ and-third more fewer (has t v) (front && rest)
+      ∙ (λ i. has t v && in_order-accept ts h.1 vs i)
+
+  alike-accepts : SameIsEqual → (r : Remarks) (t : Open) (ts : List Open) → IsPlainType ss (substituted args t) → IsTrue (are_all t ts) → (v : Json) →
+      tree_accepts says (alike_term r (length ts) t) v ≡ is_list v (elements_fit instance (over ts))
+  alike-accepts same r t ts h alike v =
+      (λ i. word_accepts (array_word false) v && (on_list v (λ vs. int_le (pos (length vs)) (pos (length ts))) && (on_list v (λ vs. int_le (pos (length ts)) (pos (length vs)))
+      && (on_list v (λ vs. true) && on_list v (list_all (λ w. place-accepts false false r.deprecated r.description t h w i))))))
+      ∙ exactly-accept v (λ vs. int_le (pos (length vs)) (pos (length ts))) (λ vs. int_le (pos (length ts)) (pos (length vs))) (λ vs. true) (list_all (has t))
+      ∙ (λ i. is_list v (λ vs. elements-accept same t ts alike vs i))
+
+  mixed-accepts : (r : Remarks) (ts : List Open) → AreAllPlain ss (over ts) → (v : Json) → tree_accepts says (mixed_term r ts) v ≡ is_list v (elements_fit instance (over ts))
+  mixed-accepts r ts h v =
+      exactly-accept v (λ vs. int_le (pos (length vs)) (pos (length ts))) (λ vs. int_le (pos (length ts)) (pos (length vs)))
+      (each_in_order says (field_terms ts)) (λ vs. list_all (λ w. false) (drop (schema_count (field_terms ts)) vs))
+      ∙ (λ i. is_list v (λ vs. in_order-accept ts h vs i))
+
+  -- one place is the schema itself, several are a list; which list is told over the parameters
+  pub unnamed-accepts : SameIsEqual → (r : Remarks) (ts : List Open) → AreAllPlain ss (over ts) → (v : Json) → tree_accepts says (unnamed_term r ts) v ≡ unnamed_shape instance (over ts) v
+  unnamed-accepts same r [] h v = mixed-accepts r [] h v
+  unnamed-accepts same r (t ∷ []) h v = place-accepts false false r.deprecated r.description t h.0 v
+  unnamed-accepts same r (t ∷ u ∷ us) h v = by (are_all t (u ∷ us)) refl
+    where
+      by : (b : Bool) → are_all t (u ∷ us) ≡ b →
+          tree_accepts says (cond b (alike_term r (length (t ∷ u ∷ us)) t) (mixed_term r (t ∷ u ∷ us))) v ≡ is_list v (elements_fit instance (over (t ∷ u ∷ us)))
+      by true alike = alike-accepts same r t (t ∷ u ∷ us) h.0 (and-both (same_type t t) (are_all t (u ∷ us)) ((same t t).1 refl) alike) v
+      by false others = mixed-accepts r (t ∷ u ∷ us) h v
+
+  -- ---- forms
+
+  pub form-accepts : SameIsEqual → (r : Remarks) (form : FormOf) → IsPlainForm ss (form_over args form) → (v : Json) →
+      tree_accepts says (form_term r form) v ≡ form_shape instance (form_over args form) v
+  form-accepts same r (named_fields denies ms) h (map es) = fields-accept denies (remarked r) ms h es
+  form-accepts same r (named_fields denies ms) h null = refl
+  form-accepts same r (named_fields denies ms) h (boolean b) = refl
+  form-accepts same r (named_fields denies ms) h (number m) = refl
+  form-accepts same r (named_fields denies ms) h (text t) = refl
+  form-accepts same r (named_fields denies ms) h (list xs) = refl
+  form-accepts same r (unnamed_fields ts) h v = unnamed-accepts same r ts h v
+  form-accepts same r no_fields h v = absurd h
+
+-- ---- closed types
+
+module _ (none : SubstitutedNone) (ss : List DeclarationOf) (instance : Open → Json → Bool) where
+  -- The schema of a place of a closed type. It has no parameters, so no arguments are put in.
+  pub closed-accepts : (n inline deprecated : Bool) (description : Option (List ℕ)) (t : Open) → IsPlainType ss t → (v : Json) →
+      tree_accepts (leaf_shape instance) (place n inline deprecated description t) v ≡ ((n && is_null v) || type_shape instance t v)
+  closed-accepts n inline deprecated description t h v =
+      place-accepts ss instance no_types (leaf_shape instance) (λ d ts inline notes w. ap (λ x. type_shape instance x w) (sym (none (named d ts)))) (λ i p w. absurd p) n inline deprecated description t
+      (subst (IsPlainType ss) (sym (none t)) h) v
+      ∙ ap (λ x. (n && is_null v) || type_shape instance x v) (none t)

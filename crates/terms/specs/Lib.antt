@@ -1,0 +1,3 @@
+pub mod InstanceTerms
+pub mod Meaning
+pub mod Terms

@@ -1,0 +1,99 @@
+//! The schemas of declarations.
+
+ghost use Rattle.std.specs.Prelude.{◌≡◌, map, IfOk};
+ghost use Rattle.schema_trees.specs.Notes.{no_notes};
+ghost use Rattle.schema_trees.specs.Schema.{tree_views, schemas_of};
+ghost use Rattle.component.specs.Leaves.{leaf_view, term_view};
+ghost use Rattle.shapes.specs.Declarations.{variants as told_variants};
+ghost use Rattle.shapes.specs.Views.{variant_view, body_view, declaration_view};
+ghost use Rattle.terms.specs.Terms.{tag_alone, tags_term, units_term, body_term, term};
+
+use crate::form::form_term;
+use crate::tagged::{null_term, tag_alone, texts_schema};
+use crate::variant_term::variant_terms;
+use component::{Term, noted};
+use schema_trees::{Notes, OneOfSchema, Tree};
+use shapes::{Body, Declaration, Remarks, Tagging, Variant};
+use std::alloc::{AllocError, Global};
+use texts::{List, Text};
+
+/// An object with a tag for each of the names.
+fn tags(alloc: Global, tag: &Text, names: &[Text]) -> Result<List<Term>, AllocError>
+    ensures { IfOk result (λ items. tree_views leaf_view items
+        ≡ schemas_of (map (tag_alone no_notes tag.now) names.now)) }
+{
+    let mut items = List::new(alloc);
+    for name in names {
+        items.push(tag_alone(alloc, Notes::new(), tag, name)?)?;
+    }
+    Ok(items)
+}
+
+fn tags_term(
+    alloc: Global,
+    remarks: &Remarks,
+    tag: &Text,
+    names: &[Text],
+) -> Result<Term, AllocError>
+    ensures { IfOk result (λ t. term_view t ≡ tags_term remarks.now tag.now names.now) }
+{
+    let notes = noted(alloc, remarks.deprecated, &remarks.description)?;
+    let items = tags(alloc, tag, names)?;
+    Ok(Tree::OneOf(Box::new(alloc, OneOfSchema { items, notes })?))
+}
+
+/// The schema of an enum whose variants have no fields.
+fn units_term(
+    alloc: Global,
+    remarks: &Remarks,
+    tagging: &Tagging,
+    names: &[Text],
+) -> Result<Term, AllocError>
+    ensures { IfOk result (λ t. term_view t ≡ units_term remarks.now tagging.now names.now) }
+{
+    match tagging {
+        Tagging::External => {
+            let notes = noted(alloc, remarks.deprecated, &remarks.description)?;
+            texts_schema(alloc, notes, names)
+        }
+        Tagging::Internal { tag } | Tagging::Adjacent { tag, .. } => {
+            tags_term(alloc, remarks, tag, names)
+        }
+        Tagging::Untagged => null_term(alloc, remarks),
+    }
+}
+
+/// The schema of an enum of which a variant has fields: one of those of its variants.
+fn variants_term(
+    alloc: Global,
+    remarks: &Remarks,
+    tagging: &Tagging,
+    variants: &[Variant],
+) -> Result<Term, AllocError>
+    ensures { IfOk result (λ t. term_view t
+        ≡ body_term remarks.now (told_variants tagging.now (map variant_view variants.now))) }
+{
+    let notes = noted(alloc, remarks.deprecated, &remarks.description)?;
+    let items = variant_terms(alloc, tagging, variants)?;
+    Ok(Tree::OneOf(Box::new(alloc, OneOfSchema { items, notes })?))
+}
+
+/// The schema of the body of a declaration of which this is said.
+pub fn body_term(alloc: Global, remarks: &Remarks, body: &Body) -> Result<Term, AllocError>
+    ensures { IfOk result (λ t. term_view t ≡ body_term remarks.now (body_view body.now)) }
+{
+    match body {
+        Body::Fields(form) => form_term(alloc, remarks, form),
+        Body::Units { tagging, names } => units_term(alloc, remarks, tagging, names.as_slice()),
+        Body::Variants { tagging, variants } => {
+            variants_term(alloc, remarks, tagging, variants.as_slice())
+        }
+    }
+}
+
+/// The schema of the declaration.
+pub fn declaration_term(alloc: Global, declaration: &Declaration) -> Result<Term, AllocError>
+    ensures { IfOk result (λ t. term_view t ≡ term (declaration_view declaration.now)) }
+{
+    body_term(alloc, &declaration.remarks, &declaration.body)
+}

@@ -1,0 +1,26 @@
+ghost use Rattle.std.specs.Prelude.{◌≡◌, IfOk};
+ghost use Rattle.open_types.specs.Open.{open_view};
+ghost use Rattle.component.specs.Leaves.{term_view};
+ghost use Rattle.terms.specs.Terms.{field_term};
+
+use component::{Place, Term, place_term};
+use open_types::OpenType;
+use shapes::Remarks;
+use std::alloc::{AllocError, Global};
+
+/// The schema of a field of the type.
+pub(crate) fn field_term(
+    alloc: Global,
+    remarks: &Remarks,
+    ty: &OpenType,
+) -> Result<Term, AllocError>
+    ensures { IfOk result (λ t. term_view t ≡ field_term remarks.now (open_view ty.now)) }
+{
+    let place = Place {
+        nullable: false,
+        inline: false,
+        deprecated: remarks.deprecated,
+        description: &remarks.description,
+    };
+    place_term(alloc, place, ty)
+}

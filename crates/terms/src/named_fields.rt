@@ -1,0 +1,94 @@
+//! The schemas of named fields.
+
+ghost use Rattle.std.specs.Prelude.{◌≡◌, ◌++◌, [], ◌∷◌, map, IfOk, OnOk};
+ghost use Rattle.schema_trees.specs.Schema.{named_views};
+ghost use Rattle.component.specs.Leaves.{leaf_view, term_view};
+ghost use Rattle.shapes.specs.Declarations.{named_fields};
+ghost use Rattle.shapes.specs.Views.{member_view};
+ghost use Rattle.terms.specs.Terms.{properties_of, required_names, form_term, internal_term};
+
+use crate::field_term::field_term;
+use crate::object::object_of;
+use crate::tagged::push_tag;
+use component::{Term, noted};
+use schema_trees::Tree;
+use shapes::{Member, Remarks};
+use std::alloc::{AllocError, Global};
+use texts::{List, Text};
+
+/// A property for each member.
+fn properties_of(alloc: Global, members: &[Member]) -> Result<List<(Text, Term)>, AllocError>
+    ensures { IfOk result
+        (λ ps. named_views leaf_view ps ≡ properties_of (map member_view members.now)) }
+{
+    let mut properties = List::new(alloc);
+    for member in members {
+        let name = member.name.copy(alloc)?;
+        properties.push((name, field_term(alloc, &member.remarks, &member.ty)?))?;
+    }
+    Ok(properties)
+}
+
+/// Adds the name of the member, where it must be there.
+fn push_required(
+    alloc: Global,
+    required: &mut List<Text>,
+    member: &Member,
+) -> Result<(), AllocError>
+    ensures { OnOk result
+        (required.new ≡ required.old ++ required_names (member_view member.now ∷ [])) }
+{
+    if member.required {
+        required.push(member.name.copy(alloc)?)?;
+    }
+    Ok(())
+}
+
+/// The names of the members that must be there.
+fn required_of(alloc: Global, members: &[Member]) -> Result<List<Text>, AllocError>
+    ensures { IfOk result (λ names. names ≡ required_names (map member_view members.now)) }
+{
+    let mut required = List::new(alloc);
+    for member in members {
+        push_required(alloc, &mut required, member)?;
+    }
+    Ok(required)
+}
+
+/// The schema of fields with these members, which denies others or does not.
+pub(crate) fn named_term(
+    alloc: Global,
+    remarks: &Remarks,
+    denies: bool,
+    members: &[Member],
+) -> Result<Term, AllocError>
+    ensures { IfOk result (λ t. term_view t
+        ≡ form_term remarks.now (named_fields denies (map member_view members.now))) }
+{
+    let notes = noted(alloc, remarks.deprecated, &remarks.description)?;
+    let required = required_of(alloc, members)?;
+    let properties = properties_of(alloc, members)?;
+    let object = object_of(alloc, properties, denies, required, notes);
+    Ok(Tree::Object(Box::new(alloc, object)?))
+}
+
+/// The schema of such fields with a tag behind their members, whose text is the name.
+pub(crate) fn tagged_named_term(
+    alloc: Global,
+    remarks: &Remarks,
+    denies: bool,
+    members: &[Member],
+    tag: &Text,
+    name: &Text,
+) -> Result<Term, AllocError>
+    ensures { IfOk result (λ t. term_view t
+        ≡ internal_term remarks.now tag.now name.now
+        (named_fields denies (map member_view members.now))) }
+{
+    let notes = noted(alloc, remarks.deprecated, &remarks.description)?;
+    let mut required = required_of(alloc, members)?;
+    let mut properties = properties_of(alloc, members)?;
+    push_tag(alloc, &mut properties, &mut required, tag, name)?;
+    let told = object_of(alloc, properties, denies, required, notes);
+    Ok(Tree::Object(Box::new(alloc, told)?))
+}

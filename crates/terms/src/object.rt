@@ -1,0 +1,41 @@
+//! Objects with properties.
+
+ghost use Rattle.std.specs.Prelude.{◌≡◌};
+ghost use Rattle.schema_trees.specs.Schema.{object_view, named_views, additional_view};
+ghost use Rattle.component.specs.Leaves.{leaf_view};
+ghost use Rattle.terms.specs.Terms.{others_of, object_of};
+
+use component::{Term, TermLeaf};
+use schema_trees::{Additional, Notes, Object, SchemaTypeInner, TypeWord};
+use std::alloc::Global;
+use texts::{List, Text};
+
+/// What members other than the properties may be.
+fn others_of(denies: bool) -> Additional<TermLeaf>
+    ensures { additional_view leaf_view result ≡ others_of denies }
+{
+    if denies {
+        Additional::Truth(false)
+    } else {
+        Additional::Absent
+    }
+}
+
+/// An object with these properties, which denies others or does not.
+pub(crate) fn object_of(
+    alloc: Global,
+    properties: List<(Text, Term)>,
+    denies: bool,
+    required: List<Text>,
+    notes: Notes,
+) -> Object<TermLeaf>
+    ensures { object_view leaf_view result
+        ≡ object_of notes denies required (named_views leaf_view properties) }
+{
+    Object {
+        properties,
+        required,
+        additional: others_of(denies),
+        ..Object::new(alloc, TypeWord::One(SchemaTypeInner::Object), notes)
+    }
+}

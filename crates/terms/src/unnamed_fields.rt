@@ -1,0 +1,108 @@
+//! The schemas of unnamed fields. One field is read as its content, several as a list.
+
+ghost use Rattle.std.specs.Prelude.{◌≡◌, map, IfOk};
+ghost use Rattle.open_types.specs.Open.{open_view};
+ghost use Rattle.schema_trees.specs.Schema.{tree_views, array_items_view};
+ghost use Rattle.component.specs.Leaves.{leaf_view, term_view};
+ghost use Rattle.terms.specs.Terms.{are_all, list_of_length, alike_term, field_terms, mixed_term, unnamed_term};
+
+use crate::field_term::field_term;
+use component::{Term, TermLeaf, noted};
+use open_types::OpenType;
+use schema_trees::{Array, ArrayItems, Bound, Notes, Tree};
+use shapes::Remarks;
+use std::alloc::{AllocError, Global};
+use texts::List;
+
+/// Whether the types are all the same.
+fn are_all(first: &OpenType, others: &[OpenType]) -> bool
+    ensures { result ≡ are_all (open_view first.now) (map open_view others.now) }
+{
+    for other in others {
+        if first != other {
+            return false;
+        }
+    }
+    true
+}
+
+/// A list of so many elements; the schemas in front accept the first of them by position, the rest accepts the others.
+fn list_of_length(
+    alloc: Global,
+    count: usize,
+    notes: Notes,
+    front: List<Term>,
+    rest: ArrayItems<TermLeaf>,
+) -> Result<Term, AllocError>
+    ensures { IfOk result
+        (λ s. term_view s ≡ list_of_length count notes (tree_views leaf_view front)
+        (array_items_view leaf_view rest)) }
+{
+    let array = Array {
+        nullable: false,
+        items: rest,
+        prefix_items: front,
+        unique: false,
+        max_items: Bound::new(count as i128),
+        min_items: Bound::new(count as i128),
+        notes,
+    };
+    Ok(Tree::Array(Box::new(alloc, array)?))
+}
+
+/// The schema of so many fields of one type.
+fn alike_term(
+    alloc: Global,
+    remarks: &Remarks,
+    count: usize,
+    ty: &OpenType,
+) -> Result<Term, AllocError>
+    ensures { IfOk result
+        (λ s. term_view s ≡ alike_term remarks.now count (open_view ty.now)) }
+{
+    let notes = noted(alloc, false, &remarks.description)?;
+    let each = ArrayItems::Each(field_term(alloc, remarks, ty)?);
+    list_of_length(alloc, count, notes, List::new(alloc), each)
+}
+
+/// The schemas of fields of these types, of which nothing is said.
+fn field_terms(alloc: Global, types: &[OpenType]) -> Result<List<Term>, AllocError>
+    ensures { IfOk result
+        (λ ss. tree_views leaf_view ss ≡ field_terms (map open_view types.now)) }
+{
+    let nothing = Remarks {
+        deprecated: false,
+        description: None,
+    };
+    let mut terms = List::new(alloc);
+    for ty in types {
+        terms.push(field_term(alloc, &nothing, ty)?)?;
+    }
+    Ok(terms)
+}
+
+/// The schema of fields of these types: a list of just these, in their order.
+fn mixed_term(alloc: Global, remarks: &Remarks, types: &[OpenType]) -> Result<Term, AllocError>
+    ensures { IfOk result (λ s. term_view s ≡ mixed_term remarks.now (map open_view types.now)) }
+{
+    let notes = noted(alloc, remarks.deprecated, &remarks.description)?;
+    let front = field_terms(alloc, types)?;
+    list_of_length(alloc, types.len(), notes, front, ArrayItems::False)
+}
+
+/// The schema of unnamed fields of these types.
+pub(crate) fn unnamed_term(
+    alloc: Global,
+    remarks: &Remarks,
+    types: &[OpenType],
+) -> Result<Term, AllocError>
+    ensures { IfOk result (λ s. term_view s ≡ unnamed_term remarks.now (map open_view types.now)) }
+{
+    match types {
+        [ty] => field_term(alloc, remarks, ty),
+        [first, others @ ..] if are_all(first, others) => {
+            alike_term(alloc, remarks, types.len(), first)
+        }
+        _ => mixed_term(alloc, remarks, types),
+    }
+}

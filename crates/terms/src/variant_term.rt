@@ -1,0 +1,169 @@
+//! The schemas of variants, by how they are told.
+
+ghost use Rattle.std.specs.Prelude.{◌≡◌, map, IfOk};
+ghost use Rattle.schema_trees.specs.Schema.{tree_views, schemas_of};
+ghost use Rattle.component.specs.Leaves.{leaf_view, term_view};
+ghost use Rattle.open_types.specs.Open.{open_view};
+ghost use Rattle.shapes.specs.Declarations.{unnamed_fields};
+ghost use Rattle.shapes.specs.Views.{variant_view};
+ghost use Rattle.terms.specs.Terms.{remarked, variant_term, tagged_content, internal_term};
+
+use crate::form::form_term;
+use crate::named_fields::tagged_named_term;
+use crate::tagged::{
+    adjacent_term as told_beside, beside_tag, name_schema, null_term, requiring, tag_alone,
+    tagged_leaf,
+};
+use crate::unnamed_fields::unnamed_term;
+use component::{Term, noted};
+use open_types::OpenType;
+use schema_trees::Notes;
+use shapes::{Form, Remarks, Tagging, Variant};
+use std::alloc::{AllocError, Global};
+use texts::{List, Text};
+
+/// What is said, as notes of a schema.
+fn notes_of(alloc: Global, remarks: &Remarks) -> Result<Notes, AllocError>
+    ensures { IfOk result (λ notes. notes ≡ remarked remarks.now) }
+{
+    noted(alloc, remarks.deprecated, &remarks.description)
+}
+
+/// The schema of a variant that nothing tells.
+fn untagged_term(alloc: Global, variant: &Variant) -> Result<Term, AllocError>
+    ensures { IfOk result (λ t. term_view t
+        ≡ variant_term Tagging.Untagged (variant_view variant.now)) }
+{
+    match &variant.form {
+        Form::Unit => null_term(alloc, &variant.remarks),
+        Form::Named { .. } | Form::Unnamed(_) => form_term(alloc, &variant.remarks, &variant.form),
+    }
+}
+
+/// The schema of a variant that its name tells: the name alone, or an object that has a member of the name.
+fn external_term(alloc: Global, variant: &Variant) -> Result<Term, AllocError>
+    ensures { IfOk result (λ t. term_view t
+        ≡ variant_term Tagging.External (variant_view variant.now)) }
+{
+    let name = &variant.name;
+    let notes = notes_of(alloc, &variant.remarks)?;
+    match &variant.form {
+        Form::Unit => name_schema(alloc, notes, name),
+        Form::Named { .. } | Form::Unnamed(_) => {
+            let content = form_term(alloc, &variant.remarks, &variant.form)?;
+            requiring(alloc, notes, name, content)
+        }
+    }
+}
+
+/// The schema of a content of the type with a tag: of a leaf or any value an object that has the tag, else that of the
+/// content beside one.
+fn tagged_content(
+    alloc: Global,
+    notes: Notes,
+    tag: &Text,
+    name: &Text,
+    ty: &OpenType,
+    content: Term,
+) -> Result<Term, AllocError>
+    ensures { IfOk result (λ t. term_view t
+        ≡ tagged_content notes tag.now name.now (open_view ty.now) (term_view content)) }
+{
+    match ty {
+        OpenType::Leaf(leaf) => tagged_leaf(alloc, notes, tag, name, *leaf),
+        OpenType::AnyValue => tag_alone(alloc, notes, tag, name),
+        _ => beside_tag(alloc, notes, tag, name, content),
+    }
+}
+
+/// The schema of unnamed fields with a tag.
+fn tagged_fields(
+    alloc: Global,
+    remarks: &Remarks,
+    types: &[OpenType],
+    tag: &Text,
+    name: &Text,
+) -> Result<Term, AllocError>
+    ensures { IfOk result (λ t. term_view t
+        ≡ internal_term remarks.now tag.now name.now (unnamed_fields (map open_view types.now))) }
+{
+    let notes = notes_of(alloc, remarks)?;
+    let content = unnamed_term(alloc, remarks, types)?;
+    match types {
+        [ty] => tagged_content(alloc, notes, tag, name, ty, content),
+        _ => beside_tag(alloc, notes, tag, name, content),
+    }
+}
+
+/// The schema of a variant that a tag among its members tells.
+fn internal_term(alloc: Global, tag: &Text, variant: &Variant) -> Result<Term, AllocError>
+    ensures { IfOk result (λ t. term_view t
+        ≡ variant_term (Tagging.Internal tag.now) (variant_view variant.now)) }
+{
+    let name = &variant.name;
+    let remarks = &variant.remarks;
+    match &variant.form {
+        Form::Unit => tag_alone(alloc, notes_of(alloc, remarks)?, tag, name),
+        Form::Named {
+            denies_others,
+            members,
+        } => tagged_named_term(
+            alloc,
+            remarks,
+            *denies_others,
+            members.as_slice(),
+            tag,
+            name,
+        ),
+        Form::Unnamed(types) => tagged_fields(alloc, remarks, types.as_slice(), tag, name),
+    }
+}
+
+/// The schema of a variant that a tag beside a content tells.
+fn adjacent_term(
+    alloc: Global,
+    tag: &Text,
+    content: &Text,
+    variant: &Variant,
+) -> Result<Term, AllocError>
+    ensures { IfOk result (λ t. term_view t
+        ≡ variant_term (Tagging.Adjacent tag.now content.now) (variant_view variant.now)) }
+{
+    let name = &variant.name;
+    let notes = notes_of(alloc, &variant.remarks)?;
+    match &variant.form {
+        Form::Unit => tag_alone(alloc, notes, tag, name),
+        Form::Named { .. } | Form::Unnamed(_) => {
+            let schema = form_term(alloc, &variant.remarks, &variant.form)?;
+            told_beside(alloc, notes, tag, content, name, schema)
+        }
+    }
+}
+
+/// The schema of a variant.
+fn variant_term(alloc: Global, tagging: &Tagging, variant: &Variant) -> Result<Term, AllocError>
+    ensures { IfOk result (λ t. term_view t ≡ variant_term tagging.now (variant_view variant.now)) }
+{
+    match tagging {
+        Tagging::External => external_term(alloc, variant),
+        Tagging::Internal { tag } => internal_term(alloc, tag, variant),
+        Tagging::Adjacent { tag, content } => adjacent_term(alloc, tag, content, variant),
+        Tagging::Untagged => untagged_term(alloc, variant),
+    }
+}
+
+/// The schemas of the variants.
+pub(crate) fn variant_terms(
+    alloc: Global,
+    tagging: &Tagging,
+    variants: &[Variant],
+) -> Result<List<Term>, AllocError>
+    ensures { IfOk result (λ items. tree_views leaf_view items
+        ≡ schemas_of (map (variant_term tagging.now) (map variant_view variants.now))) }
+{
+    let mut items = List::new(alloc);
+    for variant in variants {
+        items.push(variant_term(alloc, tagging, variant)?)?;
+    }
+    Ok(items)
+}
