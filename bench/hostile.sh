@@ -31,10 +31,10 @@ def chained(levels, often):
 def inlining(which):
     return " ".join("struct A%d { p: (%s) }" % (at, "".join("A%d, " % t for t in which(at)) or "bool, bool") for at in range(4096))
 
-# Doublings of an argument, so that the last has as many names as there are powers of two.
+# Doublings of an argument: behind seven of them it has 255 names.
 def doubled(levels):
-    parts = ["struct D%d<T> { n: D%d<(T, T)> }" % (at, at + 1) for at in range(levels)]
-    return " ".join(parts + ["struct D%d<T> { n: T }" % levels, "struct R { n: D0<u8> }"])
+    parts = ["struct D%d<T> { n: D%d<P<T, T>> }" % (at, at + 1) for at in range(levels)]
+    return " ".join(["struct P<A, B> { a: A, b: B }"] + parts + ["struct D%d<T> { n: T }" % levels, "struct R { n: D0<u8> }"])
 
 # A struct, the arguments, and each generic struct with each argument.
 def products(generics, arguments):
@@ -42,56 +42,58 @@ def products(generics, arguments):
     parts = ["struct A%d<T> { n: T }" % g for g in range(generics)] + ["struct B%d { n: bool }" % a for a in range(arguments)]
     return " ".join(parts + ["struct R { %s }" % fields])
 
-# The sources that are derived with room for 4,096 instances.
+# Each is made when it is its turn, for the memory of this script counts as that of what it starts. The first are derived with
+# room for 4,096 instances.
 roomy = [
-    ("ring of 4,096", " ".join("struct A%d { n: Box<A%d>, o: Option<bool> }" % (at, (at + 1) % 4096) for at in range(4096))),
-    ("chains of 4,096", inlining(lambda at: [at + 1] if (at + 1) % 32 else [])),
-    ("groups of 4,096", inlining(lambda at: [t for t in range(at + 1, at + 4) if t // 4 == at // 4])),
-    ("4,033 instances", products(62, 64)),
-    ("4,161 instances", products(64, 64)),
+    ("ring of 4,096", lambda: " ".join("struct A%d { n: Box<A%d>, o: Option<bool> }" % (at, (at + 1) % 4096) for at in range(4096))),
+    ("chains of 4,096", lambda: inlining(lambda at: [at + 1] if (at + 1) % 32 else [])),
+    ("groups of 4,096", lambda: inlining(lambda at: [t for t in range(at + 1, at + 4) if t // 4 == at // 4])),
+    ("4,033 instances", lambda: products(62, 64)),
+    ("4,161 instances", lambda: products(64, 64)),
 ]
 sources = [
-    ("20,000 fields", "struct S { " + ", ".join("f%d: %s" % (k, ("u64", "Option<String>", "Vec<bool>", "Box<S>")[k % 4]) for k in range(20000)) + " }"),
-    ("7 doublings", doubled(7)),
-    ("40 doublings", doubled(40)),
-    ("endless argument", "struct A<T> { n: Option<Box<A<Vec<T>>>> } struct R { n: A<u8> }"),
-    ("993 instances", products(30, 32)),
-    ("1,057 instances", products(32, 32)),
-    ("next few inlined", tuples(999, lambda at, often: [min(at + k + 1, 999) for k in range(often)], 3, "struct A999 { p: bool }")),
-    ("few in groups", tuples(996, lambda at, often: [at + 1 + k for k in range(often) if (at + 1 + k) // 4 == at // 4] or [999], 3, "struct A999 { p: bool }")),
-    ("255 inlined", chained(2, 255)),
-    ("32 levels of 255", chained(32, 255)),
-    ("33 levels of 255", chained(33, 255)),
-    ("9,000 copies", " ".join("struct A%d { p: (%s) }" % (at, "A0, " * 9) for at in range(1, 1000)) + " struct A0 { " + ", ".join("f%d: Option<Vec<String>>" % k for k in range(39)) + " }"),
-    ("one comment", "/*" + "x" * (size - 4) + "*/"),
-    ("nested comments", "/*" * (size // 4) + "*/" * (size // 4)),
-    ("open comments", filled("/*")),
-    ("one string", 'use "' + "x" * (size - 7) + '";'),
-    ("one identifier", "use " + "x" * (size - 5) + ";"),
-    ("one number", "use " + "1" * (size - 5) + ";"),
-    ("two colons", "use " + "::" * ((size - 5) // 2) + ";"),
-    ("open raw strings", filled('r#"')),
-    ("quotes", filled("'")),
-    ("lifetimes", filled("'a ")),
-    ("doc comments", filled("/// doc\n")),
-    ("use lines", filled("use a::b;")),
-    ("brackets", filled("(")),
-    ("one path", field("", "a::", "u8")),
-    ("references", field("", "&", "u8")),
-    ("one argument list", field("Vec<", "u8,", "u8>")),
-    ("one tuple", field("(", "u8,", "u8)")),
-    ("one struct", "struct S { " + "a: u8, " * ((size - 13) // 7) + "}"),
-    ("empty structs", filled("struct S {}")),
-    ("many lifetimes", "struct S<" + ",".join("'a%06d" % at for at in range((size - 24) // 9)) + "> { a: u8 }"),
-    ("many bounds", "struct S<'a> where u8: " + "B+" * ((size - 40) // 2) + "B { a: u8 }"),
-    ("many predicates", "struct S<'a> where " + "B:C," * ((size - 40) // 4) + " { a: u8 }"),
+    ("20,000 fields", lambda: "struct S { " + ", ".join("f%d: %s" % (k, ("u64", "Option<String>", "Vec<bool>", "Box<S>")[k % 4]) for k in range(20000)) + " }"),
+    ("7 doublings", lambda: doubled(7)),
+    ("40 doublings", lambda: doubled(40)),
+    ("endless argument", lambda: "struct A<T> { n: Option<Box<A<Vec<T>>>> } struct R { n: A<u8> }"),
+    ("993 instances", lambda: products(30, 32)),
+    ("1,057 instances", lambda: products(32, 32)),
+    ("next few inlined", lambda: tuples(999, lambda at, often: [min(at + k + 1, 999) for k in range(often)], 3, "struct A999 { p: bool }")),
+    ("few in groups", lambda: tuples(996, lambda at, often: [at + 1 + k for k in range(often) if (at + 1 + k) // 4 == at // 4] or [999], 3, "struct A999 { p: bool }")),
+    ("255 inlined", lambda: chained(2, 255)),
+    ("32 levels of 255", lambda: chained(32, 255)),
+    ("33 levels of 255", lambda: chained(33, 255)),
+    ("9,000 copies", lambda: " ".join("struct A%d { p: (%s) }" % (at, "A0, " * 9) for at in range(1, 1000)) + " struct A0 { " + ", ".join("f%d: Option<Vec<String>>" % k for k in range(39)) + " }"),
+    ("one comment", lambda: "/*" + "x" * (size - 4) + "*/"),
+    ("nested comments", lambda: "/*" * (size // 4) + "*/" * (size // 4)),
+    ("open comments", lambda: filled("/*")),
+    ("one string", lambda: 'use "' + "x" * (size - 7) + '";'),
+    ("one identifier", lambda: "use " + "x" * (size - 5) + ";"),
+    ("one number", lambda: "use " + "1" * (size - 5) + ";"),
+    ("two colons", lambda: "use " + "::" * ((size - 5) // 2) + ";"),
+    ("open raw strings", lambda: filled('r#"')),
+    ("quotes", lambda: filled("'")),
+    ("lifetimes", lambda: filled("'a ")),
+    ("doc comments", lambda: filled("/// doc\n")),
+    ("use lines", lambda: filled("use a::b;")),
+    ("brackets", lambda: filled("(")),
+    ("one path", lambda: field("", "a::", "u8")),
+    ("references", lambda: field("", "&", "u8")),
+    ("one argument list", lambda: field("Vec<", "u8,", "u8>")),
+    ("one tuple", lambda: field("(", "u8,", "u8)")),
+    ("one struct", lambda: "struct S { " + "a: u8, " * ((size - 13) // 7) + "}"),
+    ("empty structs", lambda: filled("struct S {}")),
+    ("many lifetimes", lambda: "struct S<" + ",".join("'a%06d" % at for at in range((size - 24) // 9)) + "> { a: u8 }"),
+    ("many bounds", lambda: "struct S<'a> where u8: " + "B+" * ((size - 40) // 2) + "B { a: u8 }"),
+    ("many predicates", lambda: "struct S<'a> where " + "B:C," * ((size - 40) // 4) + " { a: u8 }"),
 ]
 print("%-20s %9s %9s %7s" % ("source", "seconds", "peak MiB", "status"))
 config = tempfile.NamedTemporaryFile("w")
 json.dump({"limit": 4096, "copies": 100000}, config)
 config.flush()
-runs = [(name, text, ["--config", config.name]) for name, text in roomy] + [(name, text, []) for name, text in sources]
-for name, text, words in runs:
+runs = [(name, made, ["--config", config.name]) for name, made in roomy] + [(name, made, []) for name, made in sources]
+for name, made, words in runs:
+    text = made()
     with tempfile.TemporaryFile() as file, open(os.devnull, "wb") as nothing:
         file.write(text.encode())
         file.seek(0)
