@@ -1,7 +1,7 @@
 -- What marks say of instances and their targets.
 use Rattle.std.proofs.Common.{◌≡◌, ◌<◌, ◌≤◌, ◌⊎◌, inl, inr, ℕ, zero, suc, ◌+◌, List, [], ◌∷◌, ◌++◌, length, take, get_or, Bool, true, false, not, ◌&&◌, cond, IsTrue, Option, Some, None, MatchOption, is_some, refl, ap, sym, ◌∙◌, subst, arith}
 use Rattle.std.proofs.lemmas.Bool.{and_parts, and_from, cases_Bool, cases_lt, false≢true, not_from_false, not-false, not-true}
-use Rattle.std.proofs.lemmas.List.{take_more, get_or-map, get_or_push, get_or_append_left, length-map, length_push}
+use Rattle.std.proofs.lemmas.List.{take_more, get_or-map, get_or_push, get_or_read, get_or_append_left, length-map, length_push}
 use Rattle.inlining.specs.Inlining.{targets_of, IsAmong, AreTargets}
 use Rattle.inlining.specs.Marks.{mark, are_marked, no_marks, next_marks, marks_of, AreRounds, new_marks}
 use Rattle.inlining.proofs.Among.{among-left, among-right, among_cases, targets_at}
@@ -79,6 +79,14 @@ rounds_push g rounds all n h = by (before_or_last n (length rounds) (omega (arit
     by (inl l) = get_or_append_left rounds (marks_of g (length rounds) ∷ []) [] n l ∙ all n l
     by (inr e) = get_or_push rounds (marks_of g (length rounds)) [] n (sym e) ∙ ap (marks_of g) (sym e)
 
+-- the marks of a round that was read
+pub round_read : (g : List (List ℕ)) (rounds read : List (List Bool)) (n : ℕ) (item marks : List Bool) → AreRounds g rounds → read ≡ rounds → n < length rounds → item ≡ get_or read n item → marks ≡ item → marks ≡ marks_of g n
+round_read g rounds read n item marks are same h is of = of ∙ get_or_read rounds n item h (is ∙ ap (λ (rs : List (List Bool)). get_or rs n item) same) [] ∙ are n h
+
+-- where all marks of a round are set, it marks each instance
+pub all_of_round : (g : List (List ℕ)) (n : ℕ) (marks : List Bool) → marks ≡ marks_of g n → ((d : ℕ) → d < length marks → IsTrue (mark marks d)) → (d : ℕ) → d < length g → IsTrue (mark (marks_of g n) d)
+all_of_round g n marks round all d h = subst (λ ms. IsTrue (mark ms d)) round (all d (omega (arith, h, ap length round, length-marks g n)))
+
 -- ---- new marks
 
 pub among_cond : (b : Bool) (d n : ℕ) → IsAmong d (cond b (n ∷ []) []) → (d ≡ n) × (b ≡ true)
@@ -128,3 +136,7 @@ none_unmarked marks ts (Some t) b m s = not-true b (sym s) ∙ sym (unmarked_at 
 pub all_marked : (marks : List Bool) (o : Option ℕ) (b : Bool) → MatchOption o ((d : ℕ) → d < length marks → IsTrue (mark marks d)) (λ d. (d < length marks) × (mark marks d ≡ false)) → is_some o ≡ not b → b ≡ true → (d : ℕ) → d < length marks → IsTrue (mark marks d)
 all_marked marks None b m s t = m
 all_marked marks (Some e) b m s t = absurd (false≢true (sym (not-true b (sym s)) ∙ t))
+
+pub match_more : {A P Q : Type 0} {S T : A → Type 0} (o : Option A) → (P → Q) → ((x : A) → S x → T x) → MatchOption o P S → MatchOption o Q T
+match_more None f h m = f m
+match_more (Some x) f h m = h x m

@@ -63,12 +63,9 @@ behind_more g marks order targets all b =
 
 -- ---- at the end
 
-pub is_within : (g : List (List ℕ)) (n most : ℕ) (marks : List Bool) (order : List ℕ) → n ≤ most → marks ≡ marks_of g n → ((d : ℕ) → d < length g → IsTrue (mark marks d)) → AreOrdered g marks order → AreOnce order → AreBehind g [] order →
+pub is_within : (g : List (List ℕ)) (n most : ℕ) (order : List ℕ) → n ≤ most → ((d : ℕ) → d < length g → IsTrue (mark (marks_of g n) d)) → AreOrdered g (marks_of g n) order → AreOnce order → AreBehind g [] order →
     IsAtMost most g × IsOrder g order
-is_within g n most marks order h round marked ordered once behind = (
-  at_most_from_marks g n most h (λ d l. subst (λ ms. IsTrue (mark ms d)) round (marked d l)),
-  record { all = λ d l. ordered d l (marked d l); once = once; behind = behind },
-)
+is_within g n most order h marked ordered once behind = (at_most_from_marks g n most h marked, record { all = λ d l. ordered d l (marked d l); once = once; behind = behind })
 
 -- ---- what stands in an order
 

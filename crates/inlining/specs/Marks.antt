@@ -1,5 +1,5 @@
 -- Marks of instances, in rounds: each round marks those whose targets all were marked in the round before. An instance is marked after a number of rounds exactly if no inline path that begins with it has more instances than that.
-use Rattle.std.specs.Prelude.{◌≡◌, ◌<◌, ℕ, zero, suc, List, [], ◌∷◌, ◌++◌, length, map, Bool, true, false, not, ◌&&◌, cond, slice_index_or}
+use Rattle.std.specs.Prelude.{◌≡◌, ◌<◌, ◌+◌, ℕ, zero, suc, List, [], ◌∷◌, ◌++◌, length, map, Bool, true, false, not, ◌&&◌, cond, slice_index_or}
 
 -- whether an instance is marked
 abbrev pub mark : List Bool → ℕ → Bool
@@ -24,6 +24,13 @@ marks_of g (suc n) = next_marks g (marks_of g n)
 -- the marks are those of the first rounds
 abbrev pub AreRounds : List (List ℕ) → List (List Bool) → Type 0
 AreRounds g rounds = (n : ℕ) → n < length rounds → slice_index_or rounds n [] ≡ marks_of g n
+
+-- There are as many rounds beyond the first, and the last does not mark the instance.
+pub record IsUnmarked (g : List (List ℕ)) (most : ℕ) (rounds : List (List Bool)) (d : ℕ) : Type 0 where
+  pub are : AreRounds g rounds
+  pub many : length rounds ≡ most + 1
+  pub within : d < length g
+  pub unmarked : mark (marks_of g most) d ≡ false
 
 -- of the first so many instances those that are marked and were not before
 abbrev pub new_marks : List Bool → List Bool → ℕ → List ℕ

@@ -1,9 +1,9 @@
 //! The depth of inlining, and an order in which each schema stands behind those that stand in it.
 
-ghost use Rattle.std.specs.Prelude.{◌≡◌, ◌<◌, ◌≤◌, ◌+◌, ◌++◌, ℕ, false, length, MatchOption, IfOk, OnOk, IsTrue};
+ghost use Rattle.std.specs.Prelude.{◌≡◌, ◌<◌, ◌≤◌, ◌+◌, [], ◌++◌, ℕ, false, length, MatchOption, IfOk, OnOk, IsTrue};
 ghost use Rattle.inlining.specs.Depths.{IsDepth};
-ghost use Rattle.inlining.specs.Inlining.{IsAmong, AreTargets, IsPath};
-ghost use Rattle.inlining.specs.Marks.{mark, are_marked, no_marks, next_marks, marks_of, AreRounds, new_marks};
+ghost use Rattle.inlining.specs.Inlining.{IsAmong, AreTargets, IsPath, IsAtMost, IsOrder};
+ghost use Rattle.inlining.specs.Marks.{mark, are_marked, no_marks, next_marks, IsUnmarked, new_marks};
 
 use std::alloc::{AllocError, Global};
 use texts::List;
@@ -87,23 +87,51 @@ fn push_marked(order: &mut List<usize>, before: &[bool], marks: &[bool]) -> Resu
     Ok(())
 }
 
-/// An inline path that begins with an instance that no round marked. It is longer by one than there were rounds.
+/// Marks instances in rounds, of which the first marks none, until each is marked or there are `most` more; and adds to the order
+/// what they mark. The first instance that is not marked then.
+fn mark_all(
+    alloc: Global,
+    targets: &[List<usize>],
+    most: usize,
+    rounds: &mut List<List<bool>>,
+    order: &mut List<usize>,
+) -> Result<Option<usize>, AllocError>
+    requires targets { AreTargets targets.now }
+    requires rounds { rounds.old ≡ [] }
+    requires order { order.old ≡ [] }
+    ensures { IfOk result (λ first. MatchOption first
+        (IsAtMost most targets.now × IsOrder targets.now order.new)
+        (IsUnmarked targets.now most rounds.new)) }
+{
+    rounds.push(no_marks(alloc, targets)?)?;
+    for round in 0..most {
+        let marks = rounds.as_slice()[round].as_slice();
+        if unmarked(marks).is_none() {
+            return Ok(None);
+        }
+        let next = next_marks(alloc, targets, marks)?;
+        push_marked(order, marks, next.as_slice())?;
+        rounds.push(next)?;
+    }
+    Ok(unmarked(rounds.as_slice()[most].as_slice()))
+}
+
+/// An inline path that begins with an instance that the last round did not mark. It has as many instances as there are rounds.
 fn path_from(
     alloc: Global,
     targets: &[List<usize>],
     rounds: &[List<bool>],
+    most: usize,
     first: usize,
 ) -> Result<List<usize>, AllocError>
     requires targets { AreTargets targets.now }
-    requires rounds { AreRounds targets.now rounds.now }
-    requires first { first < length targets.now }
-    requires unmarked { mark (marks_of targets.now (length rounds.now)) first ≡ false }
+    requires unmarked { IsUnmarked targets.now most rounds.now first }
     ensures path { IfOk result (λ path. IsPath targets.now path) }
-    ensures length { IfOk result (λ path. length path ≡ length rounds.now + 1) }
+    ensures length { IfOk result (λ path. length path ≡ most + 1) }
 {
     let mut path = List::new(alloc);
     let mut place = first;
-    let mut left = rounds.len();
+    let mut left = most;
     while left > 0 {
         left -= 1;
         path.push(place)?;
@@ -129,22 +157,12 @@ pub fn inline_order(
     requires { AreTargets targets.now }
     ensures { IfOk result (λ depth. IsDepth most targets.now depth) }
 {
-    let mut order = List::new(alloc);
     let mut rounds = List::new(alloc);
-    let mut marks = no_marks(alloc, targets)?;
-    'rounds: for _ in 0..most {
-        if unmarked(marks.as_slice()).is_none() {
-            return Ok(Depth::Within(order));
-        }
-        let next = next_marks(alloc, targets, marks.as_slice())?;
-        push_marked(&mut order, marks.as_slice(), next.as_slice())?;
-        rounds.push(marks)?;
-        marks = next;
-    }
-    match unmarked(marks.as_slice()) {
+    let mut order = List::new(alloc);
+    match mark_all(alloc, targets, most, &mut rounds, &mut order)? {
         None => Ok(Depth::Within(order)),
         Some(first) => {
-            let path = path_from(alloc, targets, rounds.as_slice(), first)?;
+            let path = path_from(alloc, targets, rounds.as_slice(), most, first)?;
             Ok(Depth::Beyond(path))
         }
     }

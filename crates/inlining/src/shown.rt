@@ -1,7 +1,7 @@
 //! Which instances are shown, and which of them are components.
 
 ghost use Rattle.std.specs.Prelude.{◌≡◌, ◌<◌, ◌↔◌, ℕ, [], ◌∷◌, length, IfOk, OnOk, IsTrue};
-ghost use Rattle.inlining.specs.Found.{AreFound, IsGrown};
+ghost use Rattle.inlining.specs.Found.{AreFound, AreNone, IsGrown};
 ghost use Rattle.inlining.specs.Inlining.{IsAmong, AreOnce, AreTargets, targets_of};
 ghost use Rattle.inlining.specs.Marks.{mark};
 ghost use Rattle.inlining.specs.Shown.{IsShown, IsComponent};
@@ -18,6 +18,23 @@ pub struct Shown {
     pub components: List<usize>,
 }
 
+impl Shown {
+    /// The instances that are marked are shown.
+    fn new(alloc: Global, marks: &[bool], components: List<usize>) -> Result<Shown, AllocError>
+        ensures marks { IfOk result (λ s. s.marks ≡ marks.now) }
+        ensures components { IfOk result (λ s. s.components ≡ components) }
+    {
+        let mut shown = Shown {
+            marks: List::new(alloc),
+            components,
+        };
+        for mark in marks {
+            shown.marks.push(*mark)?;
+        }
+        Ok(shown)
+    }
+}
+
 /// Instances that are found, each once, and for each of all whether it is.
 #[derive(Drop)]
 struct Found {
@@ -28,9 +45,7 @@ struct Found {
 impl Found {
     /// None, of that many instances.
     fn new(alloc: Global, count: usize) -> Result<Found, AllocError>
-        ensures many { IfOk result (λ f. length f.marks.items ≡ count) }
-        ensures found { IfOk result (λ f. AreFound f.marks.items f.numbers) }
-        ensures none { IfOk result (λ f. f.numbers ≡ []) }
+        ensures { IfOk result (λ f. AreNone count f.marks.items f.numbers) }
     {
         Ok(Found {
             marks: vec![in alloc; false; count]?,
@@ -70,15 +85,41 @@ impl Found {
     }
 }
 
-/// The same marks.
-fn listed(alloc: Global, marks: &[bool]) -> Result<List<bool>, AllocError>
-    ensures { IfOk result (λ list. list ≡ marks.now) }
+/// Finds what is shown, and what of it is a component, where none is found yet.
+fn find(
+    first: &[usize],
+    targets: &[List<usize>],
+    references: &[List<usize>],
+    found: &mut Found,
+    components: &mut Found,
+) -> Result<(), AllocError>
+    requires first { (n : ℕ) → IsAmong n first.now → n < length targets.now }
+    requires targets { AreTargets targets.now }
+    requires references { (n m : ℕ) → IsAmong m (targets_of references.now n)
+        → m < length targets.now }
+    requires many { length references.now ≡ length targets.now }
+    requires found { AreNone (length targets.now) found.old.marks.items found.old.numbers }
+    requires components { AreNone (length targets.now)
+        components.old.marks.items components.old.numbers }
+    ensures many { OnOk result (length found.new.marks.items ≡ length targets.now) }
+    ensures shown { OnOk result ((n : ℕ) → IsTrue (mark found.new.marks.items n)
+        ↔ IsShown first.now targets.now references.now n) }
+    ensures once { OnOk result (AreOnce components.new.numbers) }
+    ensures components { OnOk result ((n : ℕ) → IsAmong n components.new.numbers
+        ↔ IsComponent first.now targets.now references.now n) }
 {
-    let mut list = List::new(alloc);
-    for mark in marks {
-        list.push(*mark)?;
+    found.add_all(first)?;
+    components.add_all(first)?;
+    let mut place = 0_usize;
+    while place < found.numbers.len() {
+        let number = found.numbers.as_slice()[place];
+        let referred = references[number].as_slice();
+        found.add_all(targets[number].as_slice())?;
+        found.add_all(referred)?;
+        components.add_all(referred)?;
+        place += 1;
     }
-    Ok(list)
+    Ok(())
 }
 
 /// Which instances are shown, and which of them are components. The first are both, and so is what a shown one refers to; the
@@ -103,19 +144,6 @@ pub fn find_shown(
 {
     let mut found = Found::new(alloc, targets.len())?;
     let mut components = Found::new(alloc, targets.len())?;
-    found.add_all(first)?;
-    components.add_all(first)?;
-    let mut place = 0_usize;
-    while place < found.numbers.len() {
-        let number = found.numbers.as_slice()[place];
-        let referred = references[number].as_slice();
-        found.add_all(targets[number].as_slice())?;
-        found.add_all(referred)?;
-        components.add_all(referred)?;
-        place += 1;
-    }
-    Ok(Shown {
-        marks: listed(alloc, found.marks.as_slice())?,
-        components: components.numbers,
-    })
+    find(first, targets, references, &mut found, &mut components)?;
+    Shown::new(alloc, found.marks.as_slice(), components.numbers)
 }

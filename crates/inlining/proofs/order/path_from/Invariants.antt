@@ -9,7 +9,7 @@ invariant-loop-left l = record {
   within : l.place < length l.targets;
   path : IsPath l.targets (l.path ++ l.place ∷ []);
   unmarked : mark (marks_of l.targets l.left) l.place ≡ false;
-  length : length l.path + l.left ≡ length l.rounds;
+  length : length l.path + l.left ≡ l.most;
 }
 
 abbrev pub decreases-loop-left : goal.decreases-loop-left

@@ -1,28 +1,26 @@
-use Rattle.std.proofs.Common.{◌≡◌, ◌<◌, ◌∙◌, ◌↔◌, ℕ, List, length, get_or, Bool, IsTrue, ap, sym, subst, arith, rules}
+use Rattle.std.proofs.Common.{◌≡◌, ◌<◌, ◌∙◌, ℕ, List, length, get_or, ap, sym, subst, arith, rules}
 use Rattle.inlining.specs.Found.{IsGrown}
 use Rattle.inlining.specs.Inlining.{targets_of}
-use Rattle.inlining.specs.Marks.{mark}
-use Rattle.inlining.specs.Shown.{IsShown}
 use Rattle.inlining.proofs.Among.{links_read, linked_below}
 use Rattle.inlining.proofs.Found.{found_most, read_below}
 use Rattle.inlining.proofs.Walks.{walked_first, walked_on, marked_shown, all_components}
-use Rattle.inlining.proofs.shown.find_shown.Goals as goal
+use Rattle.inlining.proofs.shown.find.Goals as goal
 
 pub add_all-requires-clause-within : goal.add_all-requires-clause-within
-add_all-requires-clause-within c = λ n i. omega (arith, c.requires.first n i, c.in_ok-found.ensures.many)
+add_all-requires-clause-within c = λ n i. omega (arith, c.requires.first n i, c.requires.found.many)
 
 pub add_all-requires-2-clause-within : goal.add_all-requires-2-clause-within
-add_all-requires-2-clause-within c = λ n i. omega (arith, c.requires.first n i, c.in_ok-components.ensures.many)
+add_all-requires-2-clause-within c = λ n i. omega (arith, c.requires.first n i, c.requires.components.many)
 
 pub loop-place-init : goal.loop-place-init
 loop-place-init c = record {
-  many = c.in_ok-add_all.ensures.many ∙ c.in_ok-found.ensures.many;
+  many = c.in_ok-add_all.ensures.many ∙ c.requires.found.many;
   found = c.in_ok-add_all.ensures.found;
-  many_parts = c.in_ok-add_all-2.ensures.many ∙ c.in_ok-components.ensures.many;
+  many_parts = c.in_ok-add_all-2.ensures.many ∙ c.requires.components.many;
   parts = c.in_ok-add_all-2.ensures.found;
   walked = walked_first c.args.first.now c.args.targets.now c.args.references.now c.add_all.new.self.numbers c.add_all-2.new.self.numbers
-      (subst (λ (ns : List ℕ). IsGrown ns c.args.first.now c.add_all.new.self.numbers) c.in_ok-found.ensures.none c.in_ok-add_all.ensures.grown)
-      (subst (λ (ns : List ℕ). IsGrown ns c.args.first.now c.add_all-2.new.self.numbers) c.in_ok-components.ensures.none c.in_ok-add_all-2.ensures.grown);
+      (subst (λ (ns : List ℕ). IsGrown ns c.args.first.now c.add_all.new.self.numbers) c.requires.found.none c.in_ok-add_all.ensures.grown)
+      (subst (λ (ns : List ℕ). IsGrown ns c.args.first.now c.add_all-2.new.self.numbers) c.requires.components.none c.in_ok-add_all-2.ensures.grown);
 }
 
 pub bounds-references-number : goal.bounds-references-number
@@ -87,9 +85,7 @@ loop-place-preserved c =
     }
 
 pub returns-clause-shown : goal.returns-clause-shown
-returns-clause-shown c =
-    subst (λ (ms : List Bool). (n : ℕ) → IsTrue (mark ms n) ↔ IsShown c.args.first.now c.args.targets.now c.args.references.now n) (sym (c.in_ok-listed.ensures ∙ c.as_slice-2.ensures.value))
-    (marked_shown c.args.first.now c.args.targets.now c.args.references.now c.loop-place.place c.loop-place.found.marks.items c.loop-place.found.numbers c.loop-place.components.numbers c.loop-place.invariant.walked c.loop-place.invariant.found (omega arith))
+returns-clause-shown c = marked_shown c.args.first.now c.args.targets.now c.args.references.now c.loop-place.place c.loop-place.found.marks.items c.loop-place.found.numbers c.loop-place.components.numbers c.loop-place.invariant.walked c.loop-place.invariant.found (omega arith)
 
 pub returns-clause-components : goal.returns-clause-components
 returns-clause-components c = all_components c.args.first.now c.args.targets.now c.args.references.now c.loop-place.place c.loop-place.found.numbers c.loop-place.components.numbers c.loop-place.invariant.walked (omega arith)

@@ -1,7 +1,7 @@
 use Rattle.std.proofs.Common.{◌≡◌, ◌-◌, length}
 use Rattle.inlining.specs.Found.{AreFound}
 use Rattle.inlining.proofs.Walks.{IsWalked}
-use Rattle.inlining.proofs.shown.find_shown.Given as goal
+use Rattle.inlining.proofs.shown.find.Given as goal
 
 -- the walk went over what was found before the place
 abbrev pub invariant-loop-place : goal.invariant-loop-place
