@@ -1,13 +1,16 @@
 //! Names of instances.
 
-ghost use Rattle.std.specs.Prelude.{◌≡◌, ◌++◌, codes, map, IfOk, OnOk};
+ghost use Rattle.std.specs.Prelude.{◌≡◌, ◌<◌, [], ◌∷◌, ◌++◌, None, codes, length, map, IfOk, OnOk};
+ghost use Rattle.std.specs.BTreeMap.{get_by_text};
 ghost use Rattle.open_types.specs.Open.{open_view, opens_view};
 ghost use Rattle.open_types.specs.TypeNames.{with_name, names_behind};
 ghost use Rattle.shapes.specs.Declarations.{declaration_at};
 ghost use Rattle.shapes.specs.InstanceNames.{instance_name};
 ghost use Rattle.shapes.specs.Views.{declaration_view};
 ghost use Rattle.texts.specs.Names.{place_in};
+ghost use Rattle.instances.specs.Lists.{instance_at};
 ghost use Rattle.instances.specs.Naming.{IsNaming};
+ghost use Rattle.instances.specs.Numbers.{AreNamed};
 
 use crate::reach::Reach;
 use open_types::OpenType;
@@ -64,6 +67,44 @@ pub enum Naming {
     Clash(usize, usize),
 }
 
+/// The name of the instance of a number, as `instance_name`.
+fn name_of(
+    alloc: Global,
+    declared: &[Declaration],
+    reach: &Reach,
+    number: usize,
+) -> Result<Text, AllocError>
+    requires { number < length reach.now }
+    ensures { IfOk result (λ name. name
+        ≡ instance_name (map declaration_view declared.now) (instance_at reach.now number)) }
+{
+    let ty = reach.type_of(alloc, number)?;
+    instance_name(alloc, declared, ty.as_open())
+}
+
+/// Adds the name at the end, and its number. Where it is there already, the answer is the number that it had, and no name is
+/// added.
+fn add_name(
+    alloc: Global,
+    name: Text,
+    names: &mut List<Text>,
+    numbers: &mut BTreeMap<String, usize>,
+) -> Result<Option<usize>, AllocError>
+    requires { AreNamed (get_by_text numbers.old) names.old }
+    ensures earlier { IfOk result (λ earlier. earlier ≡ place_in name names.old) }
+    ensures added { IfOk result (λ earlier. earlier ≡ None
+        → names.new ≡ names.old ++ name ∷ []) }
+    ensures named { IfOk result (λ earlier. earlier ≡ None
+        → AreNamed (get_by_text numbers.new) names.new) }
+{
+    let key = String::from_str(alloc, name.as_str())?;
+    if let Some(earlier) = numbers.insert(key, names.len()).map_err(AllocError::from)? {
+        return Ok(Some(earlier));
+    }
+    names.push(name)?;
+    Ok(None)
+}
+
 /// The name of each instance, as `instance_name`. Where two are equal, the numbers of two: the second is that of the first
 /// instance whose name stands before it.
 pub fn instance_names(
@@ -76,13 +117,10 @@ pub fn instance_names(
     let mut names = List::new(alloc);
     let mut numbers = BTreeMap::new(alloc);
     for number in 0..reach.len() {
-        let ty = reach.type_of(alloc, number)?;
-        let name = instance_name(alloc, declared, ty.as_open())?;
-        let key = String::from_str(alloc, name.as_str())?;
-        if let Some(earlier) = numbers.insert(key, number).map_err(AllocError::from)? {
+        let name = name_of(alloc, declared, reach, number)?;
+        if let Some(earlier) = add_name(alloc, name, &mut names, &mut numbers)? {
             return Ok(Naming::Clash(earlier, number));
         }
-        names.push(name)?;
     }
     Ok(Naming::Apart(Names { names, numbers }))
 }
