@@ -3,7 +3,7 @@ use Rattle.std.specs.Prelude.{◌≡◌, List, Some}
 use Rattle.diag.specs.declared.rename_row.RenameRow.{RenameRow}
 use Rattle.syntax.specs.Items.{DeclaredItem}
 use Rattle.scopes.specs.Names.{declared_names}
-use Rattle.shapes.specs.Declarations.{DeclarationOf, declaration_names, AreApartBodies, AreFitting}
+use Rattle.shapes.specs.Declarations.{DeclarationOf, declaration_names, AreFitting}
 use Rattle.derive_decl.specs.Whole.{resolved_declarations}
 use Rattle.compose.specs.Faults.{AreClear}
 
@@ -12,5 +12,4 @@ pub record IsSettled (rows : List RenameRow) (ds : List DeclaredItem) (ss : List
   pub resolves : resolved_declarations rows ds ≡ Some ss
   pub clear : AreClear rows ds
   pub names : declaration_names ss ≡ declared_names ds
-  pub apart : AreApartBodies ss
   pub fitting : AreFitting ss

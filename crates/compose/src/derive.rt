@@ -91,6 +91,7 @@ pub fn derive_components(
     let declarations = parse_declarations(alloc, source)?;
     syntax::read_fields_are_named();
     closing::components_describe();
+    derive_decl::resolved_are_apart();
     let terms = terms(alloc, &declarations, config)?;
     // The declarations are let go before terms are made.
     drop(declarations);

@@ -18,7 +18,7 @@ ghost use Rattle.compose.specs.Settled.{IsSettled};
 use crate::within::{Bounded, within_bounds};
 use closing::{Links, schema_of};
 use configuration::Config;
-use derive_decl::{only_derivable, resolved_declarations};
+use derive_decl::{only_derivable, resolution_is_exact, resolved_declarations};
 use diag::DeriveError;
 use instances::{Names, Reach};
 use open_types::ClosedType;
@@ -90,6 +90,7 @@ fn settle(
     let by_name = declared_places(alloc, declarations)?;
     let places = Places::of_names(alloc, declarations, by_name)?;
     let resolved = resolved_declarations(alloc, &places, config)?;
+    resolution_is_exact();
     Ok(resolved)
 }
 

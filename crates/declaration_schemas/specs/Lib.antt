@@ -1,2 +1,2 @@
-pub mod Enums
+pub mod Remarks
 pub mod Schemas

@@ -2,15 +2,14 @@
 
 ghost use Rattle.std.specs.Prelude.{◌≡◌, map, IfOk, Some};
 ghost use Rattle.std.specs.List.{AllByRecursion};
-ghost use Rattle.diag.specs.Refusal.{Refuses, RefusesNone};
-ghost use Rattle.syntax.specs.Items.{variant_view};
+ghost use Rattle.diag.specs.Refusal.{Refuses};
+ghost use Rattle.syntax.specs.Items.{variant_view, enum_body};
 ghost use Rattle.syntax.specs.Named.{HaveNames};
-ghost use Rattle.shapes.specs.Declarations.{IsApartBody};
 ghost use Rattle.shapes.specs.Views.{body_view};
-ghost use Rattle.derive_decl.specs.Resolved.{remarks_of};
-ghost use Rattle.derive_decl.specs.Faults.{IsFaultyEnum};
+ghost use Rattle.derive_decl.specs.Resolved.{plain_body, mixed_body, body_of};
+ghost use Rattle.derive_decl.specs.Faults.{IsFaultyPlain, IsFaultyEnum};
 ghost use Rattle.derive_decl.specs.Views.{attributes_of, items_of, known};
-ghost use Rattle.declaration_schemas.specs.Enums.{plain_body, mixed_body, any_body, IsFaultyPlain};
+ghost use Rattle.declaration_schemas.specs.Remarks.{with_remarks};
 
 use component::Term;
 use derive_decl::{Root, enum_body, enum_rules, remarks_of, units_body, variants_body};
@@ -58,14 +57,9 @@ impl EnumSchema {
     ) -> Result<EnumSchema, DeriveError>
         requires { AllByRecursion (λ v. HaveNames v.fields) (map variant_view variants.now) }
         ensures body { IfOk result
-            (λ e. any_body (known root.now.container.now) (items_of root.now)
-            (map variant_view variants.now) ≡ Some (body_view e.body)) }
-        ensures remarks { IfOk result (λ e. e.remarks ≡ remarks_of (attributes_of root.now)) }
-        ensures apart { IfOk result (λ e. IsApartBody (body_view e.body)) }
-        ensures faultless { IfOk result
-            (λ _. RefusesNone
-            (IsFaultyEnum (known root.now.container.now) (items_of root.now) root.now.ident.now
-            (map variant_view variants.now))) }
+            (λ e. with_remarks (attributes_of root.now)
+            (body_of (known root.now.container.now) (items_of root.now)
+            (enum_body (map variant_view variants.now))) ≡ Some (e.remarks, body_view e.body)) }
         ensures refused { Refuses result
             (IsFaultyEnum (known root.now.container.now) (items_of root.now) root.now.ident.now
             (map variant_view variants.now)) }
@@ -87,14 +81,9 @@ impl PlainEnum {
         variants: &[Variant],
     ) -> Result<PlainEnum, DeriveError>
         ensures body { IfOk result
-            (λ e. plain_body (known root.now.container.now) (items_of root.now)
-            (map variant_view variants.now) ≡ Some (body_view e.body)) }
-        ensures remarks { IfOk result (λ e. e.remarks ≡ remarks_of (attributes_of root.now)) }
-        ensures apart { IfOk result (λ e. IsApartBody (body_view e.body)) }
-        ensures faultless { IfOk result
-            (λ _. RefusesNone
-            (IsFaultyPlain (known root.now.container.now) (items_of root.now) root.now.ident.now
-            (map variant_view variants.now))) }
+            (λ e. with_remarks (attributes_of root.now)
+            (plain_body (known root.now.container.now) (items_of root.now)
+            (map variant_view variants.now)) ≡ Some (e.remarks, body_view e.body)) }
         ensures refused { Refuses result
             (IsFaultyPlain (known root.now.container.now) (items_of root.now) root.now.ident.now
             (map variant_view variants.now)) }
@@ -118,14 +107,9 @@ impl MixedEnum {
     ) -> Result<MixedEnum, DeriveError>
         requires { AllByRecursion (λ v. HaveNames v.fields) (map variant_view variants.now) }
         ensures body { IfOk result
-            (λ e. mixed_body (known root.now.container.now) (items_of root.now)
-            (map variant_view variants.now) ≡ Some (body_view e.body)) }
-        ensures remarks { IfOk result (λ e. e.remarks ≡ remarks_of (attributes_of root.now)) }
-        ensures apart { IfOk result (λ e. IsApartBody (body_view e.body)) }
-        ensures faultless { IfOk result
-            (λ _. RefusesNone
-            (IsFaultyEnum (known root.now.container.now) (items_of root.now) root.now.ident.now
-            (map variant_view variants.now))) }
+            (λ e. with_remarks (attributes_of root.now)
+            (mixed_body (known root.now.container.now) (items_of root.now)
+            (map variant_view variants.now)) ≡ Some (e.remarks, body_view e.body)) }
         ensures refused { Refuses result
             (IsFaultyEnum (known root.now.container.now) (items_of root.now) root.now.ident.now
             (map variant_view variants.now)) }

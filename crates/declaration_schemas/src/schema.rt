@@ -1,14 +1,14 @@
 //! The schema of a declaration.
 
-ghost use Rattle.std.specs.Prelude.{◌≡◌, map, IfOk};
+ghost use Rattle.std.specs.Prelude.{◌≡◌, map, IfOk, Some, option_map};
 ghost use Rattle.diag.specs.Refusal.{Refuses};
 ghost use Rattle.open_types.specs.Open.{open_view};
 ghost use Rattle.syntax.specs.Items.{body_view, generics_view};
 ghost use Rattle.syntax.specs.Named.{IsNamedBody};
 ghost use Rattle.scopes.specs.Scopes.{generics_in};
-ghost use Rattle.shapes.specs.Declarations.{DeclarationOf, body_types};
+ghost use Rattle.shapes.specs.Declarations.{body_types};
 ghost use Rattle.shapes.specs.Views.{declaration_view};
-ghost use Rattle.declaration_schemas.specs.Schemas.{IsFaultySchema, IsResolvedSchema};
+ghost use Rattle.declaration_schemas.specs.Schemas.{IsFaultySchema, resolved_schema};
 
 use component::Term;
 use derive_decl::{Root, distinct_parameters, resolve_declaration};
@@ -59,7 +59,8 @@ impl<'a> Schema<'a> {
     /// `derive_decl::resolve_declaration`.
     pub fn resolve(&self, alloc: Global) -> Result<Declaration, DeriveError>
         requires { IsNamedBody (body_view self.now.body.now) }
-        ensures resolved { IfOk result (λ s. IsResolvedSchema self.now (declaration_view s)) }
+        ensures resolved { IfOk result (λ s. resolved_schema self.now
+            ≡ Some (declaration_view s)) }
         ensures refused { Refuses result (IsFaultySchema self.now) }
     {
         distinct_parameters(alloc, generics_of(self.container))?;
@@ -74,8 +75,8 @@ impl<'a> Schema<'a> {
     /// The types of the declaration's places, in order. It is refused as `resolve` is.
     pub fn place_types(&self, alloc: Global) -> Result<List<OpenType>, DeriveError>
         requires { IsNamedBody (body_view self.now.body.now) }
-        ensures types { IfOk result (λ ts. (of : DeclarationOf) × IsResolvedSchema self.now of
-            × (body_types of.body ≡ map open_view ts)) }
+        ensures types { IfOk result (λ ts. option_map (λ of. body_types of.body)
+            (resolved_schema self.now) ≡ Some (map open_view ts)) }
         ensures refused { Refuses result (IsFaultySchema self.now) }
     {
         let resolved = self.resolve(alloc)?;
@@ -106,16 +107,15 @@ fn copied_types(alloc: Global, declaration: &Declaration) -> Result<List<OpenTyp
 }
 
 impl ToTerm for Schema<'_> {
-    ghost use Rattle.std.specs.Prelude.{◌≡◌};
+    ghost use Rattle.std.specs.Prelude.{◌≡◌, Some, option_map};
     ghost use Rattle.syntax.specs.Items.{body_view};
     ghost use Rattle.syntax.specs.Named.{IsNamedBody};
-    ghost use Rattle.shapes.specs.Declarations.{DeclarationOf};
     ghost use Rattle.terms.specs.Terms.{term};
-    ghost use Rattle.declaration_schemas.specs.Schemas.{IsFaultySchema, IsResolvedSchema};
+    ghost use Rattle.declaration_schemas.specs.Schemas.{IsFaultySchema, resolved_schema};
 
     ghost is_ready = { λ s. IsNamedBody (body_view s.body.now) };
 
-    ghost has_term = { λ s t. (of : DeclarationOf) × IsResolvedSchema s of × (t ≡ term of) };
+    ghost has_term = { λ s t. option_map term (resolved_schema s) ≡ Some t };
 
     ghost is_refused = { IsFaultySchema };
 

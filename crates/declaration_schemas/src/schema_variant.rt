@@ -1,14 +1,14 @@
 //! The schema of the body of a declaration.
 
-ghost use Rattle.std.specs.Prelude.{◌≡◌, IfOk, None, Some};
-ghost use Rattle.diag.specs.Refusal.{Refuses, RefusesNone};
+ghost use Rattle.std.specs.Prelude.{◌≡◌, IfOk, Some};
+ghost use Rattle.diag.specs.Refusal.{Refuses};
 ghost use Rattle.syntax.specs.Items.{body_view};
 ghost use Rattle.syntax.specs.Named.{IsNamedBody};
-ghost use Rattle.shapes.specs.Declarations.{IsApartBody};
 ghost use Rattle.shapes.specs.Views.{body_view as resolved_view};
-ghost use Rattle.derive_decl.specs.Resolved.{body_of, remarks_of};
-ghost use Rattle.derive_decl.specs.Faults.{attributes_with, first_other, IsFaultyBody, IsFaultyDeclaration};
-ghost use Rattle.derive_decl.specs.Views.{attributes_of, items_of, known};
+ghost use Rattle.derive_decl.specs.Resolved.{derived_body};
+ghost use Rattle.derive_decl.specs.Faults.{IsFaultyDeclaration};
+ghost use Rattle.derive_decl.specs.Views.{attributes_of, known};
+ghost use Rattle.declaration_schemas.specs.Remarks.{with_remarks};
 
 use component::Term;
 use derive_decl::{Root, remarks_of, resolve_body};
@@ -32,16 +32,9 @@ impl SchemaVariant {
     pub fn new(alloc: Global, body: &Body, root: &Root<'_>) -> Result<SchemaVariant, DeriveError>
         requires { IsNamedBody (body_view body.now) }
         ensures body { IfOk result
-            (λ s. body_of (known root.now.container.now) (items_of root.now) (body_view body.now)
-            ≡ Some (resolved_view s.body)) }
-        ensures remarks { IfOk result (λ s. s.remarks ≡ remarks_of (attributes_of root.now)) }
-        ensures apart { IfOk result (λ s. IsApartBody (resolved_view s.body)) }
-        ensures derivable { IfOk result
-            (λ _. first_other (attributes_with (attributes_of root.now) (body_view body.now)) ≡ None) }
-        ensures faultless { IfOk result
-            (λ _. RefusesNone
-            (IsFaultyBody (known root.now.container.now) (items_of root.now) root.now.ident.now
-            (body_view body.now))) }
+            (λ s. with_remarks (attributes_of root.now)
+            (derived_body (known root.now.container.now) (attributes_of root.now)
+            (body_view body.now)) ≡ Some (s.remarks, resolved_view s.body)) }
         ensures refused { Refuses result
             (IsFaultyDeclaration (known root.now.container.now) (attributes_of root.now)
             root.now.ident.now (body_view body.now)) }

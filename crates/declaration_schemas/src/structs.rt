@@ -2,16 +2,14 @@
 
 ghost use Rattle.std.specs.Prelude.{◌≡◌, map, IfOk, IfErr, Some};
 ghost use Rattle.std.specs.List.{AllByRecursion};
-ghost use Rattle.diag.specs.Refusal.{Refuses, RefusesNone};
-ghost use Rattle.texts.specs.Names.{IsDistinct};
+ghost use Rattle.diag.specs.Refusal.{Refuses};
 ghost use Rattle.syntax.specs.Items.{field_view, named, unnamed};
 ghost use Rattle.syntax.specs.Named.{HasName};
-ghost use Rattle.shapes.specs.Declarations.{form_names};
 ghost use Rattle.shapes.specs.Views.{form_view};
-ghost use Rattle.derive_decl.specs.Fields.{field_rules, FieldRules as AnyRules};
 ghost use Rattle.derive_decl.specs.Resolved.{form_of, remarks_of};
 ghost use Rattle.derive_decl.specs.Faults.{AreFaultyNamed, AreFaultyTypes};
 ghost use Rattle.derive_decl.specs.Views.{attributes_of, items_of, known};
+ghost use Rattle.declaration_schemas.specs.Remarks.{with_remarks};
 
 use component::Term;
 use derive_decl::{Root, named_form, remarks_of, unnamed_form};
@@ -68,14 +66,9 @@ impl NamedStructSchema {
     ) -> Result<NamedStructSchema, DeriveError>
         requires { AllByRecursion HasName (map field_view fields.now) }
         ensures form { IfOk result
-            (λ s. form_of (known root.now.container.now) (field_rules (items_of root.now))
-            (named (map field_view fields.now)) ≡ Some (form_view s.form)) }
-        ensures remarks { IfOk result (λ s. s.remarks ≡ remarks_of (attributes_of root.now)) }
-        ensures distinct { IfOk result (λ s. IsDistinct (form_names (form_view s.form))) }
-        ensures faultless { IfOk result
-            (λ _. RefusesNone
-            (AreFaultyNamed (known root.now.container.now) (items_of root.now)
-            (map field_view fields.now))) }
+            (λ s. with_remarks (attributes_of root.now)
+            (form_of (known root.now.container.now) (items_of root.now)
+            (named (map field_view fields.now))) ≡ Some (s.remarks, form_view s.form)) }
         ensures refused { Refuses result
             (AreFaultyNamed (known root.now.container.now) (items_of root.now)
             (map field_view fields.now)) }
@@ -98,14 +91,10 @@ impl UnnamedStructSchema {
         root: &Root<'_>,
         fields: &[Field],
     ) -> Result<UnnamedStructSchema, DeriveError>
-        ensures form { IfOk result (λ s. (rules : AnyRules)
-            → form_of (known root.now.container.now) rules (unnamed (map field_view fields.now))
-            ≡ Some (form_view s.form)) }
-        ensures remarks { IfOk result (λ s. s.remarks ≡ remarks_of (attributes_of root.now)) }
-        ensures faultless { IfOk result
-            (λ _. RefusesNone
-            (AreFaultyTypes (known root.now.container.now) root.now.ident.now
-            (map field_view fields.now))) }
+        ensures form { IfOk result
+            (λ s. with_remarks (attributes_of root.now)
+            (form_of (known root.now.container.now) (items_of root.now)
+            (unnamed (map field_view fields.now))) ≡ Some (s.remarks, form_view s.form)) }
         ensures refused { Refuses result
             (AreFaultyTypes (known root.now.container.now) root.now.ident.now
             (map field_view fields.now)) }

@@ -1,8 +1,7 @@
 -- Variants of enums: their names, and what is refused where none has fields.
-use Rattle.std.proofs.Common.{ℕ, List, [], ◌∷◌, ◌++◌, map, Bool, true, false, ◌&&◌, cond, Option, Some, None, option_map, ◌≡◌, ◌∙◌, refl, ap, sym, subst, inl, inr}
+use Rattle.std.proofs.Common.{ℕ, List, [], ◌∷◌, map, Bool, true, false, ◌&&◌, cond, Option, Some, None, option_map, option_and_then, ◌≡◌, ◌∙◌, refl, ap, sym, subst, inl, inr}
 use Rattle.std.proofs.lemmas.Bool.{false≢true}
 use Rattle.std.proofs.lemmas.Option.{none-some, same_Some}
-use Rattle.diag.specs.Refusal.{RefusesNone}
 use Rattle.diag.specs.declared.error.DeriveError.{DeriveError}
 use Rattle.diag.specs.declared.rename_rule.RenameRule.{RenameRule}
 use Rattle.texts.specs.Lists.{Somewhere}
@@ -13,12 +12,12 @@ use Rattle.written_types.specs.declared.written.Ident.{Ident}
 use Rattle.syntax.specs.Items.{FieldItems, named, unnamed, unit, VariantItem}
 use Rattle.scopes.specs.Names.{texts}
 use Rattle.shapes.specs.declared.tagging.Tagging.{Tagging}
-use Rattle.shapes.specs.Declarations.{no_fields, VariantOf, variant_names, AreApartVariants}
+use Rattle.shapes.specs.Declarations.{no_fields, BodyOf, variant_names}
 use Rattle.derive_decl.specs.declared.written_variant.WrittenVariant.{WrittenVariant}
-use Rattle.derive_decl.specs.Fields.{named_at, field_rules}
+use Rattle.derive_decl.specs.Fields.{named_at, are_allowed}
 use Rattle.derive_decl.specs.Variants.{tagging_in, is_unit, are_units, is_kept_variant, kept_variants}
-use Rattle.derive_decl.specs.Resolved.{Around, form_of}
-use Rattle.derive_decl.specs.Faults.{AreFaultyFields, IsUnnamed, IsFaultyVariant, AreUnnamed, AreFaultyVariants, IsFaultyTagging, IsFaultyEnum}
+use Rattle.derive_decl.specs.Resolved.{Around, form_of, enum_by}
+use Rattle.derive_decl.specs.Faults.{AreFaultyFields, IsUnnamed, IsFaultyVariant, AreUnnamed, AreFaultyVariants, IsFaultyEnum}
 use Rattle.derive_decl.specs.Tags.{IsMisplacedTag}
 use Rattle.derive_decl.specs.Views.{written_variant_view}
 use Rattle.derive_decl.proofs.TagLaws.{alone-tag}
@@ -32,12 +31,6 @@ pub variant_names-are : (xs : List WrittenVariant) → variant_names (map writte
 variant_names-are [] = refl
 variant_names-are (x ∷ xs) = ap (λ ns. x.ident.text ∷ ns) (variant_names-are xs)
 
--- ---- names that are apart
-
-pub apart-append : (tagging : Tagging) (xs ys : List VariantOf) → AreApartVariants tagging xs → AreApartVariants tagging ys → AreApartVariants tagging (xs ++ ys)
-apart-append tagging [] ys h g = g
-apart-append tagging (x ∷ xs) ys h g = (h.0, apart-append tagging xs ys h.1 g)
-
 -- ---- variants without fields
 
 module _ (around : Around) (rule : Option RenameRule) (tagging : Tagging) (e : DeriveError) where
@@ -47,7 +40,7 @@ module _ (around : Around) (rule : Option RenameRule) (tagging : Tagging) (e : D
   unit-named v (unnamed fs) is u (inr h) = absurd (false≢true u)
   unit-named v unit is u (inr (inl h)) = absurd (subst (λ fs. AreFaultyFields around (serde_items v.attrs) v.ident fs e) is h)
   unit-named v unit is u (inr (inr (form, of, refused))) =
-      let same : no_fields ≡ form = same_Some no_fields form (sym (ap (form_of around (field_rules (serde_items v.attrs))) is) ∙ of) in
+      let same : no_fields ≡ form = same_Some no_fields form (sym (ap (form_of around (serde_items v.attrs)) is) ∙ of) in
       absurd (alone-tag tagging v e (subst (λ f. IsMisplacedTag tagging v f e) (sym same) refused))
 
   -- without fields a variant is at fault for its name alone
@@ -83,8 +76,8 @@ module _ (around : Around) (items : List SerdeItem) (x : Ident) (vs : List Varia
   pub enum_refused : (e : DeriveError) → AreFaultyVariants around rule tagging vs e → IsFaultyEnum around items x vs e
   enum_refused e fault = inr (tagging, told, subst (λ r. AreFaultyVariants around r tagging vs e) rules fault)
 
-  pub enum_faultless : RefusesNone (IsFaultyTagging items x) → RefusesNone (AreFaultyVariants around rule tagging vs) → RefusesNone (IsFaultyEnum around items x vs)
-  enum_faultless allowed none e (inl refused) = allowed e refused
-  enum_faultless allowed none e (inr (other, is, fault)) =
-      none e (subst (λ r. AreFaultyVariants around r tagging vs e) (sym rules)
-      (subst (λ t. AreFaultyVariants around (rename_rule items) t vs e) (same_Some other tagging (sym is ∙ told)) fault))
+-- an enum is what it is by its rule of names and by how its values tell their variant
+pub enum_is : (items : List SerdeItem) (of : Option RenameRule → Tagging → Option BodyOf) (rule : Option RenameRule) (tagging : Tagging) (body : BodyOf) → are_allowed items ≡ true → rule ≡ rename_rule items → tagging_in items ≡ Some tagging →
+    of rule tagging ≡ Some body → enum_by items of ≡ Some body
+enum_is items of rule tagging body allowed rules told is =
+    ap (λ b. cond b (option_and_then (of (rename_rule items)) (tagging_in items)) None) allowed ∙ ap (option_and_then (of (rename_rule items))) told ∙ subst (λ r. of r tagging ≡ Some body) rules is

@@ -1,8 +1,11 @@
 -- What is first in two lists is that of the first list, or else of the second.
 use Rattle.std.proofs.Common.{◌≡◌, ◌∙◌, ◌<◌, ◌+◌, ℕ, suc, List, [], ◌∷◌, ◌++◌, length, drop, get_or, refl, ap, sym, Option, Some, None, Bool, true, false, cond, add-one, drop-cons}
+use Rattle.std.specs.List.{AllByRecursion}
 use Rattle.std.specs.Option.{option_or}
+use Rattle.std.proofs.lemmas.Option.{none-some}
 use Rattle.attributes.specs.Attributes.{AttributeItem}
-use Rattle.derive_decl.specs.Faults.{is_other, first_other}
+use Rattle.syntax.specs.Items.{DeclaredItem}
+use Rattle.derive_decl.specs.Attributed.{is_other, first_other, attributes_in, attributes_among}
 
 pub first_joined : (xs ys : List AttributeItem) → first_other (xs ++ ys) ≡ option_or (first_other xs) (first_other ys)
 first_joined [] ys = refl
@@ -32,3 +35,14 @@ module _ {A B : Type 0} (first : List A → Option B) (one : A → Option B) (sp
 pub first-parts : {A : Type 0} (parts : List A → List AttributeItem) (part : A → List AttributeItem) → ((x : A) (xs : List A) → parts (x ∷ xs) ≡ part x ++ parts xs) → (x : A) (xs : List A) →
     first_other (parts (x ∷ xs)) ≡ option_or (first_other (part x)) (first_other (parts xs))
 first-parts parts part split x xs = ap first_other (split x xs) ∙ first_joined (part x) (parts xs)
+
+neither : {A : Type 0} (o p : Option A) → option_or o p ≡ None → (o ≡ None) × (p ≡ None)
+neither None p e = (refl, e)
+neither (Some x) p e = absurd (none-some x (sym e))
+
+-- something is derived from each attribute of each, where it is of all
+pub each_derivable : (ds : List DeclaredItem) → first_other (attributes_among ds) ≡ None → AllByRecursion (λ d. first_other (attributes_in d) ≡ None) ds
+each_derivable [] e = tt
+each_derivable (d ∷ ds) e =
+    let parts = neither (first_other (attributes_in d)) (first_other (attributes_among ds)) (sym (first_joined (attributes_in d) (attributes_among ds)) ∙ e) in
+    (parts.0, each_derivable ds parts.1)

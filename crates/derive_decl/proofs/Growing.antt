@@ -7,7 +7,7 @@ use Rattle.std.specs.List.{AllByRecursion, cons_option}
 use Rattle.texts.specs.Lists.{Somewhere}
 use Rattle.scopes.specs.Names.{texts}
 use Rattle.derive_decl.specs.declared.written_member.WrittenMember.{WrittenMember}
-use Rattle.shapes.specs.Declarations.{DeclarationOf, member_names, IsApartBody, AreApartBodies}
+use Rattle.shapes.specs.Declarations.{member_names}
 use Rattle.derive_decl.specs.Resolved.{all_of}
 use Rattle.derive_decl.specs.Views.{written_member_view}
 
@@ -61,20 +61,6 @@ fact_at {I = I} P u items i item l is all = subst (λ x. P (u x)) (sym is) (by i
     by (x ∷ xs) zero h a = a.0
     by (x ∷ xs) (suc j) h a = by xs j (omega arith) a.1
 
--- a fact of all so far, and of one more
-all-push : {A : Type 0} (P : A → Type 0) (xs : List A) (x : A) → AllByRecursion P xs → P x → AllByRecursion P (xs ++ x ∷ [])
-all-push P [] x h p = (p, tt)
-all-push P (y ∷ ys) x h p = (h.0, all-push P ys x h.1 p)
-
-pub facts_more : {A I : Type 0} (P : A → Type 0) (u : I → A) (items : List I) (i : ℕ) (item : I) → i < length items → item ≡ get_or items i item → AllByRecursion P (map u (take i items)) → P (u item) → AllByRecursion P (map u (take (i + 1) items))
-facts_more P u items i item l is h p =
-    subst (AllByRecursion P) (sym (ap (map u) (take_more items i item l) ∙ map_push u (take i items) (get_or items i item)))
-    (all-push P (map u (take i items)) (u (get_or items i item)) h (subst (λ x. P (u x)) is p))
-
-pub all-append : {A : Type 0} (P : A → Type 0) (xs more : List A) → AllByRecursion P xs → AllByRecursion P more → AllByRecursion P (xs ++ more)
-all-append P [] more h g = g
-all-append P (x ∷ xs) more h g = (h.0, all-append P xs more h.1 g)
-
 -- ---- items that are kept
 
 module _ {A I : Type 0} (u : I → A) (is_kept : A → Bool) where
@@ -96,10 +82,6 @@ module _ {A I : Type 0} (u : I → A) (is_kept : A → Bool) where
       filter_map f (filter is_kept (map u (take i items))) ≡ ys → filter_map f (filter is_kept (u item ∷ [])) ≡ more → filter_map f (filter is_kept (map u (take (i + 1) items))) ≡ ys ++ more
   some_kept_more f items i item ys more l is e g =
       ap (filter_map f) (kept_more items i item l is) ∙ filter_map-append f (filter is_kept (map u (take i items))) (filter is_kept (u item ∷ [])) ∙ (λ j. e j ++ g j)
-
-  pub kept_facts_more : (P : A → Type 0) (items : List I) (i : ℕ) (item : I) → i < length items → item ≡ get_or items i item →
-      AllByRecursion P (filter is_kept (map u (take i items))) → AllByRecursion P (filter is_kept (u item ∷ [])) → AllByRecursion P (filter is_kept (map u (take (i + 1) items)))
-  kept_facts_more P items i item l is h g = subst (AllByRecursion P) (sym (kept_more items i item l is)) (all-append P (filter is_kept (map u (take i items))) (filter is_kept (u item ∷ [])) h g)
 
   -- a fact of one that is kept
   pub somewhere_kept : (P : A → Type 0) (items : List I) (i : ℕ) (item : I) → i < length items → item ≡ get_or items i item → Somewhere P (filter is_kept (u item ∷ [])) → Somewhere P (filter is_kept (map u items))
@@ -130,11 +112,6 @@ all-given {B = B} f (x ∷ xs) ys e = by (f x) (all_of f xs) e (all-given f xs)
     by (Some w) (Some ws) h later = ap (λ vs. w ∷ vs) (later ws refl) ∙ same_Some (w ∷ ws) ys h
 
 -- ---- names
-
--- the bodies of the declarations so far are apart, and that of one more
-pub apart-push : (ss : List DeclarationOf) (s : DeclarationOf) → AreApartBodies ss → IsApartBody s.body → AreApartBodies (ss ++ s ∷ [])
-apart-push [] s d h = (h, tt)
-apart-push (t ∷ ss) s d h = (d.0, apart-push ss s d.1 h)
 
 pub member_names-are : (ms : List WrittenMember) → member_names (map written_member_view ms) ≡ texts (map (λ (m : WrittenMember). m.ident) ms)
 member_names-are [] = refl

@@ -7,4 +7,9 @@ pub mod Texts
 pub mod EnumLaws
 pub mod Over
 pub mod Owners
-pub mod Faultless
+pub mod Values
+pub mod Parts
+pub mod Clear
+pub mod Resolved
+pub mod Exact
+pub mod Apart

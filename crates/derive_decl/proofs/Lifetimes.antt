@@ -4,7 +4,7 @@ use Rattle.std.proofs.lemmas.List.{take_more, map_push}
 use Rattle.written_types.specs.declared.written.Ident.{Ident}
 use Rattle.syntax.specs.declared.item.GenericParam.{GenericParam}
 use Rattle.syntax.specs.Items.{ParameterItem, lifetime_parameter, type_parameter, const_parameter, parameter_view}
-use Rattle.derive_decl.specs.Faults.{unquoted, lifetimes_of}
+use Rattle.derive_decl.specs.Lifetimes.{unquoted, lifetimes_of}
 
 lifetimes-push : (ps : List ParameterItem) (p : ParameterItem) → lifetimes_of (ps ++ p ∷ []) ≡ lifetimes_of ps ++ lifetimes_of (p ∷ [])
 lifetimes-push [] p = refl

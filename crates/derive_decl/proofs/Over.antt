@@ -1,5 +1,5 @@
 -- What the resolved declarations of all declarations say: their names, and that their types fit.
-use Rattle.std.proofs.Common.{ℕ, zero, suc, ◌<◌, List, [], ◌∷◌, ◌++◌, Option, Some, None, option_map, option_and_then, Bool, true, false, cond, bytes_eq, length, ◌≡◌, refl, ap, sym, subst, ◌∙◌, arith, slice_index}
+use Rattle.std.proofs.Common.{ℕ, zero, suc, ◌<◌, List, [], ◌∷◌, ◌++◌, Option, Some, None, option_map, option_and_then, leb, Bool, true, false, cond, bytes_eq, length, ◌≡◌, refl, ap, sym, subst, ◌∙◌, arith, slice_index}
 use Rattle.std.proofs.lemmas.Option.{none-some, same_Some}
 use Rattle.texts.specs.Names.{place_in}
 use Rattle.diag.specs.declared.rename_rule.RenameRule.{RenameRule}
@@ -10,29 +10,23 @@ use Rattle.serde_rules.specs.Container.{rename_rule}
 use Rattle.written_types.specs.declared.written.Ident.{Ident}
 use Rattle.syntax.specs.Items.{FieldItem, FieldItems, named, unnamed, unit, VariantItem, BodyItem, struct_body, enum_body, DeclaredItem}
 use Rattle.open_types.specs.Open.{Open}
-use Rattle.open_types.specs.Within.{AreAllOver}
-use Rattle.resolving.specs.Resolved.{type_of, ResolvedAreOver}
+use Rattle.open_types.specs.Within.{IsOver, AreAllOver}
+use Rattle.resolving.specs.Names.{size}
+use Rattle.resolving.specs.Resolved.{most_names, type_of, resolved_type, ResolvedAreOver}
 use Rattle.scopes.specs.Names.{declared_names, texts, place_among}
 use Rattle.shapes.specs.Declarations.{MemberOf, FormOf, named_fields, unnamed_fields, no_fields, VariantOf, BodyOf, fields, units, variants, DeclarationOf, member_types, form_types, variant_types, body_types, declaration_names, declaration_at, parameters_in, AreFitting}
 use Rattle.shapes.specs.declared.tagging.Tagging.{Tagging}
-use Rattle.derive_decl.specs.Variants.{tagging_in, are_units, kept_variants, variant_name}
-use Rattle.derive_decl.specs.Fields.{FieldRules, field_rules, kept, written_name}
-use Rattle.derive_decl.specs.Resolved.{Around, around_of, all_of, member_from, member_as, member_of, form_of, variant_from, variant_of, units_of, mixed_of, enum_of, body_of, declaration_from, resolved_of}
+use Rattle.derive_decl.specs.Attributed.{attributes_with, are_derivable}
+use Rattle.derive_decl.specs.Fields.{FieldRules, field_rules, are_allowed, kept}
+use Rattle.derive_decl.specs.Lifetimes.{parameters_are_distinct}
+use Rattle.derive_decl.specs.Tags.{tag_stands}
+use Rattle.derive_decl.specs.Variants.{tagging_in, are_units, are_told, kept_variants, variant_name}
+use Rattle.derive_decl.specs.Resolved.{Around, around_of, all_of, passing, member_of, members_are_distinct, named_form, form_of, variant_of, variants_are_told, units_of, mixed_of, enum_of, body_of, derived_body, declaration_from, declaration_of, resolved_of}
 use Rattle.derive_decl.specs.Whole.{resolved_declarations, resolved_among}
+use Rattle.derive_decl.proofs.Parts.{member_parts, variant_parts}
+use Rattle.derive_decl.proofs.Values.{mapped, and_then, joined, chosen, passed}
 use Rattle.scopes.specs.Parameters.{type_parameters, parameter_counts}
 use Rattle.std.proofs.Math.Path.{fun_ext}
-
--- ---- results that may be missing
-
--- what stands behind a `Some`
-mapped : {A B : Type 0} (f : A → B) (o : Option A) (y : B) → option_map f o ≡ Some y → (x : A) × (o ≡ Some x) × (f x ≡ y)
-mapped f None y e = absurd (none-some y e)
-mapped f (Some x) y e = (x, refl, same_Some (f x) y e)
-
-joined : {B : Type 0} (o : Option B) (p : Option (List B)) (ys : List B) → option_and_then (λ w. option_map (λ ws. w ∷ ws) p) o ≡ Some ys → (w : B) × (ws : List B) × (o ≡ Some w) × (p ≡ Some ws) × (w ∷ ws ≡ ys)
-joined None p ys e = absurd (none-some ys e)
-joined (Some w) None ys e = absurd (none-some ys e)
-joined (Some w) (Some ws) ys e = (w, ws, refl, refl, same_Some (w ∷ ws) ys e)
 
 -- ---- names
 
@@ -50,37 +44,14 @@ many_names : (ss : List DeclarationOf) → length (declaration_names ss) ≡ len
 many_names [] = refl
 many_names (s ∷ ss) = ap suc (many_names ss)
 
--- ---- members
-
--- the name and the type of a member
-record IsMember (around : Around) (rules : FieldRules) (f : FieldItem) (m : MemberOf) : Type 0 where
-  ident : Ident
-  is : f.ident ≡ Some ident
-  named : written_name around.rows rules.rule f ident ≡ Some m.name
-  typed : type_of around.known f.ty ≡ Some m.of
-
-member_parts : (around : Around) (rules : FieldRules) (f : FieldItem) (m : MemberOf) → member_of around rules f ≡ Some m → IsMember around rules f m
-member_parts around rules f m e = by f.ident refl e
-  where
-    from : (x : Ident) (n : Option (List ℕ)) (t : Option Open) → f.ident ≡ Some x → written_name around.rows rules.rule f x ≡ n → type_of around.known f.ty ≡ t →
-        option_and_then (λ name. option_map (member_from rules f name) t) n ≡ Some m → IsMember around rules f m
-    from x None t i p q h = absurd (none-some m h)
-    from x (Some n) None i p q h = absurd (none-some m h)
-    from x (Some n) (Some t) i p q h =
-        let same = same_Some (member_from rules f n t) m h in
-        record { ident = x; is = i; named = p ∙ ap (λ (o : MemberOf). Some o.name) same; typed = q ∙ ap (λ (o : MemberOf). Some o.of) same }
-
-    by : (o : Option Ident) → f.ident ≡ o → member_as around rules f o ≡ Some m → IsMember around rules f m
-    by None i h = absurd (none-some m h)
-    by (Some x) i h = from x (written_name around.rows rules.rule f x) (type_of around.known f.ty) i refl refl h
-
 -- ---- declarations
 
 -- the declaration of a declaration
 declaration_parts : (around : Around) (d : DeclaredItem) (s : DeclarationOf) → resolved_of around d ≡ Some s → (s.name ≡ d.ident.text) × (body_of around (serde_items d.attrs) d.body ≡ Some s.body) × (s.parameters ≡ around.parameters)
 declaration_parts around d s e =
-    let m = mapped (declaration_from around d.attrs d.ident) (body_of around (serde_items d.attrs) d.body) s e in
-    (sym (ap (λ (r : DeclarationOf). r.name) m.2), m.1 ∙ ap (λ (r : DeclarationOf). Some r.body) m.2, sym (ap (λ (r : DeclarationOf). r.parameters) m.2))
+    let m = mapped (declaration_from around d.attrs d.ident) (derived_body around d.attrs d.body) s (chosen (parameters_are_distinct d.generics) (declaration_of around d.attrs d.ident d.body) s e).1 in
+    let derived = chosen (are_derivable (attributes_with d.attrs d.body)) (body_of around (serde_items d.attrs) d.body) m.0 m.1 in
+    (sym (ap (λ (r : DeclarationOf). r.name) m.2), derived.1 ∙ ap (λ (r : DeclarationOf). Some r.body) m.2, sym (ap (λ (r : DeclarationOf). r.parameters) m.2))
 
 module _ (rows : List RenameRow) (all : List DeclaredItem) where
   -- the declarations have the names of the declarations
@@ -112,26 +83,32 @@ module _ (over : ResolvedAreOver) where
     abbrev AreTypesOver : List Open → Type 0
     AreTypesOver ts = AreAllOver n around.known.parameters_at own ts
 
+    -- a resolved type is over the declarations
+    type_over : (f : FieldItem) (u : Open) → resolved_type around.known f.ty ≡ Some u → IsOver n around.known.parameters_at own u
+    type_over f u is = over around.known n own below within f.ty u (chosen (leb (size around.known f.ty) most_names) (type_of around.known f.ty) u is).1
+
     members_over : (rules : FieldRules) (fs : List FieldItem) (ms : List MemberOf) → all_of (member_of around rules) fs ≡ Some ms → AreTypesOver (member_types ms)
     members_over rules [] ms e = subst (λ xs. AreTypesOver (member_types xs)) (same_Some [] ms e) tt
     members_over rules (f ∷ fs) ms e =
         let j = joined (member_of around rules f) (all_of (member_of around rules) fs) ms e in
         let m = member_parts around rules f j.0 j.2 in
-        subst (λ xs. AreTypesOver (member_types xs)) j.4 (over around.known n own below within f.ty j.0.of m.typed, members_over rules fs j.1 j.3)
+        subst (λ xs. AreTypesOver (member_types xs)) j.4 (type_over f j.0.of m.typed, members_over rules fs j.1 j.3)
 
-    types_over : (fs : List FieldItem) (ts : List Open) → all_of (λ (f : FieldItem). type_of around.known f.ty) fs ≡ Some ts → AreTypesOver ts
+    types_over : (fs : List FieldItem) (ts : List Open) → all_of (λ (f : FieldItem). resolved_type around.known f.ty) fs ≡ Some ts → AreTypesOver ts
     types_over [] ts e = subst AreTypesOver (same_Some [] ts e) tt
     types_over (f ∷ fs) ts e =
-        let j = joined (type_of around.known f.ty) (all_of (λ (g : FieldItem). type_of around.known g.ty) fs) ts e in
-        subst AreTypesOver j.4 (over around.known n own below within f.ty j.0 j.2, types_over fs j.1 j.3)
+        let j = joined (resolved_type around.known f.ty) (all_of (λ (g : FieldItem). resolved_type around.known g.ty) fs) ts e in
+        subst AreTypesOver j.4 (type_over f j.0 j.2, types_over fs j.1 j.3)
 
-    form_over : (rules : FieldRules) (fs : FieldItems) (form : FormOf) → form_of around rules fs ≡ Some form → AreTypesOver (form_types form)
-    form_over rules (named fs) form e =
-        let m = mapped (named_fields rules.denies) (all_of (member_of around rules) (kept fs)) form e in subst (λ f. AreTypesOver (form_types f)) m.2 (members_over rules (kept fs) m.0 m.1)
-    form_over rules (unnamed []) form e = absurd (none-some form e)
-    form_over rules (unnamed (f ∷ fs)) form e =
-        let m = mapped unnamed_fields (all_of (λ (g : FieldItem). type_of around.known g.ty) (f ∷ fs)) form e in subst (λ x. AreTypesOver (form_types x)) m.2 (types_over (f ∷ fs) m.0 m.1)
-    form_over rules unit form e = subst (λ f. AreTypesOver (form_types f)) (same_Some no_fields form e) tt
+    form_over : (items : List SerdeItem) (fs : FieldItems) (form : FormOf) → form_of around items fs ≡ Some form → AreTypesOver (form_types form)
+    form_over items (named fs) form e =
+        let rules = field_rules items in
+        let m = mapped (named_fields rules.denies) (passing members_are_distinct (all_of (member_of around rules) (kept fs))) form (chosen (are_allowed items) (named_form around rules fs) form e).1 in
+        subst (λ f. AreTypesOver (form_types f)) m.2 (members_over rules (kept fs) m.0 (passed members_are_distinct (all_of (member_of around rules) (kept fs)) m.0 m.1).0)
+    form_over items (unnamed []) form e = absurd (none-some form e)
+    form_over items (unnamed (f ∷ fs)) form e =
+        let m = mapped unnamed_fields (all_of (λ (g : FieldItem). resolved_type around.known g.ty) (f ∷ fs)) form e in subst (λ x. AreTypesOver (form_types x)) m.2 (types_over (f ∷ fs) m.0 m.1)
+    form_over items unit form e = subst (λ f. AreTypesOver (form_types f)) (same_Some no_fields form e) tt
 
     both_over : (ts us : List Open) → AreTypesOver ts → AreTypesOver us → AreTypesOver (ts ++ us)
     both_over [] us h g = g
@@ -139,13 +116,8 @@ module _ (over : ResolvedAreOver) where
 
     -- the form of a variant is that of its fields
     variant_over : (rule : Option RenameRule) (tagging : Tagging) (v : VariantItem) (x : VariantOf) → variant_of around rule tagging v ≡ Some x → AreTypesOver (form_types x.form)
-    variant_over rule tagging v x e = by (variant_name around.rows rule tagging v) e
-      where
-        by : (o : Option (List ℕ)) → option_and_then (λ name. option_map (variant_from v name) (form_of around (field_rules (serde_items v.attrs)) v.fields)) o ≡ Some x → AreTypesOver (form_types x.form)
-        by None h = absurd (none-some x h)
-        by (Some name) h =
-            let m = mapped (variant_from v name) (form_of around (field_rules (serde_items v.attrs)) v.fields) x h in
-            subst (λ (y : VariantOf). AreTypesOver (form_types y.form)) m.2 (form_over (field_rules (serde_items v.attrs)) v.fields m.0 m.1)
+    variant_over rule tagging v x e =
+        form_over (serde_items v.attrs) v.fields x.form (passed (tag_stands tagging) (form_of around (serde_items v.attrs) v.fields) x.form (variant_parts around rule tagging v x e).1).0
 
     variants_over : (rule : Option RenameRule) (tagging : Tagging) (vs : List VariantItem) (xs : List VariantOf) → all_of (variant_of around rule tagging) vs ≡ Some xs → AreTypesOver (variant_types xs)
     variants_over rule tagging [] xs e = subst (λ ys. AreTypesOver (variant_types ys)) (same_Some [] xs e) tt
@@ -155,21 +127,23 @@ module _ (over : ResolvedAreOver) where
 
     mixed_over : (rule : Option RenameRule) (vs : List VariantItem) (tagging : Tagging) (body : BodyOf) → mixed_of around rule vs tagging ≡ Some body → AreTypesOver (body_types body)
     mixed_over rule vs tagging body e =
-        let m = mapped (variants tagging) (all_of (variant_of around rule tagging) (kept_variants vs)) body e in
-        subst (λ x. AreTypesOver (body_types x)) m.2 (variants_over rule tagging (kept_variants vs) m.0 m.1)
+        let m = mapped (variants tagging) (passing (variants_are_told tagging) (all_of (variant_of around rule tagging) (kept_variants vs))) body e in
+        subst (λ x. AreTypesOver (body_types x)) m.2 (variants_over rule tagging (kept_variants vs) m.0 (passed (variants_are_told tagging) (all_of (variant_of around rule tagging) (kept_variants vs)) m.0 m.1).0)
 
-    enum_over : (rule : Option RenameRule) (vs : List VariantItem) (tagging : Option Tagging) (body : BodyOf) → option_and_then (enum_of around rule vs) tagging ≡ Some body → AreTypesOver (body_types body)
-    enum_over rule vs None body e = absurd (none-some body e)
-    enum_over rule vs (Some tagging) body e = by (are_units vs) e
+    enum_over : (rule : Option RenameRule) (vs : List VariantItem) (tagging : Tagging) (body : BodyOf) → enum_of around rule vs tagging ≡ Some body → AreTypesOver (body_types body)
+    enum_over rule vs tagging body e = by (are_units vs) e
       where
         by : (b : Bool) → cond b (units_of around rule vs tagging) (mixed_of around rule vs tagging) ≡ Some body → AreTypesOver (body_types body)
-        by true h = subst (λ x. AreTypesOver (body_types x)) (mapped (units tagging) (all_of (variant_name around.rows rule tagging) (kept_variants vs)) body h).2 tt
+        by true h = subst (λ x. AreTypesOver (body_types x)) (mapped (units tagging) (passing (are_told tagging) (all_of (variant_name around.rows rule tagging) (kept_variants vs))) body h).2 tt
         by false h = mixed_over rule vs tagging body h
 
     body_over : (items : List SerdeItem) (b : BodyItem) (body : BodyOf) → body_of around items b ≡ Some body → AreTypesOver (body_types body)
     body_over items (struct_body fs) body e =
-        let m = mapped fields (form_of around (field_rules items) fs) body e in subst (λ x. AreTypesOver (body_types x)) m.2 (form_over (field_rules items) fs m.0 m.1)
-    body_over items (enum_body vs) body e = enum_over (rename_rule items) vs (tagging_in items) body e
+        let m = mapped fields (form_of around items fs) body e in subst (λ x. AreTypesOver (body_types x)) m.2 (form_over items fs m.0 m.1)
+    body_over items (enum_body vs) body e =
+        let said = chosen (are_allowed items) (option_and_then (enum_of around (rename_rule items) vs) (tagging_in items)) body e in
+        let told = and_then (enum_of around (rename_rule items) vs) (tagging_in items) body said.1 in
+        enum_over (rename_rule items) vs told.0 body told.2
 
   module _ (rows : List RenameRow) (all : List DeclaredItem) (n : ℕ) (below : (k : List ℕ) (d : ℕ) → place_among all k ≡ Some d → d < n) where
     at_over : (ds : List DeclaredItem) (ss : List DeclarationOf) → all_of (resolved_among rows all) ds ≡ Some ss → (d : ℕ) → d < length ss →

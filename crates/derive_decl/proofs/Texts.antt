@@ -1,19 +1,18 @@
 -- The texts of identifiers, and the names of variants.
-use Rattle.std.proofs.Common.{ℕ, List, [], ◌∷◌, ◌++◌, map, Option, Some, None, option_map, option_and_then, ◌≡◌, ◌∙◌, refl, ap, subst}
+use Rattle.std.proofs.Common.{ℕ, List, [], ◌∷◌, map, true, Option, Some, None, option_map, option_and_then, ◌≡◌, ◌∙◌, refl, ap}
 use Rattle.std.proofs.lemmas.Option.{none-some, same_Some}
-use Rattle.diag.specs.Refusal.{RefusesNone}
-use Rattle.diag.specs.declared.error.DeriveError.{DeriveError}
 use Rattle.diag.specs.declared.rename_rule.RenameRule.{RenameRule}
 use Rattle.diag.specs.declared.rename_row.RenameRow.{RenameRow}
+use Rattle.texts.specs.Names.{IsDistinct}
 use Rattle.written_types.specs.declared.written.Ident.{Ident}
 use Rattle.syntax.specs.Items.{VariantItem}
-use Rattle.scopes.specs.Names.{texts, IsGivenTwice}
-use Rattle.shapes.specs.Declarations.{telling}
+use Rattle.scopes.specs.Names.{texts}
 use Rattle.shapes.specs.declared.tagging.Tagging.{Tagging}
 use Rattle.shapes.specs.declared.tagging.Tagging.TheVariants.{External, Internal, Adjacent, Untagged}
 use Rattle.derive_decl.specs.Fields.{named_at}
-use Rattle.derive_decl.specs.Variants.{variant_name, variant_ident}
+use Rattle.derive_decl.specs.Variants.{are_told, variant_name, variant_ident}
 use Rattle.derive_decl.specs.Resolved.{all_of}
+use Rattle.derive_decl.proofs.Values.{are_distinct_from}
 
 pub texts_are : (xs : List Ident) → map (λ (x : Ident). x.text) xs ≡ texts xs
 texts_are [] = refl
@@ -30,21 +29,9 @@ names-are rows rule tagging (v ∷ vs) xs e = by (variant_name rows rule tagging
     by (Some n) None h later = absurd (none-some xs h)
     by (Some n) (Some ys) h later = ap (option_map (λ ms. n ∷ ms)) (later ys refl) ∙ ap (λ zs. Some (texts zs)) (same_Some (named_at v.ident n ∷ ys) xs h)
 
--- ---- names given twice
-
-pub none-twice : RefusesNone (IsGivenTwice [])
-none-twice e (x, (before, behind, is, distinct, among), refusal) = by before is
-  where
-    by : (before : List Ident) → [] ≡ before ++ x ∷ behind → ⊥
-    by [] is = cc
-    by (y ∷ ys) is = cc
-
--- what tells variants apart is given twice only where the names are
-pub told-twice : (tagging : Tagging) (xs : List Ident) (e : DeriveError) → IsGivenTwice (telling tagging xs) e → IsGivenTwice xs e
-told-twice External xs e twice = twice
-told-twice (Internal tag) xs e twice = twice
-told-twice (Adjacent tag content) xs e twice = twice
-told-twice Untagged xs e twice = absurd (none-twice e twice)
-
-pub untagged-twice : (tagging : Tagging) (xs : List Ident) (e : DeriveError) → tagging ≡ Untagged → IsGivenTwice (telling tagging xs) e → ⊥
-untagged-twice tagging xs e is twice = none-twice e (subst (λ t. IsGivenTwice (telling t xs) e) is twice)
+-- distinct names are told
+pub told_distinct : (tagging : Tagging) (names : List (List ℕ)) → IsDistinct names → are_told tagging names ≡ true
+told_distinct External names distinct = are_distinct_from names distinct
+told_distinct (Internal tag) names distinct = are_distinct_from names distinct
+told_distinct (Adjacent tag content) names distinct = are_distinct_from names distinct
+told_distinct Untagged names distinct = refl

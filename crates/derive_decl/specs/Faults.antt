@@ -1,7 +1,5 @@
 -- Why a declaration has no schema: an attribute that nothing is derived from, a generic parameter given twice, serde's items that contradict each other, name a content and no tag, or name a rename rule that there is not, a tag that cannot stand where it should, a name that has no row or that two fields or variants have, a type that stands for nothing or is too large, a form of unnamed fields without a field.
-use Rattle.std.specs.Prelude.{◌≡◌, ◌⊎◌, ◌||◌, ℕ, List, [], ◌∷◌, ◌++◌, Bool, cond, Option, Some, None, Ok, codes, take, drop}
-use Rattle.std.specs.List.{flat_map}
-use Rattle.std.specs.Str.{bytes_eq}
+use Rattle.std.specs.Prelude.{◌≡◌, ◌⊎◌, ℕ, List, [], ◌++◌, Option, Some, None, Ok, codes}
 use Rattle.diag.specs.Refusal.{IsRefusal, IsSyntaxRefusal, RefusesNone}
 use Rattle.diag.specs.declared.error.DeriveError.{DeriveError}
 use Rattle.diag.specs.declared.kind.Kind.TheVariants.{MissingRow, Arity, SerdeTag}
@@ -13,69 +11,25 @@ use Rattle.diag.specs.RenameRules.{name_of}
 use Rattle.texts.specs.Lists.{Somewhere}
 use Rattle.texts.specs.declared.span.Span.{Span}
 use Rattle.written_types.specs.declared.written.Ident.{Ident}
-use Rattle.attributes.specs.Attributes.{AttributeItem, is_word, serde_items}
+use Rattle.attributes.specs.Attributes.{AttributeItem, serde_items}
 use Rattle.attributes.specs.declared.serde_item.SerdeItem.{SerdeItem}
 use Rattle.serde_rules.specs.declared.value.SerdeValue.{SerdeValue}
 use Rattle.serde_rules.specs.declared.enum_repr.SerdeEnumRepr.TheVariants.{UnfinishedAdjacentlyTagged}
 use Rattle.serde_rules.specs.Container.{representation, rename_rule, IsContainerRefusal}
-use Rattle.serde_rules.specs.Items.{has_item}
-use Rattle.syntax.specs.Items.{FieldItem, FieldItems, named, unnamed, unit, VariantItem, ParameterItem, lifetime_parameter, BodyItem, struct_body, enum_body, DeclaredItem}
+use Rattle.syntax.specs.Items.{FieldItem, FieldItems, named, unnamed, unit, VariantItem, ParameterItem, BodyItem, struct_body, enum_body, DeclaredItem}
 use Rattle.resolving.specs.Resolved.{Fault, IsFault, IsRefusedFor}
 use Rattle.scopes.specs.Names.{IsGivenTwice}
 use Rattle.shapes.specs.Declarations.{FormOf}
 use Rattle.shapes.specs.declared.tagging.Tagging.{Tagging}
 use Rattle.shapes.specs.declared.tagging.Tagging.TheVariants.{External, Internal, Adjacent, Untagged}
+use Rattle.derive_decl.specs.Attributed.{attributes_with, attributes_among, first_other}
+use Rattle.derive_decl.specs.Lifetimes.{lifetimes_of}
 use Rattle.derive_decl.specs.Variants.{tagging_in, value_of_variant, kept_variants, telling_idents}
 use Rattle.derive_decl.specs.Fields.{FieldRules, field_rules, value_of, kept, name_by, written_idents}
 use Rattle.derive_decl.specs.Resolved.{Around, around_of, form_of}
 use Rattle.derive_decl.specs.Tags.{IsMisplacedTag}
 use Rattle.scopes.specs.Parameters.{parameters_of}
 use Rattle.scopes.specs.declared.parameters.ParameterKind.TheVariants.{TypesAndConstants}
-
-abbrev pub fields_in : FieldItems → List FieldItem
-fields_in (named fs) = fs
-fields_in (unnamed fs) = fs
-fields_in unit = []
-
-abbrev pub attributes_on : FieldItems → List AttributeItem
-attributes_on fs = flat_map (λ f. f.attrs) (fields_in fs)
-
--- the attributes of the fields, or of each variant and its fields
-abbrev pub attributes_inside : BodyItem → List AttributeItem
-attributes_inside (struct_body fs) = attributes_on fs
-attributes_inside (enum_body vs) = flat_map (λ v. v.attrs ++ attributes_on v.fields) vs
-
--- the attributes of a declaration and of its variants and fields, in order; those of its parameters are not kept
-abbrev pub attributes_with : List AttributeItem → BodyItem → List AttributeItem
-attributes_with attrs body = attrs ++ attributes_inside body
-
-abbrev pub attributes_in : DeclaredItem → List AttributeItem
-attributes_in d = attributes_with d.attrs d.body
-
-abbrev pub attributes_among : List DeclaredItem → List AttributeItem
-attributes_among ds = flat_map attributes_in ds
-
--- an attribute of `schema` or `repr`, or a serde list that flattens: nothing is derived from these
-abbrev pub is_other : AttributeItem → Bool
-is_other a = is_word (codes "schema") a.path || is_word (codes "repr") a.path || has_item (codes "flatten") a.items
-
--- where the first of these stands
-abbrev pub first_other : List AttributeItem → Option Span
-first_other [] = None
-first_other (a ∷ others) = cond (is_other a) (Some a.span) (first_other others)
-
--- a lifetime by its name, without its quote
-abbrev pub unquoted_text : List ℕ → List ℕ
-unquoted_text text = cond (bytes_eq (take 1 text) (codes "'")) (drop 1 text) text
-
-abbrev pub unquoted : Ident → Ident
-unquoted x = record { text = unquoted_text x.text; raw = x.raw; span = x.span }
-
--- the lifetimes among the parameters, by their names
-abbrev pub lifetimes_of : List ParameterItem → List Ident
-lifetimes_of [] = []
-lifetimes_of (lifetime_parameter x ∷ ps) = unquoted x ∷ lifetimes_of ps
-lifetimes_of (_ ∷ ps) = lifetimes_of ps
 
 abbrev pub fieldless_message : List ℕ
 fieldless_message = codes "a tuple form without a field"
@@ -158,7 +112,7 @@ AreUnnamed rows rule tagging vs e = Somewhere (λ v. IsUnnamed rows rule tagging
 
 -- the error refuses the variant, whose fields have a form, since the enum's tag cannot stand there
 abbrev pub IsFaultyTag : Around → Tagging → VariantItem → DeriveError → Type 0
-IsFaultyTag around tagging v e = (form : FormOf) × (form_of around (field_rules (serde_items v.attrs)) v.fields ≡ Some form) × IsMisplacedTag tagging v form e
+IsFaultyTag around tagging v e = (form : FormOf) × (form_of around (serde_items v.attrs) v.fields ≡ Some form) × IsMisplacedTag tagging v form e
 
 -- the error refuses the variant's fields, or the enum's tag beside them
 abbrev pub IsFaultyContent : Around → Tagging → VariantItem → DeriveError → Type 0
@@ -173,11 +127,19 @@ abbrev pub AreFaultyVariants : Around → Option RenameRule → Tagging → List
 AreFaultyVariants around rule tagging vs e =
     Somewhere (λ v. IsFaultyVariant around rule tagging v e) (kept_variants vs) ⊎ IsGivenTwice (telling_idents around.rows rule tagging (kept_variants vs)) e
 
+-- the error refuses the enum of the name: serde's items before it, or for this, by their rule of names and how they say that its values tell their variant
+abbrev pub IsFaultyBy : List SerdeItem → Ident → (Option RenameRule → Tagging → DeriveError → Type 0) → DeriveError → Type 0
+IsFaultyBy items x faulty e =
+    IsFaultyTagging items x e
+    ⊎ ((tagging : Tagging) × (tagging_in items ≡ Some tagging) × faulty (rename_rule items) tagging e)
+
+-- the error refuses the enum of the name by the names of its variants: serde's items before it, or one of the names
+abbrev pub IsFaultyPlain : Around → List SerdeItem → Ident → List VariantItem → DeriveError → Type 0
+IsFaultyPlain around items x vs e = IsFaultyBy items x (λ rule tagging. AreUnnamed around.rows rule tagging vs) e
+
 -- the error refuses the enum of the name: serde's items before it, or its variants
 abbrev pub IsFaultyEnum : Around → List SerdeItem → Ident → List VariantItem → DeriveError → Type 0
-IsFaultyEnum around items x vs e =
-    IsFaultyTagging items x e
-    ⊎ ((tagging : Tagging) × (tagging_in items ≡ Some tagging) × AreFaultyVariants around (rename_rule items) tagging vs e)
+IsFaultyEnum around items x vs e = IsFaultyBy items x (λ rule tagging. AreFaultyVariants around rule tagging vs) e
 
 -- ---- declarations
 

@@ -1,6 +1,6 @@
 -- What serde's and Rust's attributes say of the fields of a struct or a variant (serde.rs, "Field attributes", "Container attributes").
-use Rattle.std.specs.Prelude.{ℕ, List, Bool, not, Option, Some, None, option_map, option_and_then, Result, Ok, Err, filter, filter_map, codes}
-use Rattle.std.specs.List.{list_any}
+use Rattle.std.specs.Prelude.{ℕ, List, Bool, not, ◌&&◌, is_ok, Option, Some, None, option_map, option_and_then, Result, Ok, Err, filter, filter_map, codes}
+use Rattle.std.specs.List.{list_any, list_all}
 use Rattle.diag.specs.declared.rename_rule.RenameRule.{RenameRule}
 use Rattle.diag.specs.declared.rename_row.RenameRow.{RenameRow}
 use Rattle.diag.specs.declared.rename_row.RenamePlace.{RenamePlace}
@@ -13,7 +13,7 @@ use Rattle.serde_rules.specs.declared.container.SerdeContainer.{SerdeContainer}
 use Rattle.serde_rules.specs.declared.rows.NoRow.{NoRow}
 use Rattle.serde_rules.specs.Items.{has_item}
 use Rattle.serde_rules.specs.Value.{value_rules}
-use Rattle.serde_rules.specs.Container.{rename_rule}
+use Rattle.serde_rules.specs.Container.{representation, rename_rule, names_known_rule}
 use Rattle.serde_rules.specs.Names.{new_name}
 use Rattle.syntax.specs.Items.{FieldItem}
 
@@ -29,6 +29,10 @@ pub record FieldRules : Type 0 where
 
 abbrev pub field_rules : List SerdeItem → FieldRules
 field_rules items = record { rule = rename_rule items; default = has_item (codes "default") items; denies = has_item (codes "deny_unknown_fields") items }
+
+-- serde's items before a struct, a variant or an enum say rules: none contradicts those before it, nor names a rename rule that there is not
+abbrev pub are_allowed : List SerdeItem → Bool
+are_allowed items = is_ok (representation items) && list_all names_known_rule items
 
 -- what the program's rules of a struct or a variant say of its fields
 abbrev pub rules_view : SerdeContainer → FieldRules

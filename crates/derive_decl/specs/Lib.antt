@@ -1,5 +1,8 @@
+pub mod Attributed
 pub mod Fields
 pub mod Faults
+pub mod Law
+pub mod Lifetimes
 pub mod Resolved
 pub mod Tags
 pub mod Variants

@@ -1,5 +1,5 @@
 -- Where a tag cannot stand: among the elements of several fields or of a tuple, or in the unit, and beside what has its own name (serde.rs, "Enum representations"; of a single tuple or unit this is a rule of its own, docs/SERDE.md).
-use Rattle.std.specs.Prelude.{◌≡◌, ◌⊎◌, ℕ, List, [], ◌∷◌, Bool, true, false, not, Option, Some, None, codes}
+use Rattle.std.specs.Prelude.{◌≡◌, ◌⊎◌, ℕ, List, [], ◌∷◌, Bool, true, false, not, ◌&&◌, Option, Some, None, codes}
 use Rattle.std.specs.Str.{bytes_eq}
 use Rattle.diag.specs.Refusal.{IsRefusal, IsHelpRefusal}
 use Rattle.diag.specs.declared.error.DeriveError.{DeriveError}
@@ -31,6 +31,10 @@ tag_is_taken (Internal tag) (named_fields denies ms) = is_in tag (member_names m
 tag_is_taken (Adjacent tag content) (named_fields denies ms) = bytes_eq tag content
 tag_is_taken (Adjacent tag content) (unnamed_fields ts) = bytes_eq tag content
 tag_is_taken _ _ = false
+
+-- the tag can stand beside a variant's fields of this form
+abbrev pub tag_stands : Tagging → FormOf → Bool
+tag_stands tagging form = can_be_tagged tagging form && not (tag_is_taken tagging form)
 
 -- the tag; none where there is none
 abbrev pub tag_of : Tagging → Option (List ℕ)

@@ -13,6 +13,7 @@ use Rattle.serde_rules.specs.declared.enum_repr.SerdeEnumRepr.TheVariants as ser
 use Rattle.serde_rules.specs.Container.{TagFault, representation}
 use Rattle.serde_rules.specs.Value.{value_rules}
 use Rattle.syntax.specs.Items.{FieldItems, named, unnamed, unit, VariantItem}
+use Rattle.scopes.specs.Names.{are_distinct}
 use Rattle.shapes.specs.declared.tagging.Tagging.{Tagging}
 use Rattle.shapes.specs.declared.tagging.Tagging.TheVariants.{External, Internal, Adjacent, Untagged}
 use Rattle.shapes.specs.Declarations.{telling}
@@ -60,6 +61,10 @@ variant_name rows rule Untagged v = Some v.ident.text
 variant_name rows rule External v = name_by Variant rows rule (value_of_variant v) v.ident
 variant_name rows rule (Internal tag) v = name_by Variant rows rule (value_of_variant v) v.ident
 variant_name rows rule (Adjacent tag content) v = name_by Variant rows rule (value_of_variant v) v.ident
+
+-- no two of these names are equal, where names tell variants apart
+abbrev pub are_told : Tagging → List (List ℕ) → Bool
+are_told tagging names = are_distinct (telling tagging names)
 
 -- the name, where the identifier stands
 abbrev pub variant_ident : List RenameRow → Option RenameRule → Tagging → VariantItem → Option Ident

@@ -5,7 +5,8 @@ ghost use Rattle.std.specs.List.{flat_map};
 ghost use Rattle.diag.specs.Refusal.{Refuses};
 ghost use Rattle.attributes.specs.Attributes.{attribute_view};
 ghost use Rattle.syntax.specs.Items.{field_view, fields_view, variant_view, body_view, declaration_view, declarations_view};
-ghost use Rattle.derive_decl.specs.Faults.{fields_in, attributes_on, attributes_inside, attributes_with, attributes_in, attributes_among, is_other, first_other, IsUnderivable, AreUnderivable, AreDerivable};
+ghost use Rattle.derive_decl.specs.Attributed.{fields_in, attributes_on, attributes_inside, attributes_with, attributes_in, attributes_among, is_other, first_other};
+ghost use Rattle.derive_decl.specs.Faults.{IsUnderivable, AreUnderivable, AreDerivable};
 
 use diag::DeriveError;
 use serde_rules::has_item;

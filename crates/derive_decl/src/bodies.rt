@@ -1,13 +1,12 @@
 //! The bodies of declarations.
 
-ghost use Rattle.std.specs.Prelude.{◌≡◌, IfOk, None, Some};
-ghost use Rattle.diag.specs.Refusal.{Refuses, RefusesNone};
+ghost use Rattle.std.specs.Prelude.{◌≡◌, IfOk, Some};
+ghost use Rattle.diag.specs.Refusal.{Refuses};
 ghost use Rattle.syntax.specs.Items.{body_view};
 ghost use Rattle.syntax.specs.Named.{IsNamedBody};
-ghost use Rattle.shapes.specs.Declarations.{IsApartBody};
 ghost use Rattle.shapes.specs.Views.{body_view as resolved_view};
-ghost use Rattle.derive_decl.specs.Resolved.{body_of};
-ghost use Rattle.derive_decl.specs.Faults.{attributes_with, first_other, IsFaultyBody, IsFaultyDeclaration};
+ghost use Rattle.derive_decl.specs.Resolved.{body_of, derived_body};
+ghost use Rattle.derive_decl.specs.Faults.{IsFaultyBody, IsFaultyDeclaration};
 ghost use Rattle.derive_decl.specs.Views.{attributes_of, items_of, known};
 
 use crate::attributed::derivable;
@@ -20,16 +19,11 @@ use std::alloc::Global;
 use syntax::Body;
 
 /// The body of a declaration, of which each attribute is one that something is derived from.
-fn body_of(alloc: Global, root: &Root<'_>, body: &Body) -> Result<Resolved, DeriveError>
+pub(crate) fn body_of(alloc: Global, root: &Root<'_>, body: &Body) -> Result<Resolved, DeriveError>
     requires { IsNamedBody (body_view body.now) }
     ensures body { IfOk result
         (λ b. body_of (known root.now.container.now) (items_of root.now) (body_view body.now)
         ≡ Some (resolved_view b)) }
-    ensures apart { IfOk result (λ b. IsApartBody (resolved_view b)) }
-    ensures faultless { IfOk result
-        (λ _. RefusesNone
-        (IsFaultyBody (known root.now.container.now) (items_of root.now) root.now.ident.now
-        (body_view body.now))) }
     ensures refused { Refuses result
         (IsFaultyBody (known root.now.container.now) (items_of root.now) root.now.ident.now
         (body_view body.now)) }
@@ -44,15 +38,8 @@ fn body_of(alloc: Global, root: &Root<'_>, body: &Body) -> Result<Resolved, Deri
 pub fn resolve_body(alloc: Global, root: &Root<'_>, body: &Body) -> Result<Resolved, DeriveError>
     requires { IsNamedBody (body_view body.now) }
     ensures body { IfOk result
-        (λ b. body_of (known root.now.container.now) (items_of root.now) (body_view body.now)
-        ≡ Some (resolved_view b)) }
-    ensures apart { IfOk result (λ b. IsApartBody (resolved_view b)) }
-    ensures derivable { IfOk result
-        (λ _. first_other (attributes_with (attributes_of root.now) (body_view body.now)) ≡ None) }
-    ensures faultless { IfOk result
-        (λ _. RefusesNone
-        (IsFaultyBody (known root.now.container.now) (items_of root.now) root.now.ident.now
-        (body_view body.now))) }
+        (λ b. derived_body (known root.now.container.now) (attributes_of root.now)
+        (body_view body.now) ≡ Some (resolved_view b)) }
     ensures refused { Refuses result
         (IsFaultyDeclaration (known root.now.container.now) (attributes_of root.now)
         root.now.ident.now (body_view body.now)) }

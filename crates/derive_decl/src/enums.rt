@@ -1,16 +1,15 @@
 //! The bodies of enums.
 
-ghost use Rattle.std.specs.Prelude.{◌≡◌, map, IfOk, Some};
+ghost use Rattle.std.specs.Prelude.{◌≡◌, map, IfOk, Some, true};
 ghost use Rattle.std.specs.List.{AllByRecursion};
-ghost use Rattle.std.specs.Option.{option_and_then};
-ghost use Rattle.diag.specs.Refusal.{Refuses, RefusesNone};
+ghost use Rattle.diag.specs.Refusal.{Refuses};
 ghost use Rattle.serde_rules.specs.Container.{rename_rule};
 ghost use Rattle.syntax.specs.Items.{fields_view, variant_view};
 ghost use Rattle.syntax.specs.Named.{HaveNames};
-ghost use Rattle.shapes.specs.Declarations.{IsApartBody};
 ghost use Rattle.shapes.specs.Views.{body_view};
+ghost use Rattle.derive_decl.specs.Fields.{are_allowed};
 ghost use Rattle.derive_decl.specs.Variants.{is_unit, are_units, tagging_in};
-ghost use Rattle.derive_decl.specs.Resolved.{enum_of};
+ghost use Rattle.derive_decl.specs.Resolved.{enum_of, enum_by};
 ghost use Rattle.derive_decl.specs.Faults.{IsFaultyEnum, IsFaultyTagging, AreFaultyVariants};
 ghost use Rattle.derive_decl.specs.Views.{items_of, known};
 
@@ -38,11 +37,10 @@ pub struct EnumRules {
 /// A refusal is of kind `SerdeTag` or `BadValue`, for serde's attributes of it, or `SerdeTag`, at its name, where they name a
 /// content and no tag.
 pub fn enum_rules(alloc: Global, root: &Root<'_>) -> Result<EnumRules, DeriveError>
+    ensures allowed { IfOk result (λ _. are_allowed (items_of root.now) ≡ true) }
     ensures rule { IfOk result (λ rules. rules.rule ≡ rename_rule (items_of root.now)) }
     ensures tagging { IfOk result
         (λ rules. tagging_in (items_of root.now) ≡ Some rules.tagging) }
-    ensures faultless { IfOk result
-        (λ _. RefusesNone (IsFaultyTagging (items_of root.now) root.now.ident.now)) }
     ensures refused { Refuses result (IsFaultyTagging (items_of root.now) root.now.ident.now) }
 {
     let rules = parse_container(alloc, root.attributes)?;
@@ -84,11 +82,6 @@ fn told_by(
     ensures body { IfOk result
         (λ b. enum_of (known root.now.container.now) rule (map variant_view variants.now) tagging
         ≡ Some (body_view b)) }
-    ensures apart { IfOk result (λ b. IsApartBody (body_view b)) }
-    ensures faultless { IfOk result
-        (λ _. RefusesNone
-        (AreFaultyVariants (known root.now.container.now) rule tagging
-        (map variant_view variants.now))) }
     ensures refused { Refuses result
         (AreFaultyVariants (known root.now.container.now) rule tagging
         (map variant_view variants.now)) }
@@ -109,14 +102,9 @@ fn told_by(
 pub fn enum_body(alloc: Global, root: &Root<'_>, variants: &[Variant]) -> Result<Body, DeriveError>
     requires { AllByRecursion (λ v. HaveNames v.fields) (map variant_view variants.now) }
     ensures body { IfOk result
-        (λ b. option_and_then (enum_of (known root.now.container.now)
-        (rename_rule (items_of root.now)) (map variant_view variants.now))
-        (tagging_in (items_of root.now)) ≡ Some (body_view b)) }
-    ensures apart { IfOk result (λ b. IsApartBody (body_view b)) }
-    ensures faultless { IfOk result
-        (λ _. RefusesNone
-        (IsFaultyEnum (known root.now.container.now) (items_of root.now) root.now.ident.now
-        (map variant_view variants.now))) }
+        (λ b. enum_by (items_of root.now)
+        (λ rule. enum_of (known root.now.container.now) rule (map variant_view variants.now))
+        ≡ Some (body_view b)) }
     ensures refused { Refuses result
         (IsFaultyEnum (known root.now.container.now) (items_of root.now) root.now.ident.now
         (map variant_view variants.now)) }

@@ -1,13 +1,10 @@
 //! The form of fields.
 
 ghost use Rattle.std.specs.Prelude.{◌≡◌, IfOk, Some};
-ghost use Rattle.diag.specs.Refusal.{Refuses, RefusesNone};
-ghost use Rattle.texts.specs.Names.{IsDistinct};
+ghost use Rattle.diag.specs.Refusal.{Refuses};
 ghost use Rattle.syntax.specs.Items.{fields_view};
 ghost use Rattle.syntax.specs.Named.{HaveNames};
-ghost use Rattle.shapes.specs.Declarations.{form_names};
 ghost use Rattle.shapes.specs.Views.{form_view};
-ghost use Rattle.derive_decl.specs.Fields.{field_rules};
 ghost use Rattle.derive_decl.specs.Resolved.{form_of};
 ghost use Rattle.derive_decl.specs.Faults.{AreFaultyFields};
 ghost use Rattle.derive_decl.specs.Views.{items_of, known};
@@ -24,13 +21,8 @@ use syntax::Fields;
 pub(crate) fn form_of(alloc: Global, root: &Root<'_>, fields: &Fields) -> Result<Form, DeriveError>
     requires { HaveNames (fields_view fields.now) }
     ensures form { IfOk result
-        (λ form. form_of (known root.now.container.now) (field_rules (items_of root.now))
-        (fields_view fields.now) ≡ Some (form_view form)) }
-    ensures distinct { IfOk result (λ form. IsDistinct (form_names (form_view form))) }
-    ensures faultless { IfOk result
-        (λ _. RefusesNone
-        (AreFaultyFields (known root.now.container.now) (items_of root.now) root.now.ident.now
-        (fields_view fields.now))) }
+        (λ form. form_of (known root.now.container.now) (items_of root.now) (fields_view fields.now)
+        ≡ Some (form_view form)) }
     ensures refused { Refuses result
         (AreFaultyFields (known root.now.container.now) (items_of root.now) root.now.ident.now
         (fields_view fields.now)) }

@@ -2,10 +2,9 @@
 
 ghost use Rattle.std.specs.Prelude.{◌≡◌, map, IfOk, Some};
 ghost use Rattle.std.specs.List.{AllByRecursion};
-ghost use Rattle.diag.specs.Refusal.{Refuses, RefusesNone};
+ghost use Rattle.diag.specs.Refusal.{Refuses};
 ghost use Rattle.syntax.specs.Items.{variant_view};
 ghost use Rattle.syntax.specs.Named.{HaveNames};
-ghost use Rattle.shapes.specs.Declarations.{IsApartBody};
 ghost use Rattle.shapes.specs.Views.{body_view};
 ghost use Rattle.derive_decl.specs.Resolved.{mixed_of};
 ghost use Rattle.derive_decl.specs.Faults.{AreFaultyVariants};
@@ -32,11 +31,6 @@ pub fn variants_body(
     ensures variants { IfOk result
         (λ b. mixed_of (known root.now.container.now) rule (map variant_view variants.now) tagging
         ≡ Some (body_view b)) }
-    ensures apart { IfOk result (λ b. IsApartBody (body_view b)) }
-    ensures faultless { IfOk result
-        (λ _. RefusesNone
-        (AreFaultyVariants (known root.now.container.now) rule tagging
-        (map variant_view variants.now))) }
     ensures refused { Refuses result
         (AreFaultyVariants (known root.now.container.now) rule tagging
         (map variant_view variants.now)) }

@@ -2,15 +2,13 @@
 
 ghost use Rattle.std.specs.Prelude.{◌≡◌, map, IfOk, Some};
 ghost use Rattle.std.specs.List.{AllByRecursion};
-ghost use Rattle.diag.specs.Refusal.{Refuses, RefusesNone};
-ghost use Rattle.texts.specs.Names.{IsDistinct};
+ghost use Rattle.diag.specs.Refusal.{Refuses};
 ghost use Rattle.texts.specs.Lists.{Somewhere};
 ghost use Rattle.syntax.specs.Items.{field_view, named};
 ghost use Rattle.syntax.specs.Named.{HasName};
-ghost use Rattle.shapes.specs.Declarations.{member_names, form_names};
 ghost use Rattle.shapes.specs.Views.{member_view, form_view};
-ghost use Rattle.derive_decl.specs.Fields.{field_rules, kept, rules_view, written_idents};
-ghost use Rattle.derive_decl.specs.Resolved.{all_of, form_of, member_of};
+ghost use Rattle.derive_decl.specs.Fields.{kept, rules_view, written_idents};
+ghost use Rattle.derive_decl.specs.Resolved.{all_of, passing, form_of, member_of, members_are_distinct};
 ghost use Rattle.derive_decl.specs.Faults.{IsFaultyMember, AreFaultyMembers, AreFaultyNamed};
 ghost use Rattle.derive_decl.specs.Views.{items_of, known, written_member_view};
 
@@ -39,10 +37,6 @@ fn resolve_members(
     ensures idents { IfOk result
         (λ ms. written_idents container.now.config.now.renames rules.now.rename_all
         (kept (map field_view fields.now)) ≡ map (λ m. m.ident) ms.items) }
-    ensures faultless { IfOk result
-        (λ _. AllByRecursion
-        (λ f. RefusesNone (IsFaultyMember (known container.now) (rules_view rules.now) f))
-        (kept (map field_view fields.now))) }
     ensures refused { Refuses result
         (λ e. Somewhere (λ f. IsFaultyMember (known container.now) (rules_view rules.now) f e)
         (kept (map field_view fields.now))) }
@@ -64,13 +58,9 @@ fn distinct_members(
 ) -> Result<List<Member>, DeriveError>
     requires { AllByRecursion HasName (map field_view fields.now) }
     ensures members { IfOk result
-        (λ ms. all_of (member_of (known container.now) (rules_view rules.now))
-        (kept (map field_view fields.now)) ≡ Some (map member_view ms)) }
-    ensures distinct { IfOk result (λ ms. IsDistinct (member_names (map member_view ms))) }
-    ensures faultless { IfOk result
-        (λ _. RefusesNone
-        (AreFaultyMembers (known container.now) (rules_view rules.now)
-        (map field_view fields.now))) }
+        (λ ms. passing members_are_distinct
+        (all_of (member_of (known container.now) (rules_view rules.now))
+        (kept (map field_view fields.now))) ≡ Some (map member_view ms)) }
     ensures refused { Refuses result
         (AreFaultyMembers (known container.now) (rules_view rules.now)
         (map field_view fields.now)) }
@@ -88,13 +78,8 @@ fn distinct_members(
 pub fn named_form(alloc: Global, root: &Root<'_>, fields: &[Field]) -> Result<Form, DeriveError>
     requires { AllByRecursion HasName (map field_view fields.now) }
     ensures form { IfOk result
-        (λ form. form_of (known root.now.container.now) (field_rules (items_of root.now))
+        (λ form. form_of (known root.now.container.now) (items_of root.now)
         (named (map field_view fields.now)) ≡ Some (form_view form)) }
-    ensures distinct { IfOk result (λ form. IsDistinct (form_names (form_view form))) }
-    ensures faultless { IfOk result
-        (λ _. RefusesNone
-        (AreFaultyNamed (known root.now.container.now) (items_of root.now)
-        (map field_view fields.now))) }
     ensures refused { Refuses result
         (AreFaultyNamed (known root.now.container.now) (items_of root.now)
         (map field_view fields.now)) }

@@ -1,12 +1,13 @@
 //! Generic parameters that are given twice.
 
-ghost use Rattle.std.specs.Prelude.{◌≡◌, map, IfOk};
-ghost use Rattle.diag.specs.Refusal.{Refuses, RefusesNone};
+ghost use Rattle.std.specs.Prelude.{◌≡◌, map, IfOk, true};
+ghost use Rattle.diag.specs.Refusal.{Refuses};
 ghost use Rattle.syntax.specs.Items.{parameter_view, generics_view};
 ghost use Rattle.scopes.specs.declared.parameters.ParameterKind.TheVariants as kinds;
-ghost use Rattle.scopes.specs.Names.{IsGivenTwice};
+ghost use Rattle.scopes.specs.Names.{texts, are_distinct, IsGivenTwice};
 ghost use Rattle.scopes.specs.Parameters.{parameters_of};
-ghost use Rattle.derive_decl.specs.Faults.{unquoted, lifetimes_of, AreFaultyParameters};
+ghost use Rattle.derive_decl.specs.Faults.{AreFaultyParameters};
+ghost use Rattle.derive_decl.specs.Lifetimes.{unquoted, lifetimes_of, parameters_are_distinct};
 
 use diag::DeriveError;
 use scopes::{ParameterKind, parameters_of, places_of};
@@ -48,7 +49,7 @@ fn lifetimes_of(alloc: Global, params: &[GenericParam]) -> Result<List<Ident>, A
 /// Refuses generics in which a lifetime is given twice, at the first that is.
 fn distinct_lifetimes(alloc: Global, generics: &Generics) -> Result<(), DeriveError>
     ensures once { IfOk result
-        (λ _. RefusesNone (IsGivenTwice (lifetimes_of (generics_view generics.now)))) }
+        (λ _. are_distinct (texts (lifetimes_of (generics_view generics.now))) ≡ true) }
     ensures refused { Refuses result
         (IsGivenTwice (lifetimes_of (generics_view generics.now))) }
 {
@@ -59,8 +60,8 @@ fn distinct_lifetimes(alloc: Global, generics: &Generics) -> Result<(), DeriveEr
 
 /// Refuses generics in which a name is given twice to types and constants, at the first that is.
 fn distinct_names(alloc: Global, generics: &Generics) -> Result<(), DeriveError>
-    ensures once { IfOk result (λ _. RefusesNone
-        (IsGivenTwice (parameters_of kinds.TypesAndConstants (generics_view generics.now)))) }
+    ensures once { IfOk result (λ _. are_distinct
+        (texts (parameters_of kinds.TypesAndConstants (generics_view generics.now))) ≡ true) }
     ensures refused { Refuses result
         (IsGivenTwice (parameters_of kinds.TypesAndConstants (generics_view generics.now))) }
 {
@@ -74,7 +75,7 @@ fn distinct_names(alloc: Global, generics: &Generics) -> Result<(), DeriveError>
 /// that has. The kind is `DuplicateName`.
 pub fn distinct_parameters(alloc: Global, generics: &Generics) -> Result<(), DeriveError>
     ensures once { IfOk result
-        (λ _. RefusesNone (AreFaultyParameters (generics_view generics.now))) }
+        (λ _. parameters_are_distinct (generics_view generics.now) ≡ true) }
     ensures refused { Refuses result (AreFaultyParameters (generics_view generics.now)) }
 {
     distinct_names(alloc, generics)?;

@@ -1,12 +1,12 @@
 //! Where the tag of a variant can stand.
 
-ghost use Rattle.std.specs.Prelude.{◌≡◌, ℕ, List, map, IfOk};
-ghost use Rattle.diag.specs.Refusal.{IsErrorFor, IsHelpRefusal, Refuses, RefusesNone};
-ghost use Rattle.texts.specs.Names.{is_in, IsDistinct};
+ghost use Rattle.std.specs.Prelude.{◌≡◌, ℕ, List, map, IfOk, true};
+ghost use Rattle.diag.specs.Refusal.{IsErrorFor, IsHelpRefusal, Refuses};
+ghost use Rattle.texts.specs.Names.{is_in};
 ghost use Rattle.syntax.specs.Items.{variant_view};
 ghost use Rattle.open_types.specs.Open.{open_view};
-ghost use Rattle.shapes.specs.Declarations.{member_names, form_names, tagged_names, unnamed_fields};
-ghost use Rattle.derive_decl.specs.Tags.{is_tuple, can_be_tagged, tag_is_taken, IsMisplacedTag, tuple_message, tuple_help};
+ghost use Rattle.shapes.specs.Declarations.{member_names, unnamed_fields};
+ghost use Rattle.derive_decl.specs.Tags.{is_tuple, can_be_tagged, tag_is_taken, tag_stands, IsMisplacedTag, tuple_message, tuple_help};
 ghost use Rattle.shapes.specs.Views.{member_view, form_view};
 
 use diag::{DeriveError, Kind};
@@ -92,10 +92,7 @@ pub(crate) fn tag_stands(
     variant: &Variant,
     form: &Form,
 ) -> Result<(), DeriveError>
-    ensures apart { IfOk result (λ _. IsDistinct (form_names (form_view form.now))
-        → IsDistinct (tagged_names tagging.now (form_view form.now))) }
-    ensures faultless { IfOk result (λ _. IsDistinct (form_names (form_view form.now))
-        → RefusesNone (IsMisplacedTag tagging.now (variant_view variant.now) (form_view form.now))) }
+    ensures stands { IfOk result (λ _. tag_stands tagging.now (form_view form.now) ≡ true) }
     ensures refused { Refuses result
         (IsMisplacedTag tagging.now (variant_view variant.now) (form_view form.now)) }
 {

@@ -1,9 +1,8 @@
 //! The bodies of enums whose variants have no fields.
 
 ghost use Rattle.std.specs.Prelude.{◌≡◌, map, IfOk, Some};
-ghost use Rattle.diag.specs.Refusal.{Refuses, RefusesNone};
+ghost use Rattle.diag.specs.Refusal.{Refuses};
 ghost use Rattle.syntax.specs.Items.{variant_view};
-ghost use Rattle.shapes.specs.Declarations.{IsApartBody};
 ghost use Rattle.shapes.specs.Views.{body_view};
 ghost use Rattle.derive_decl.specs.Resolved.{units_of};
 ghost use Rattle.derive_decl.specs.Faults.{AreUnnamed};
@@ -28,11 +27,6 @@ pub fn units_body(
     ensures units { IfOk result
         (λ b. units_of (known root.now.container.now) rule (map variant_view variants.now) tagging
         ≡ Some (body_view b)) }
-    ensures apart { IfOk result (λ b. IsApartBody (body_view b)) }
-    ensures faultless { IfOk result
-        (λ _. RefusesNone
-        (AreUnnamed root.now.container.now.config.now.renames rule tagging
-        (map variant_view variants.now))) }
     ensures refused { Refuses result
         (AreUnnamed root.now.container.now.config.now.renames rule tagging
         (map variant_view variants.now)) }

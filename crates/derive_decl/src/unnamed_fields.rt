@@ -1,19 +1,15 @@
 //! The form of unnamed fields.
 
 ghost use Rattle.std.specs.Prelude.{◌≡◌, map, IfOk, Some};
-ghost use Rattle.std.specs.List.{AllByRecursion};
-ghost use Rattle.diag.specs.Refusal.{IsErrorFor, IsRefusal, Refuses, RefusesNone};
+ghost use Rattle.diag.specs.Refusal.{IsErrorFor, IsRefusal, Refuses};
 ghost use Rattle.texts.specs.Lists.{Somewhere};
-ghost use Rattle.texts.specs.Names.{IsDistinct};
 ghost use Rattle.open_types.specs.Open.{open_view};
-ghost use Rattle.resolving.specs.Resolved.{type_of};
+ghost use Rattle.resolving.specs.Resolved.{resolved_type};
 ghost use Rattle.syntax.specs.Items.{field_view, unnamed};
-ghost use Rattle.shapes.specs.Declarations.{form_names};
 ghost use Rattle.shapes.specs.Views.{form_view};
-ghost use Rattle.derive_decl.specs.Fields.{FieldRules as AnyRules};
 ghost use Rattle.derive_decl.specs.Resolved.{all_of, form_of};
 ghost use Rattle.derive_decl.specs.Faults.{IsFaultyType, AreFaultyTypes, fieldless_message};
-ghost use Rattle.derive_decl.specs.Views.{known};
+ghost use Rattle.derive_decl.specs.Views.{items_of, known};
 
 use crate::root::Root;
 use diag::{DeriveError, Kind};
@@ -38,11 +34,8 @@ fn resolve_types(
     fields: &[Field],
 ) -> Result<List<OpenType>, DeriveError>
     ensures types { IfOk result
-        (λ ts. all_of (λ f. type_of (known container.now).known f.ty) (map field_view fields.now)
-        ≡ Some (map open_view ts)) }
-    ensures faultless { IfOk result
-        (λ _. AllByRecursion (λ f. RefusesNone (IsFaultyType (known container.now) f))
-        (map field_view fields.now)) }
+        (λ ts. all_of (λ f. resolved_type (known container.now).known f.ty)
+        (map field_view fields.now) ≡ Some (map open_view ts)) }
     ensures refused { Refuses result
         (λ e. Somewhere (λ f. IsFaultyType (known container.now) f e) (map field_view fields.now)) }
 {
@@ -58,14 +51,9 @@ fn resolve_types(
 /// A refusal is of kind `UnknownType`, `Arity`, `BadArgument` or `TypeSize`, for the type of a field; or `Arity`, at the name
 /// of the root, where there is no field.
 pub fn unnamed_form(alloc: Global, root: &Root<'_>, fields: &[Field]) -> Result<Form, DeriveError>
-    ensures form { IfOk result (λ form. (rules : AnyRules)
-        → form_of (known root.now.container.now) rules (unnamed (map field_view fields.now))
-        ≡ Some (form_view form)) }
-    ensures distinct { IfOk result (λ form. IsDistinct (form_names (form_view form))) }
-    ensures faultless { IfOk result
-        (λ _. RefusesNone
-        (AreFaultyTypes (known root.now.container.now) root.now.ident.now
-        (map field_view fields.now))) }
+    ensures form { IfOk result
+        (λ form. form_of (known root.now.container.now) (items_of root.now)
+        (unnamed (map field_view fields.now)) ≡ Some (form_view form)) }
     ensures refused { Refuses result
         (AreFaultyTypes (known root.now.container.now) root.now.ident.now
         (map field_view fields.now)) }

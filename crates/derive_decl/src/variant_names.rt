@@ -1,16 +1,15 @@
 //! The names of variants in JSON, and how they are told.
 
-ghost use Rattle.std.specs.Prelude.{◌≡◌, ◌∷◌, [], ℕ, map, IfOk, Ok, Some};
-ghost use Rattle.std.specs.List.{AllByRecursion, cons_option};
-ghost use Rattle.diag.specs.Refusal.{IsRefusal, Refuses, RefusesNone};
+ghost use Rattle.std.specs.Prelude.{◌≡◌, ◌∷◌, [], ℕ, map, IfOk, Ok, Some, true};
+ghost use Rattle.std.specs.List.{cons_option};
+ghost use Rattle.diag.specs.Refusal.{IsRefusal, Refuses};
 ghost use Rattle.texts.specs.Lists.{Somewhere};
-ghost use Rattle.texts.specs.Names.{IsDistinct};
 ghost use Rattle.serde_rules.specs.declared.enum_repr.SerdeEnumRepr.TheVariants.{UnfinishedAdjacentlyTagged};
 ghost use Rattle.syntax.specs.Items.{variant_view};
 ghost use Rattle.scopes.specs.Names.{texts, IsGivenTwice};
 ghost use Rattle.shapes.specs.Declarations.{telling};
-ghost use Rattle.derive_decl.specs.Variants.{tagging_of, value_of_variant, kept_variants, variant_name, variant_ident};
-ghost use Rattle.derive_decl.specs.Resolved.{all_of};
+ghost use Rattle.derive_decl.specs.Variants.{tagging_of, are_told, value_of_variant, kept_variants, variant_name, variant_ident};
+ghost use Rattle.derive_decl.specs.Resolved.{all_of, passing};
 ghost use Rattle.derive_decl.specs.Faults.{IsUnnamed, AreUnnamed, tagless_message};
 
 use crate::names::written_ident;
@@ -60,8 +59,6 @@ pub(crate) fn kept_name(
     ensures name { IfOk result
         (λ x. variant_ident config.now.renames rule tagging.now (variant_view variant.now)
         ≡ Some x) }
-    ensures faultless { IfOk result (λ _. RefusesNone
-        (IsUnnamed config.now.renames rule tagging.now (variant_view variant.now))) }
     ensures refused { Refuses result
         (IsUnnamed config.now.renames rule tagging.now (variant_view variant.now)) }
 {
@@ -84,9 +81,6 @@ fn resolve_name(
     ensures name { IfOk result
         (λ x. all_of (variant_ident config.now.renames rule tagging.now)
         (kept_variants (variant_view variant.now ∷ [])) ≡ Some (cons_option x [])) }
-    ensures faultless { IfOk result (λ _. AllByRecursion
-        (λ v. RefusesNone (IsUnnamed config.now.renames rule tagging.now v))
-        (kept_variants (variant_view variant.now ∷ []))) }
     ensures refused { Refuses result
         (λ e. Somewhere (λ v. IsUnnamed config.now.renames rule tagging.now v e)
         (kept_variants (variant_view variant.now ∷ []))) }
@@ -109,9 +103,6 @@ fn resolve_names(
     ensures names { IfOk result
         (λ xs. all_of (variant_ident config.now.renames rule tagging.now)
         (kept_variants (map variant_view variants.now)) ≡ Some xs.items) }
-    ensures faultless { IfOk result (λ _. AllByRecursion
-        (λ v. RefusesNone (IsUnnamed config.now.renames rule tagging.now v))
-        (kept_variants (map variant_view variants.now))) }
     ensures refused { Refuses result
         (λ e. Somewhere (λ v. IsUnnamed config.now.renames rule tagging.now v e)
         (kept_variants (map variant_view variants.now))) }
@@ -130,10 +121,8 @@ pub(crate) fn told_apart<T: Named>(
     tagging: &Tagging,
     items: &[T],
 ) -> Result<(), DeriveError>
-    ensures distinct { IfOk result
-        (λ _. IsDistinct (telling tagging.now (texts (map T.ident_of items.now)))) }
-    ensures once { IfOk result
-        (λ _. RefusesNone (IsGivenTwice (telling tagging.now (map T.ident_of items.now)))) }
+    ensures told { IfOk result
+        (λ _. are_told tagging.now (texts (map T.ident_of items.now)) ≡ true) }
     ensures refused { Refuses result
         (IsGivenTwice (telling tagging.now (map T.ident_of items.now))) }
 {
@@ -166,11 +155,9 @@ pub(crate) fn distinct_names(
     variants: &[Variant],
 ) -> Result<List<Text>, DeriveError>
     ensures names { IfOk result
-        (λ names. all_of (variant_name config.now.renames rule tagging.now)
-        (kept_variants (map variant_view variants.now)) ≡ Some names) }
-    ensures distinct { IfOk result (λ names. IsDistinct (telling tagging.now names)) }
-    ensures faultless { IfOk result (λ _. RefusesNone
-        (AreUnnamed config.now.renames rule tagging.now (map variant_view variants.now))) }
+        (λ names. passing (are_told tagging.now)
+        (all_of (variant_name config.now.renames rule tagging.now)
+        (kept_variants (map variant_view variants.now))) ≡ Some names) }
     ensures refused { Refuses result
         (AreUnnamed config.now.renames rule tagging.now (map variant_view variants.now)) }
 {

@@ -1,28 +1,43 @@
 //! All declarations of a source.
 
-ghost use Rattle.std.specs.Prelude.{◌≡◌, map, IfOk, Some};
-ghost use Rattle.diag.specs.Refusal.{Refuses, RefusesNone};
+ghost use Rattle.std.specs.Prelude.{◌≡◌, map, IfOk, None, Some};
+ghost use Rattle.diag.specs.Refusal.{Refuses};
 ghost use Rattle.syntax.specs.Items.{body_view, declaration_view, declarations_view};
 ghost use Rattle.syntax.specs.Named.{AreNamed, IsNamedBody};
 ghost use Rattle.scopes.specs.Names.{declared_names};
-ghost use Rattle.shapes.specs.Declarations.{declaration_names, AreFitting, IsApartBody, AreApartBodies};
-ghost use Rattle.shapes.specs.Views.{declaration_view as resolved_view};
-ghost use Rattle.derive_decl.specs.Resolved.{resolved_of};
-ghost use Rattle.derive_decl.specs.Faults.{IsFaultyDeclaration, IsFaultyItem, AreFaultyItems};
+ghost use Rattle.shapes.specs.Declarations.{declaration_names, AreFitting};
+ghost use Rattle.shapes.specs.Views.{body_view as resolved_body_view, declaration_view as resolved_view};
+ghost use Rattle.derive_decl.specs.Attributed.{attributes_in, first_other};
+ghost use Rattle.derive_decl.specs.Resolved.{declaration_from, declaration_of, resolved_of};
+ghost use Rattle.derive_decl.specs.Faults.{AreDerivable, IsFaultyDeclaration, IsFaultyItem, AreFaultyItems};
 ghost use Rattle.derive_decl.specs.Views.{attributes_of, known};
-ghost use Rattle.derive_decl.specs.Whole.{IsResolved, resolved_declarations};
+ghost use Rattle.derive_decl.specs.Whole.{resolved_declarations};
 
-use crate::bodies::resolve_body;
+use crate::bodies::{body_of, resolve_body};
 use crate::parameters::distinct_parameters;
 use crate::remarks::remarks_of;
 use crate::root::Root;
 use configuration::Config;
 use diag::DeriveError;
 use scopes::{Container, Places, Scope};
-use shapes::Declaration as Resolved;
-use std::alloc::Global;
-use syntax::{Body, Declaration};
+use shapes::{Body, Declaration as Resolved};
+use std::alloc::{AllocError, Global};
+use syntax::{Body as Written, Declaration};
 use texts::List;
+
+/// The declaration of the root with this body.
+fn with_body(alloc: Global, root: &Root<'_>, body: Body) -> Result<Resolved, AllocError>
+    ensures { IfOk result
+        (λ s. resolved_view s ≡ declaration_from (known root.now.container.now)
+        (attributes_of root.now) root.now.ident.now (resolved_body_view body)) }
+{
+    Ok(Resolved {
+        name: root.ident.text.copy(alloc)?,
+        parameters: root.container.scope.count,
+        remarks: remarks_of(alloc, root.attributes)?,
+        body,
+    })
+}
 
 /// What the declaration of this body is resolved to, where its generic parameters are not looked at.
 ///
@@ -37,38 +52,31 @@ use texts::List;
 pub fn resolve_declaration(
     alloc: Global,
     root: &Root<'_>,
-    body: &Body,
+    body: &Written,
 ) -> Result<Resolved, DeriveError>
     requires { IsNamedBody (body_view body.now) }
     ensures resolved { IfOk result
-        (λ s. IsResolved (known root.now.container.now) (attributes_of root.now) root.now.ident.now
-        (body_view body.now) (resolved_view s)) }
+        (λ s. declaration_of (known root.now.container.now) (attributes_of root.now)
+        root.now.ident.now (body_view body.now) ≡ Some (resolved_view s)) }
     ensures refused { Refuses result
         (IsFaultyDeclaration (known root.now.container.now) (attributes_of root.now)
         root.now.ident.now (body_view body.now)) }
 {
     let body = resolve_body(alloc, root, body)?;
-    Ok(Resolved {
-        name: root.ident.text.copy(alloc)?,
-        parameters: root.container.scope.count,
-        remarks: remarks_of(alloc, root.attributes)?,
-        body,
-    })
+    Ok(with_body(alloc, root, body)?)
 }
 
-/// What the declaration is resolved to.
+/// What the declaration is resolved to, of which each attribute is one that something is derived from.
 fn resolved_of(
     alloc: Global,
     container: &Container<'_>,
     declaration: &Declaration,
 ) -> Result<Resolved, DeriveError>
-    requires { IsNamedBody (declaration_view declaration.now).body }
+    requires named { IsNamedBody (declaration_view declaration.now).body }
+    requires derivable { first_other (attributes_in (declaration_view declaration.now)) ≡ None }
     ensures resolved { IfOk result
         (λ s. resolved_of (known container.now) (declaration_view declaration.now)
         ≡ Some (resolved_view s)) }
-    ensures apart { IfOk result (λ s. IsApartBody (resolved_view s).body) }
-    ensures faultless { IfOk result
-        (λ _. RefusesNone (IsFaultyItem (known container.now) (declaration_view declaration.now))) }
     ensures refused { Refuses result
         (IsFaultyItem (known container.now) (declaration_view declaration.now)) }
 {
@@ -78,10 +86,12 @@ fn resolved_of(
         attributes: declaration.attrs.as_slice(),
         container,
     };
-    resolve_declaration(alloc, &root, &declaration.body)
+    let body = body_of(alloc, &root, &declaration.body)?;
+    Ok(with_body(alloc, &root, body)?)
 }
 
-/// What the declarations are resolved to, in their order, where each field in braces has a name.
+/// What the declarations are resolved to, in their order, where each field in braces has a name, and where something is
+/// derived from each attribute: of that `only_derivable` is the test.
 ///
 /// It refuses a declaration in which a type or constant parameter has the name of one before it, or a lifetime has, with
 /// the kind `DuplicateName`, at the first that has; and one that `resolve_declaration` refuses, as that does.
@@ -90,17 +100,14 @@ pub fn resolved_declarations(
     places: &Places<'_>,
     config: &Config,
 ) -> Result<List<Resolved>, DeriveError>
-    requires { AreNamed (declarations_view places.now.declarations.now) }
+    requires named { AreNamed (declarations_view places.now.declarations.now) }
+    requires derivable { AreDerivable (declarations_view places.now.declarations.now) }
     ensures resolved { IfOk result
         (λ ss. resolved_declarations config.now.renames
         (declarations_view places.now.declarations.now) ≡ Some (map resolved_view ss)) }
     ensures names { IfOk result (λ ss. declaration_names (map resolved_view ss)
         ≡ declared_names (declarations_view places.now.declarations.now)) }
-    ensures apart { IfOk result (λ ss. AreApartBodies (map resolved_view ss)) }
     ensures fitting { IfOk result (λ ss. AreFitting (map resolved_view ss)) }
-    ensures faultless { IfOk result
-        (λ _. RefusesNone
-        (AreFaultyItems config.now.renames (declarations_view places.now.declarations.now))) }
     ensures refused { Refuses result
         (AreFaultyItems config.now.renames (declarations_view places.now.declarations.now)) }
 {

@@ -1,8 +1,8 @@
 //! Named fields with resolved types, until their names are judged.
 
 ghost use Rattle.std.specs.Prelude.{◌≡◌, ◌∷◌, [], IfOk, Some, map};
-ghost use Rattle.std.specs.List.{AllByRecursion, cons_option};
-ghost use Rattle.diag.specs.Refusal.{Refuses, RefusesNone};
+ghost use Rattle.std.specs.List.{cons_option};
+ghost use Rattle.diag.specs.Refusal.{Refuses};
 ghost use Rattle.open_types.specs.Open.{open_view};
 ghost use Rattle.texts.specs.Lists.{Somewhere};
 ghost use Rattle.syntax.specs.Items.{field_view};
@@ -119,9 +119,6 @@ fn kept_member(
     ensures ident { IfOk result
         (λ m. written_ident container.now.config.now.renames rules.now.rename_all
         (field_view field.now) ≡ Some m.ident) }
-    ensures faultless { IfOk result
-        (λ _. RefusesNone
-        (IsFaultyMember (known container.now) (rules_view rules.now) (field_view field.now))) }
     ensures refused { Refuses result
         (IsFaultyMember (known container.now) (rules_view rules.now) (field_view field.now)) }
 {
@@ -153,10 +150,6 @@ pub(crate) fn resolve_member(
     ensures ident { IfOk result
         (λ m. written_idents container.now.config.now.renames rules.now.rename_all
         (kept (field_view field.now ∷ [])) ≡ map (λ n. n.ident) (cons_option m [])) }
-    ensures faultless { IfOk result
-        (λ _. AllByRecursion
-        (λ f. RefusesNone (IsFaultyMember (known container.now) (rules_view rules.now) f))
-        (kept (field_view field.now ∷ []))) }
     ensures refused { Refuses result
         (λ e. Somewhere (λ f. IsFaultyMember (known container.now) (rules_view rules.now) f e)
         (kept (field_view field.now ∷ []))) }

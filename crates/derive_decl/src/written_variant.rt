@@ -2,18 +2,15 @@
 
 ghost use Rattle.std.specs.Prelude.{◌≡◌, ◌∷◌, [], map, IfOk, Some};
 ghost use Rattle.std.specs.List.{AllByRecursion, cons_option, filter_map};
-ghost use Rattle.diag.specs.Refusal.{Refuses, RefusesNone};
+ghost use Rattle.diag.specs.Refusal.{Refuses};
 ghost use Rattle.texts.specs.Lists.{Somewhere};
-ghost use Rattle.texts.specs.Names.{IsDistinct};
 ghost use Rattle.syntax.specs.Items.{variant_view};
 ghost use Rattle.syntax.specs.Named.{HaveNames};
-ghost use Rattle.shapes.specs.Declarations.{form_names, tagged_names, IsApartVariant, AreApartVariants};
 ghost use Rattle.shapes.specs.Views.{form_view, variant_view as resolved_view};
 ghost use Rattle.derive_decl.specs.Variants.{value_of_variant, kept_variants, variant_ident};
-ghost use Rattle.derive_decl.specs.Fields.{field_rules};
-ghost use Rattle.derive_decl.specs.Resolved.{all_of, form_of, variant_of};
+ghost use Rattle.derive_decl.specs.Resolved.{all_of, tagged_form, variant_of};
 ghost use Rattle.derive_decl.specs.Faults.{IsFaultyContent, IsFaultyVariant};
-ghost use Rattle.derive_decl.specs.Views.{attributes_of, items_of, known, written_variant_view};
+ghost use Rattle.derive_decl.specs.Views.{attributes_of, known, written_variant_view};
 
 use crate::fields::form_of;
 use crate::push_some::push_some;
@@ -83,14 +80,8 @@ fn tagged_form(
     requires items { attributes_of root.now ≡ (variant_view variant.now).attrs }
     requires ident { root.now.ident.now ≡ (variant_view variant.now).ident }
     ensures form { IfOk result
-        (λ form. form_of (known root.now.container.now) (field_rules (items_of root.now))
-        (variant_view variant.now).fields ≡ Some (form_view form)) }
-    ensures distinct { IfOk result (λ form. IsDistinct (form_names (form_view form))) }
-    ensures apart { IfOk result
-        (λ form. IsDistinct (tagged_names tagging.now (form_view form))) }
-    ensures faultless { IfOk result
-        (λ _. RefusesNone
-        (IsFaultyContent (known root.now.container.now) tagging.now (variant_view variant.now))) }
+        (λ form. tagged_form (known root.now.container.now) tagging.now (variant_view variant.now)
+        ≡ Some (form_view form)) }
     ensures refused { Refuses result
         (IsFaultyContent (known root.now.container.now) tagging.now (variant_view variant.now)) }
 {
@@ -116,11 +107,6 @@ fn kept_variant(
     ensures ident { IfOk result
         (λ x. variant_ident root.now.container.now.config.now.renames rule tagging.now
         (variant_view variant.now) ≡ Some x.ident) }
-    ensures apart { IfOk result (λ x. IsApartVariant tagging.now (written_variant_view x)) }
-    ensures faultless { IfOk result
-        (λ _. RefusesNone
-        (IsFaultyVariant (known root.now.container.now) rule tagging.now
-        (variant_view variant.now))) }
     ensures refused { Refuses result
         (IsFaultyVariant (known root.now.container.now) rule tagging.now
         (variant_view variant.now)) }
@@ -156,12 +142,6 @@ fn resolve_variant(
         (λ x. filter_map (variant_ident root.now.container.now.config.now.renames rule tagging.now)
         (kept_variants (variant_view variant.now ∷ []))
         ≡ map (λ v. v.ident) (cons_option x [])) }
-    ensures apart { IfOk result
-        (λ x. AreApartVariants tagging.now (map written_variant_view (cons_option x []))) }
-    ensures faultless { IfOk result
-        (λ _. AllByRecursion
-        (λ v. RefusesNone (IsFaultyVariant (known root.now.container.now) rule tagging.now v))
-        (kept_variants (variant_view variant.now ∷ []))) }
     ensures refused { Refuses result
         (λ e. Somewhere
         (λ v. IsFaultyVariant (known root.now.container.now) rule tagging.now v e)
@@ -190,12 +170,6 @@ pub(crate) fn resolve_variants(
         (λ xs. filter_map
         (variant_ident root.now.container.now.config.now.renames rule tagging.now)
         (kept_variants (map variant_view variants.now)) ≡ map (λ v. v.ident) xs.items) }
-    ensures apart { IfOk result
-        (λ xs. AreApartVariants tagging.now (map written_variant_view xs.items)) }
-    ensures faultless { IfOk result
-        (λ _. AllByRecursion
-        (λ v. RefusesNone (IsFaultyVariant (known root.now.container.now) rule tagging.now v))
-        (kept_variants (map variant_view variants.now))) }
     ensures refused { Refuses result
         (λ e. Somewhere
         (λ v. IsFaultyVariant (known root.now.container.now) rule tagging.now v e)

@@ -3,7 +3,7 @@ use Rattle.std.specs.Prelude.{◌≡◌, [], Bool, map, Some}
 use Rattle.diag.specs.declared.error.DeriveError.{DeriveError}
 use Rattle.written_types.specs.Written.{written_view}
 use Rattle.open_types.specs.Open.{Open}
-use Rattle.resolving.specs.Resolved.{type_of, Fault, IsFault, IsRefusedFor}
+use Rattle.resolving.specs.Resolved.{resolved_type, Fault, IsFault, IsRefusedFor}
 use Rattle.resolving.specs.Known.{Known}
 use Rattle.scopes.specs.Scopes.{known_in}
 use Rattle.place_schemas.specs.declared.component_schema.ComponentSchema.{ComponentSchema}
@@ -20,8 +20,7 @@ known_at props = known_in props.container.now.scope.now
 -- The schema is that of the type that is written at the place, with the declarations that it names; where it is a parameter's, an option may not say null.
 pub record IsSchemaOf (option_is_nullable : Bool) (props : ComponentSchemaProps) (made : ComponentSchema) : Type 0 where
   pub of : Open
-  pub resolved : type_of (known_at props) (written_view props.written.now) ≡ Some of
-  pub faultless : (fault : Fault) → ¬ IsFault (known_at props) (written_view props.written.now) fault
+  pub resolved : resolved_type (known_at props) (written_view props.written.now) ≡ Some of
   pub term : term_view made.term ≡ place props.nullable props.inline props.deprecated (described_by props.description) (parameter_type option_is_nullable of)
   pub references : map reference_view made.schema_references ≡ references props.inline (parameter_type option_is_nullable of)
   pub warnings : made.warnings ≡ []

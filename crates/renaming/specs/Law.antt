@@ -10,7 +10,8 @@ use Rattle.texts.specs.declared.span.Span.{Span}
 use Rattle.serde_rules.specs.declared.value.SerdeValue.{SerdeValue}
 use Rattle.syntax.specs.Items.{DeclaredItem}
 use Rattle.derive_decl.specs.Fields.{name_by}
-use Rattle.derive_decl.specs.Faults.{AreFaultyItems, IsFaultyItem, first_other, attributes_in, row_message}
+use Rattle.derive_decl.specs.Attributed.{first_other, attributes_in}
+use Rattle.derive_decl.specs.Faults.{AreFaultyItems, IsFaultyItem, row_message}
 use Rattle.derive_decl.specs.Resolved.{around_of}
 use Rattle.renaming.specs.declared.asked.Asked.{Asked}
 use Rattle.renaming.specs.Asked.{is_given, asked_of, asked_of_item}

@@ -5,3 +5,4 @@ pub mod Stands
 pub mod Right
 pub mod Whole
 pub mod Over
+pub mod Faultless

@@ -23,7 +23,7 @@ use Rattle.resolving.specs.Bad.{are_bad}
 
 module _ (p : Known) where
   -- the segment's name is at fault
-  abbrev Bad : Segment → Type 0
+  abbrev pub Bad : Segment → Type 0
   Bad s = (meaning p s ≡ meanings.Unknown) ⊎ IsTrue (are_wrong p (meaning p s) (types_of p (arguments_of s))) ⊎ IsTrue (are_bad p s)
 
   -- a segment stands for what its name means with its arguments

@@ -1,5 +1,5 @@
 -- What a written type stands for, and why it may stand for nothing.
-use Rattle.std.specs.Prelude.{◌≡◌, ◌<◌, ◌≤◌, ℕ, List, [], ◌∷◌, ◌++◌, Bool, true, false, not, Option, Some, None, option_map, option_and_then, IsTrue, codes, length, ◌==◌, cond}
+use Rattle.std.specs.Prelude.{◌≡◌, ◌<◌, ◌↔◌, leb, IsSome, ℕ, List, [], ◌∷◌, ◌++◌, Bool, true, false, not, Option, Some, None, option_map, option_and_then, IsTrue, codes, length, ◌==◌, cond}
 use Rattle.texts.specs.Lists.{Somewhere}
 use Rattle.diag.specs.Refusal.{IsRefusal}
 use Rattle.diag.specs.declared.error.DeriveError.{DeriveError}
@@ -120,6 +120,10 @@ pub data Fault : Type 0 where
 abbrev pub most_names : ℕ
 most_names = 256
 
+-- what a type stands for that is not too large
+abbrev pub resolved_type : Known → Written → Option Open
+resolved_type known t = cond (leb (size known t) most_names) (type_of known t) None
+
 abbrev pub is_wrong_item : ListHead → Written → Bool
 is_wrong_item lists.Vec t = false
 is_wrong_item lists.LinkedList t = false
@@ -175,9 +179,9 @@ IsRefusedFor (wrong_arity x) e = IsRefusal Arity x.span (codes "wrong number of 
 IsRefusedFor (bad_argument x) e = IsRefusal BadArgument x.span (codes "tuples, arrays and slices cannot be generic arguments") e
 IsRefusedFor (too_large s) e = IsRefusal TypeSize s (codes "a type has more than 256 names") e
 
--- The law: what stands for a type and is not too large has no fault.
-abbrev pub ResolvedHaveNoFault : Type 0
-ResolvedHaveNoFault = (known : Known) (t : Written) (u : Open) → type_of known t ≡ Some u → size known t ≤ most_names → (fault : Fault) → ¬ (IsFault known t fault)
+-- The law: a type is resolved to something exactly where it has no fault.
+abbrev pub ResolutionIsExact : Type 0
+ResolutionIsExact = (known : Known) (t : Written) → IsSome (resolved_type known t) ↔ ((fault : Fault) → ¬ (IsFault known t fault))
 
 -- The law: where each name's place is below n and each type parameter's place is below m, a resolved type is over the first n declarations and the first m parameters, and none has other arguments than it takes.
 abbrev pub ResolvedAreOver : Type 0

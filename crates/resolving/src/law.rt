@@ -1,10 +1,10 @@
 //! What rests on the definitions alone: laws that callers rely on, as contracts of functions that do nothing.
 
-ghost use Rattle.resolving.specs.Resolved.{ResolvedHaveNoFault, ResolvedAreOver};
+ghost use Rattle.resolving.specs.Resolved.{ResolutionIsExact, ResolvedAreOver};
 
-/// A type that stands for something and has at most `MAX_NAMES` names has no fault.
-pub fn resolved_have_no_fault()
-    ensures { ResolvedHaveNoFault }
+/// A type stands for something and has at most `MAX_NAMES` names exactly where it has no fault.
+pub fn resolution_is_exact()
+    ensures { ResolutionIsExact }
 {}
 
 /// Where each name's place is below a bound, and each type parameter's place below another, a resolved type is over the

@@ -13,6 +13,6 @@ mod resolve;
 mod size;
 
 pub use known::KnownNames;
-pub use law::{resolved_are_over, resolved_have_no_fault};
+pub use law::{resolution_is_exact, resolved_are_over};
 pub use meaning::Meaning;
 pub use resolve::{MAX_NAMES, resolve_type};

@@ -1,13 +1,13 @@
 //! Written types resolved.
 
-ghost use Rattle.std.specs.Prelude.{◌≡◌, ◌≤◌, ◌∷◌, IfOk, Some};
+ghost use Rattle.std.specs.Prelude.{◌≡◌, ◌∷◌, IfOk, Some};
 ghost use Rattle.diag.specs.Refusal.{Refuses};
 ghost use Rattle.open_types.specs.declared.open_type.ListHead.TheVariants as lists;
 ghost use Rattle.open_types.specs.Open.{open_view, opens_view, items};
 ghost use Rattle.written_types.specs.Written.{written_view, path_view, segment_view, arguments_view, writtens_view};
 ghost use Rattle.resolving.specs.Known.{known};
-ghost use Rattle.resolving.specs.Names.{nameless, names_in, names_in_path, names_in_segment, names_in_arguments, names_in_types, size};
-ghost use Rattle.resolving.specs.Resolved.{type_of, path_type, segment_type, argument_types, all_types, tuple_of, IsFault, IsRefusedFor, Fault as AnyFault};
+ghost use Rattle.resolving.specs.Names.{nameless, names_in, names_in_path, names_in_segment, names_in_arguments, names_in_types};
+ghost use Rattle.resolving.specs.Resolved.{type_of, resolved_type, path_type, segment_type, argument_types, all_types, tuple_of, IsFault, IsRefusedFor, Fault as AnyFault};
 ghost use Rattle.resolving.specs.Reading.{IsAtFault, AreAtFault, segment_arguments};
 
 use crate::arguments::meant;
@@ -36,9 +36,8 @@ pub fn resolve_type(
     names: &KnownNames<'_>,
     ty: &WrittenType,
 ) -> Result<OpenType, DeriveError>
-    ensures resolved { IfOk result (λ t. type_of (known names.now) (written_view ty.now)
+    ensures resolved { IfOk result (λ t. resolved_type (known names.now) (written_view ty.now)
         ≡ Some (open_view t)) }
-    ensures small { IfOk result (λ _. size (known names.now) (written_view ty.now) ≤ 256) }
     ensures refused { Refuses result
         (λ e. ((fault : AnyFault) × IsFault (known names.now) (written_view ty.now) fault
         × IsRefusedFor fault e)) }

@@ -1,5 +1,5 @@
 -- The names that declarations give, and the places where they stand.
-use Rattle.std.specs.Prelude.{◌≡◌, ℕ, List, [], ◌∷◌, ◌++◌, Option, IsTrue, codes}
+use Rattle.std.specs.Prelude.{◌≡◌, ℕ, List, [], ◌∷◌, ◌++◌, Bool, true, not, ◌&&◌, Option, IsTrue, codes}
 use Rattle.texts.specs.Names.{is_in, IsDistinct, place_in}
 use Rattle.diag.specs.Refusal.{IsRefusal}
 use Rattle.diag.specs.declared.error.DeriveError.{DeriveError}
@@ -22,6 +22,11 @@ declared_idents (d ∷ ds) = d.ident ∷ declared_idents ds
 abbrev pub texts : List Ident → List (List ℕ)
 texts [] = []
 texts (x ∷ xs) = x.text ∷ texts xs
+
+-- no name stands in the list twice
+abbrev pub are_distinct : List (List ℕ) → Bool
+are_distinct [] = true
+are_distinct (k ∷ ks) = not (is_in k ks) && are_distinct ks
 
 -- the identifier is the first in the list whose name stands before it: the names before it are distinct, and its own is one of them
 abbrev pub Repeats : List Ident → Ident → Type 0

@@ -5,14 +5,14 @@ ghost use Rattle.diag.specs.Refusal.{Refuses};
 ghost use Rattle.written_types.specs.Written.{written_view};
 ghost use Rattle.open_types.specs.Open.{open_view};
 ghost use Rattle.open_types.specs.Within.{IsOver};
-ghost use Rattle.resolving.specs.Resolved.{type_of, Fault as AnyFault, IsFault, IsRefusedFor};
+ghost use Rattle.resolving.specs.Resolved.{resolved_type, Fault as AnyFault, IsFault, IsRefusedFor};
 ghost use Rattle.scopes.specs.Scopes.{declared_in, parameters_in, known_in};
 
 use crate::scope::Scope;
 use configuration::Config;
 use diag::DeriveError;
 use open_types::OpenType;
-use resolving::{KnownNames, resolve_type, resolved_are_over, resolved_have_no_fault};
+use resolving::{KnownNames, resolve_type, resolved_are_over};
 use std::alloc::Global;
 use written_types::WrittenType;
 
@@ -26,16 +26,13 @@ pub fn resolve(
     _config: &Config,
 ) -> Result<OpenType, DeriveError>
     ensures resolved { IfOk result
-        (λ t. type_of (known_in scope.now) (written_view ty.now) ≡ Some (open_view t)) }
-    ensures faultless { IfOk result (λ _. (fault : AnyFault)
-        → ¬ IsFault (known_in scope.now) (written_view ty.now) fault) }
+        (λ t. resolved_type (known_in scope.now) (written_view ty.now) ≡ Some (open_view t)) }
     ensures over { IfOk result (λ t. IsOver (length (declared_in scope.now))
         (known_in scope.now).parameters_at (parameters_in scope.now) (open_view t)) }
     ensures refused { Refuses result (λ e. (fault : AnyFault)
         × IsFault (known_in scope.now) (written_view ty.now) fault × IsRefusedFor fault e) }
 {
     resolved_are_over();
-    resolved_have_no_fault();
     let names = KnownNames {
         places: &scope.places.by_name,
         counts: scope.places.counts.as_slice(),

@@ -112,5 +112,6 @@ pub fn declared_places(
 pub fn names_repeat_or_not()
     ensures decided { (xs : List AnyIdent)
         → IsDistinct (texts xs) ⊎ ((x : AnyIdent) × Repeats xs x) }
+    ensures once { (xs : List AnyIdent) → IsDistinct (texts xs) → RefusesNone (IsGivenTwice xs) }
     ensures one { (xs : List AnyIdent) (x y : AnyIdent) → Repeats xs x → Repeats xs y → x ≡ y }
 {}

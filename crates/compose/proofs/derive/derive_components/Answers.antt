@@ -11,6 +11,7 @@ use Rattle.scopes.specs.Names.{declared_idents}
 use Rattle.shapes.specs.declared.declaration.Declaration.{Declaration}
 use Rattle.shapes.specs.Views.{declaration_view}
 use Rattle.shapes.specs.Declarations.{DeclarationOf}
+use Rattle.derive_decl.specs.Law.{DeclarationsAreApart}
 use Rattle.closing.specs.Described.{AreComponents}
 use Rattle.compose.specs.Bounds.{AreBounded, IsUnbounded, collects_all}
 use Rattle.compose.specs.Faults.{IsDerived}
@@ -72,8 +73,8 @@ returns-in_err-bounded-clause-refused c =
 
 -- what is known of the components of settled declarations
 abbrev derived_of : {c : Configuration} {source : List ℕ} {components : List Entry} (ds : List DeclaredItem) (ss : List DeclarationOf) → Reads source ds → ((span : Span) → ¬ NestsTooDeep source span) →
-    IsSettled c.renames ds ss → AreBounded c ss → AreComponents ss (collects_all c.collect) components → IsDerived c source components
-derived_of ds ss read shallow settled bounded components = record {
+    DeclarationsAreApart → IsSettled c.renames ds ss → AreBounded c ss → AreComponents ss (collects_all c.collect) components → IsDerived c source components
+derived_of {c = c} ds ss read shallow apart settled bounded components = record {
   declarations = ds;
   read = read;
   shallow = shallow;
@@ -81,7 +82,7 @@ derived_of ds ss read shallow settled bounded components = record {
   resolved = ss;
   resolves = settled.resolves;
   bounded = bounded;
-  apart = settled.apart;
+  apart = apart c.renames ds ss settled.resolves;
   components_are = components;
 }
 
@@ -95,8 +96,8 @@ returns-clause-describes c =
     let bounded : AreBounded config ss = subst (λ (xs : List Declaration). AreBounded config (map declaration_view xs)) c.as_slice-resolved.ensures c.in_ok-bounded.ensures.bounded in
     let made : AreComponents ss (collects_all config.collect) components =
     subst (λ all. AreComponents ss all components) c.in_ok-bounded.ensures.all (subst (λ (xs : List Declaration). AreComponents (map declaration_view xs) c.in_ok-bounded.bounded.all components) c.as_slice-resolved.ensures c.in_ok-components_within.ensures.components) in (
-      derived_of ds ss c.in_ok-declarations.ensures.found c.in_ok-declarations.ensures.shallow settled bounded made,
-      c.components_describe.ensures ss (collects_all config.collect) components settled.apart bounded.differ bounded.shallow made,
+      derived_of ds ss c.in_ok-declarations.ensures.found c.in_ok-declarations.ensures.shallow c.resolved_are_apart.ensures.declarations settled bounded made,
+      c.components_describe.ensures ss (collects_all config.collect) components (c.resolved_are_apart.ensures.declarations config.renames ds ss settled.resolves) bounded.differ bounded.shallow made,
     )
 
 pub returns-clause-types : goal.returns-clause-types
@@ -109,7 +110,7 @@ returns-clause-types c =
     let bounded : AreBounded config ss = subst (λ (xs : List Declaration). AreBounded config (map declaration_view xs)) c.as_slice-resolved.ensures c.in_ok-bounded.ensures.bounded in
     let made : AreComponents ss (collects_all config.collect) derived.components =
     subst (λ all. AreComponents ss all derived.components) c.in_ok-bounded.ensures.all (subst (λ (xs : List Declaration). AreComponents (map declaration_view xs) c.in_ok-bounded.bounded.all derived.components) c.as_slice-resolved.ensures c.in_ok-components_within.ensures.components) in (
-      derived_of ds ss c.in_ok-declarations.ensures.found c.in_ok-declarations.ensures.shallow settled bounded made,
+      derived_of ds ss c.in_ok-declarations.ensures.found c.in_ok-declarations.ensures.shallow c.resolved_are_apart.ensures.declarations settled bounded made,
       subst (λ all. AreTypesOf ss all (entry_names derived.components) (map open_view derived.types)) c.in_ok-bounded.ensures.all
           (subst (λ (xs : List Declaration). AreTypesOf (map declaration_view xs) c.in_ok-bounded.bounded.all (entry_names derived.components) (map open_view derived.types)) c.as_slice-resolved.ensures c.in_ok-components_within.ensures.types),
     )

@@ -1,9 +1,9 @@
-use Rattle.std.proofs.Common.{◌≡◌, Some, map, inl, inr, ap, sym, subst}
+use Rattle.std.proofs.Common.{◌≡◌, Some, is_some, map, inl, inr, ap, sym, subst}
 use Rattle.std.proofs.lemmas.Result.{err_from_is_err_and}
 use Rattle.syntax.specs.Items.{declarations_view}
 use Rattle.scopes.specs.Names.{declared_names}
 use Rattle.shapes.specs.Declarations.{declaration_names}
-use Rattle.derive_decl.specs.Faults.{AreFaultyItems}
+use Rattle.derive_decl.specs.Faults.{AreDerivable, AreFaultyItems}
 use Rattle.shapes.specs.Views.{declaration_view}
 use Rattle.derive_decl.specs.Whole.{resolved_declarations}
 use Rattle.compose.proofs.sets.settle.Goals as goal
@@ -37,18 +37,22 @@ returns-in_err-resolved-clause-refused c =
       | inr fault ↦ inr (inr (c.in_ok-only_derivable.ensures.derivable, inr (subst (λ ds. AreFaultyItems rows ds c.in_err-resolved.field-0.0) same fault)))
     ])
 
+pub resolved_declarations-requires-clause-derivable : goal.resolved_declarations-requires-clause-derivable
+resolved_declarations-requires-clause-derivable c = subst AreDerivable (sym (ap declarations_view c.in_ok-places.ensures.declarations)) c.in_ok-only_derivable.ensures.derivable
+
 pub returns-clause-settled : goal.returns-clause-settled
 returns-clause-settled c =
     let rows = c.args.config.now.renames in
+    let ds = declarations_view c.args.declarations.now in
     let same = ap declarations_view c.in_ok-places.ensures.declarations in
     let resolved = map declaration_view c.in_ok-resolved.resolved in
+    let resolves : resolved_declarations rows ds ≡ Some resolved = subst (λ ds. resolved_declarations rows ds ≡ Some resolved) same c.in_ok-resolved.ensures.resolved in
     record {
-      resolves = subst (λ ds. resolved_declarations rows ds ≡ Some resolved) same c.in_ok-resolved.ensures.resolved;
+      resolves = resolves;
       clear = record {
         derivable = c.in_ok-only_derivable.ensures.derivable;
-        faultless = λ e h. elim h [ inl twice ↦ c.in_ok-by_name.ensures.once e twice | inr fault ↦ c.in_ok-resolved.ensures.faultless e (subst (λ ds. AreFaultyItems rows ds e) (sym same) fault) ];
+        faultless = λ e h. elim h [ inl twice ↦ c.in_ok-by_name.ensures.once e twice | inr fault ↦ (c.resolution_is_exact.ensures.declarations rows ds c.requires).0 (ap is_some resolves) e fault ];
       };
       names = subst (λ ds. declaration_names resolved ≡ declared_names ds) same c.in_ok-resolved.ensures.names;
-      apart = c.in_ok-resolved.ensures.apart;
       fitting = c.in_ok-resolved.ensures.fitting;
     }

@@ -4,7 +4,7 @@ use Rattle.texts.specs.declared.span.Span.{Span}
 use Rattle.attributes.specs.Attributes.{AttributeItem}
 use Rattle.syntax.specs.declared.item.Declaration.{Declaration}
 use Rattle.syntax.specs.Items.{declaration_view}
-use Rattle.derive_decl.specs.Faults.{attributes_in, attributes_among, first_other}
+use Rattle.derive_decl.specs.Attributed.{attributes_in, attributes_among, first_other}
 use Rattle.derive_decl.proofs.First.{first-parts, first_here, first_later}
 use Rattle.derive_decl.proofs.attributed.first_among.Goals as goal
 

@@ -6,7 +6,7 @@ use Rattle.attributes.specs.declared.attribute.Attribute.{Attribute}
 use Rattle.attributes.specs.Attributes.{AttributeItem, attribute_view}
 use Rattle.syntax.specs.declared.item.Field.{Field}
 use Rattle.syntax.specs.Items.{FieldItem, field_view}
-use Rattle.derive_decl.specs.Faults.{first_other}
+use Rattle.derive_decl.specs.Attributed.{first_other}
 use Rattle.derive_decl.proofs.First.{first-parts, first_here, first_later}
 use Rattle.derive_decl.proofs.attributed.first_on_fields.Goals as goal
 

@@ -1,7 +1,7 @@
 use Rattle.std.proofs.Common.{◌≡◌, drop, map}
 use Rattle.std.specs.List.{flat_map}
 use Rattle.syntax.specs.Items.{field_view}
-use Rattle.derive_decl.specs.Faults.{first_other}
+use Rattle.derive_decl.specs.Attributed.{first_other}
 use Rattle.derive_decl.proofs.attributed.first_on_fields.Given as goal
 
 abbrev pub invariant-loop-field : goal.invariant-loop-field

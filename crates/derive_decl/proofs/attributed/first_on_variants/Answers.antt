@@ -5,7 +5,7 @@ use Rattle.texts.specs.declared.span.Span.{Span}
 use Rattle.attributes.specs.Attributes.{AttributeItem}
 use Rattle.syntax.specs.declared.item.Variant.{Variant}
 use Rattle.syntax.specs.Items.{VariantItem, variant_view}
-use Rattle.derive_decl.specs.Faults.{attributes_on, first_other}
+use Rattle.derive_decl.specs.Attributed.{attributes_on, first_other}
 use Rattle.derive_decl.proofs.First.{first-parts, first_here, first_later}
 use Rattle.derive_decl.proofs.attributed.first_on_variants.Goals as goal
 

@@ -1,7 +1,7 @@
 use Rattle.std.proofs.Common.{◌≡◌, ◌++◌, drop, map}
 use Rattle.std.specs.List.{flat_map}
 use Rattle.syntax.specs.Items.{VariantItem, variant_view}
-use Rattle.derive_decl.specs.Faults.{attributes_on, first_other}
+use Rattle.derive_decl.specs.Attributed.{attributes_on, first_other}
 use Rattle.derive_decl.proofs.attributed.first_on_variants.Given as goal
 
 abbrev pub invariant-loop-variant : goal.invariant-loop-variant

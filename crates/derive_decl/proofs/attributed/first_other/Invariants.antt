@@ -1,6 +1,6 @@
 use Rattle.std.proofs.Common.{◌≡◌, drop, map}
 use Rattle.attributes.specs.Attributes.{attribute_view}
-use Rattle.derive_decl.specs.Faults.{first_other}
+use Rattle.derive_decl.specs.Attributed.{first_other}
 use Rattle.derive_decl.proofs.attributed.first_other.Given as goal
 
 abbrev pub invariant-loop-attribute : goal.invariant-loop-attribute

@@ -1,7 +1,7 @@
 use Rattle.std.proofs.Common.{◌∙◌, List, map, ap, sym, inl, inr}
 use Rattle.syntax.specs.declared.item.Declaration.{Declaration}
 use Rattle.syntax.specs.Items.{declaration_view}
-use Rattle.derive_decl.specs.Faults.{attributes_among, first_other}
+use Rattle.derive_decl.specs.Attributed.{attributes_among, first_other}
 use Rattle.derive_decl.proofs.attributed.only_derivable.Goals as goal
 
 pub returns-in-Some-clause-refused : goal.returns-in-Some-clause-refused

@@ -1,9 +1,6 @@
-use Rattle.std.proofs.Common.{◌∙◌, ap, sym, inl, inr}
-use Rattle.std.proofs.lemmas.Option.{none-some}
-use Rattle.derive_decl.specs.Variants.{tagging_by}
+use Rattle.derive_decl.specs.Views.{items_of}
+use Rattle.derive_decl.proofs.Rules.{rules_allowed}
 use Rattle.derive_decl.proofs.enums.enum_rules.Goals as goal
 
-pub returns-clause-faultless : goal.returns-clause-faultless
-returns-clause-faultless c e (inl refused) = c.in_ok-rules.ensures.allowed e refused
-returns-clause-faultless c e (inr (content, unfinished, first, refused)) =
-    none-some c.in_ok-tagging.tagging (sym (ap tagging_by unfinished) ∙ ap tagging_by c.in_ok-rules.ensures.read.enum_repr ∙ c.in_ok-tagging.ensures.tagging)
+pub returns-clause-allowed : goal.returns-clause-allowed
+returns-clause-allowed c = rules_allowed (items_of c.args.root.now) c.in_ok-rules.rules c.in_ok-rules.ensures.read

@@ -1,19 +1,13 @@
-use Rattle.std.proofs.Common.{◌≡◌, ◌∙◌, map, true, false, cond, sym, inl, inr}
+use Rattle.std.proofs.Common.{◌≡◌, ◌∙◌, map, false, cond, sym, inl, inr}
 use Rattle.std.proofs.lemmas.Result.{IfOk-weaker, IfErr-weaker}
 use Rattle.syntax.specs.Items.{variant_view}
 use Rattle.derive_decl.specs.Variants.{are_units}
 use Rattle.derive_decl.specs.Resolved.{units_of, mixed_of}
 use Rattle.derive_decl.specs.Views.{known}
-use Rattle.derive_decl.proofs.EnumLaws.{units-unnamed, unnamed-faulty}
+use Rattle.derive_decl.proofs.EnumLaws.{unnamed-faulty}
 use Rattle.derive_decl.proofs.enums.told_by.Goals as goal
 
 -- ---- no variant has fields
-
-pub returns-then-are_units-clause-faultless : goal.returns-then-are_units-clause-faultless
-returns-then-are_units-clause-faultless c =
-    let vs = map variant_view c.args.variants.now in
-    let units : are_units vs ≡ true = sym c.are_units.ensures ∙ c.if-are_units.true in
-    IfOk-weaker c.units_body.result _ _ (λ b none. λ e fault. none e (units-unnamed (known c.args.root.now.container.now) c.args.rule c.args.tagging e vs units fault)) c.units_body.ensures.faultless
 
 pub returns-then-are_units-clause-refused : goal.returns-then-are_units-clause-refused
 returns-then-are_units-clause-refused c =

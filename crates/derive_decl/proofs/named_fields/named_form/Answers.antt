@@ -1,10 +1,13 @@
-use Rattle.std.proofs.Common.{map, sym, subst, inl, inr}
+use Rattle.std.proofs.Common.{map, None, cond, option_map, ap, sym, ◌∙◌, subst, inl, inr}
 use Rattle.std.proofs.lemmas.Result.{err_from_is_err_and}
 use Rattle.attributes.specs.Attributes.{attribute_view, serde_items}
 use Rattle.syntax.specs.Items.{field_view}
+use Rattle.shapes.specs.Declarations.{named_fields}
+use Rattle.derive_decl.specs.Fields.{field_rules}
+use Rattle.derive_decl.specs.Resolved.{named_form}
 use Rattle.derive_decl.specs.Faults.{AreFaultyMembers}
 use Rattle.derive_decl.specs.Views.{known}
-use Rattle.derive_decl.proofs.Rules.{rules_are}
+use Rattle.derive_decl.proofs.Rules.{rules_are, rules_allowed}
 use Rattle.derive_decl.proofs.named_fields.named_form.Goals as goal
 
 pub returns-in_err-rules-clause-refused : goal.returns-in_err-rules-clause-refused
@@ -27,9 +30,13 @@ returns-in_err-members-clause-refused c =
       | inr fault ↦ inr (inr (subst (λ rules. AreFaultyMembers (known root.container.now) rules (map field_view c.args.fields.now) c.in_err-members.field-0.0) same fault))
     ])
 
-pub returns-clause-faultless : goal.returns-clause-faultless
-returns-clause-faultless c e (inl fault) = c.in_ok-rules.ensures.allowed e fault
-returns-clause-faultless c e (inr fault) =
+pub returns-clause-form : goal.returns-clause-form
+returns-clause-form c =
     let root = c.args.root.now in
-    let same = rules_are (serde_items (map attribute_view root.attributes.now)) c.in_ok-rules.rules c.in_ok-rules.ensures.read in
-    c.in_ok-members.ensures.faultless e (subst (λ rules. AreFaultyMembers (known root.container.now) rules (map field_view c.args.fields.now) e) (sym same) fault)
+    let items = serde_items (map attribute_view root.attributes.now) in
+    let around = known root.container.now in
+    let fs = map field_view c.args.fields.now in
+    let rules = c.in_ok-rules.rules in
+    ap (λ b. cond b (named_form around (field_rules items) fs) None) (rules_allowed items rules c.in_ok-rules.ensures.read)
+    ∙ ap (λ r. named_form around r fs) (sym (rules_are items rules c.in_ok-rules.ensures.read))
+    ∙ ap (option_map (named_fields rules.deny_unknown_fields)) c.in_ok-members.ensures.members

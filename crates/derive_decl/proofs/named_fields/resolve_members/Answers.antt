@@ -2,8 +2,7 @@ use Rattle.std.proofs.Common.{◌≡◌, ◌∙◌, ◌<◌, [], length, map, ta
 use Rattle.std.proofs.lemmas.Grind.{common_steps}
 use Rattle.std.proofs.lemmas.List.{map-append}
 use Rattle.std.proofs.lemmas.Result.{err_from_is_err_and}
-use Rattle.std.specs.List.{AllByRecursion, cons_option}
-use Rattle.diag.specs.Refusal.{RefusesNone}
+use Rattle.std.specs.List.{cons_option}
 use Rattle.syntax.specs.Items.{field_view}
 use Rattle.syntax.specs.Named.{HasName}
 use Rattle.derive_decl.specs.declared.written_member.WrittenMember.{WrittenMember}
@@ -11,7 +10,7 @@ use Rattle.derive_decl.specs.Fields.{is_kept, kept, rules_view, written_ident, w
 use Rattle.derive_decl.specs.Resolved.{all_of, member_of}
 use Rattle.derive_decl.specs.Faults.{IsFaultyMember}
 use Rattle.derive_decl.specs.Views.{known, written_member_view}
-use Rattle.derive_decl.proofs.Growing.{fact_at, all_kept_more, some_kept_more, kept_facts_more, somewhere_kept}
+use Rattle.derive_decl.proofs.Growing.{fact_at, all_kept_more, some_kept_more, somewhere_kept}
 use Rattle.derive_decl.proofs.named_fields.resolve_members.Goals as goal
 
 pub resolve_member-requires : goal.resolve_member-requires
@@ -42,7 +41,6 @@ loop-field-preserved c =
     rw c.in_ok-push_some.ensures (
       all_kept_more field_view is_kept (member_of around rules) fields at field (map written_member_view members) (map written_member_view more) lt c.field-item.is c.loop-field.invariant.0 c.in_ok-member.ensures.member ∙ ap Some (sym (map-append written_member_view members more)),
       some_kept_more field_view is_kept (written_ident around.rows rules.rule) fields at field (map (λ m. m.ident) members) (map (λ m. m.ident) more) lt c.field-item.is c.loop-field.invariant.1 c.in_ok-member.ensures.ident ∙ sym (map-append (λ (m : WrittenMember). m.ident) members more),
-      kept_facts_more field_view is_kept (λ f. RefusesNone (IsFaultyMember around rules f)) fields at field lt c.field-item.is c.loop-field.invariant.2 c.in_ok-member.ensures.faultless,
     )
 
 pub returns-clause-members : goal.returns-clause-members
@@ -54,8 +52,3 @@ pub returns-clause-idents : goal.returns-clause-idents
 returns-clause-idents c =
     let whole : take c.loop-field.field-index c.args.fields.now ≡ c.args.fields.now = grind (arith, common_steps) in
     subst (λ fs. written_idents c.args.container.now.config.now.renames c.args.rules.now.rename_all (kept (map field_view fs)) ≡ map (λ m. m.ident) c.loop-field.members.items) whole c.loop-field.invariant.1
-
-pub returns-clause-faultless : goal.returns-clause-faultless
-returns-clause-faultless c =
-    let whole : take c.loop-field.field-index c.args.fields.now ≡ c.args.fields.now = grind (arith, common_steps) in
-    subst (λ fs. AllByRecursion (λ f. RefusesNone (IsFaultyMember (known c.args.container.now) (rules_view c.args.rules.now) f)) (kept (map field_view fs))) whole c.loop-field.invariant.2

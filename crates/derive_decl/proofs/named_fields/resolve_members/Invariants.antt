@@ -1,10 +1,7 @@
 use Rattle.std.proofs.Common.{◌≡◌, map, take, Some}
-use Rattle.std.specs.List.{AllByRecursion}
-use Rattle.diag.specs.Refusal.{RefusesNone}
 use Rattle.syntax.specs.Items.{field_view}
 use Rattle.derive_decl.specs.Fields.{kept, rules_view, written_idents}
 use Rattle.derive_decl.specs.Resolved.{all_of, member_of}
-use Rattle.derive_decl.specs.Faults.{IsFaultyMember}
 use Rattle.derive_decl.specs.Views.{known, written_member_view}
 use Rattle.derive_decl.proofs.named_fields.resolve_members.Given as goal
 
@@ -13,4 +10,3 @@ abbrev pub invariant-loop-field : goal.invariant-loop-field
 invariant-loop-field l =
     (all_of (member_of (known l.container) (rules_view l.rules)) (kept (map field_view (take l.field-index l.fields))) ≡ Some (map written_member_view l.members.items))
     × (written_idents l.container.config.now.renames l.rules.rename_all (kept (map field_view (take l.field-index l.fields))) ≡ map (λ m. m.ident) l.members.items)
-    × AllByRecursion (λ f. RefusesNone (IsFaultyMember (known l.container) (rules_view l.rules) f)) (kept (map field_view (take l.field-index l.fields)))

@@ -1,4 +1,5 @@
 use Rattle.std.proofs.Common.{inl, inr}
+use Rattle.std.proofs.lemmas.Bool.{and_from}
 use Rattle.std.proofs.lemmas.Result.{IfOk-weaker, IfErr-weaker, err_from_is_err_and}
 use Rattle.derive_decl.proofs.parameters.distinct_parameters.Goals as goal
 
@@ -8,9 +9,8 @@ returns-in_err-distinct_names-clause-refused c =
     rw (p.1, p.2)
     (elim c.in_err-distinct_names.ensures.refused [ inl memory ↦ inl memory | inr twice ↦ inr (inl twice) ])
 
-pub returns-clause-once : goal.returns-clause-once
-returns-clause-once c =
-    IfOk-weaker c.distinct_lifetimes.result _ _ (λ s once. λ e fault. elim fault [ inl twice ↦ c.in_ok-distinct_names.ensures.once e twice | inr lifetime ↦ once e lifetime ]) c.distinct_lifetimes.ensures.once
-
 pub returns-clause-refused : goal.returns-clause-refused
 returns-clause-refused c = IfErr-weaker c.distinct_lifetimes.result _ _ (λ e fault. elim fault [ inl memory ↦ inl memory | inr twice ↦ inr (inr twice) ]) c.distinct_lifetimes.ensures.refused
+
+pub returns-clause-once : goal.returns-clause-once
+returns-clause-once c = IfOk-weaker c.distinct_lifetimes.result _ _ (λ s once. and_from _ _ c.in_ok-distinct_names.ensures.once once) c.distinct_lifetimes.ensures.once

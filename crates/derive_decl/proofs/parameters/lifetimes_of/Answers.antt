@@ -3,7 +3,7 @@ use Rattle.std.proofs.lemmas.List.{take_all, append-nil}
 use Rattle.written_types.specs.declared.written.Ident.{Ident}
 use Rattle.syntax.specs.declared.item.GenericParam.{GenericParam}
 use Rattle.syntax.specs.Items.{parameter_view}
-use Rattle.derive_decl.specs.Faults.{lifetimes_of}
+use Rattle.derive_decl.specs.Lifetimes.{lifetimes_of}
 use Rattle.derive_decl.proofs.Lifetimes.{lifetimes_more}
 use Rattle.derive_decl.proofs.parameters.lifetimes_of.Goals as goal
 use Rattle.derive_decl.proofs.parameters.lifetimes_of.Goals.{in-Lifetime+in_ok-unquoted-in-Lifetime+in_ok-push-in-Lifetime, in-Ty, in-Constant}

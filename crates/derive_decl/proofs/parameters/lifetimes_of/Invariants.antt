@@ -1,6 +1,6 @@
 use Rattle.std.proofs.Common.{◌≡◌, take, map}
 use Rattle.syntax.specs.Items.{parameter_view}
-use Rattle.derive_decl.specs.Faults.{lifetimes_of}
+use Rattle.derive_decl.specs.Lifetimes.{lifetimes_of}
 use Rattle.derive_decl.proofs.parameters.lifetimes_of.Given as goal
 
 -- the lifetimes so far

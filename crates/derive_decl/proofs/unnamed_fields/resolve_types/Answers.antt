@@ -1,15 +1,13 @@
 use Rattle.std.proofs.Common.{◌≡◌, ◌<◌, length, map, take, subst, arith, inl, inr, Some}
 use Rattle.std.proofs.lemmas.Grind.{common_steps}
 use Rattle.std.proofs.lemmas.Result.{err_from_is_err_and}
-use Rattle.std.specs.List.{AllByRecursion}
 use Rattle.open_types.specs.Open.{open_view}
-use Rattle.resolving.specs.Resolved.{type_of}
-use Rattle.diag.specs.Refusal.{RefusesNone}
+use Rattle.resolving.specs.Resolved.{resolved_type}
 use Rattle.syntax.specs.Items.{FieldItem, field_view}
 use Rattle.derive_decl.specs.Resolved.{all_of}
 use Rattle.derive_decl.specs.Faults.{IsFaultyType}
 use Rattle.derive_decl.specs.Views.{known}
-use Rattle.derive_decl.proofs.Growing.{all_more, facts_more, somewhere}
+use Rattle.derive_decl.proofs.Growing.{all_more, somewhere}
 use Rattle.derive_decl.proofs.unnamed_fields.resolve_types.Goals as goal
 
 pub returns-in_err-resolve-clause-refused : goal.returns-in_err-resolve-clause-refused
@@ -28,17 +26,9 @@ loop-field-preserved c =
     let at = c.loop-field.field-index in
     let field = c.field-item.result in
     let lt : at < length fields = omega arith in
-    rw c.in_ok-push.ensures.ok (
-      all_more (λ (f : FieldItem). type_of (known c.args.container.now).known f.ty) field_view open_view fields at field c.loop-field.types _ lt c.field-item.is c.loop-field.invariant.0 c.in_ok-resolve.ensures.resolved,
-      facts_more (λ f. RefusesNone (IsFaultyType (known c.args.container.now) f)) field_view fields at field lt c.field-item.is c.loop-field.invariant.1 (λ e h. c.in_ok-resolve.ensures.faultless h.0 h.1),
-    )
+    rw c.in_ok-push.ensures.ok (all_more (λ (f : FieldItem). resolved_type (known c.args.container.now).known f.ty) field_view open_view fields at field c.loop-field.types _ lt c.field-item.is c.loop-field.invariant c.in_ok-resolve.ensures.resolved)
 
 pub returns-clause-types : goal.returns-clause-types
 returns-clause-types c =
     let whole : take c.loop-field.field-index c.args.fields.now ≡ c.args.fields.now = grind (arith, common_steps) in
-    subst (λ fs. all_of (λ (f : FieldItem). type_of (known c.args.container.now).known f.ty) (map field_view fs) ≡ Some (map open_view c.loop-field.types)) whole c.loop-field.invariant.0
-
-pub returns-clause-faultless : goal.returns-clause-faultless
-returns-clause-faultless c =
-    let whole : take c.loop-field.field-index c.args.fields.now ≡ c.args.fields.now = grind (arith, common_steps) in
-    subst (λ fs. AllByRecursion (λ f. RefusesNone (IsFaultyType (known c.args.container.now) f)) (map field_view fs)) whole c.loop-field.invariant.1
+    subst (λ fs. all_of (λ (f : FieldItem). resolved_type (known c.args.container.now).known f.ty) (map field_view fs) ≡ Some (map open_view c.loop-field.types)) whole c.loop-field.invariant

@@ -1,16 +1,12 @@
 use Rattle.std.proofs.Common.{◌≡◌, map, take, Some}
-use Rattle.std.specs.List.{AllByRecursion}
 use Rattle.open_types.specs.Open.{open_view}
-use Rattle.resolving.specs.Resolved.{type_of}
-use Rattle.diag.specs.Refusal.{RefusesNone}
+use Rattle.resolving.specs.Resolved.{resolved_type}
 use Rattle.syntax.specs.Items.{FieldItem, field_view}
 use Rattle.derive_decl.specs.Resolved.{all_of}
-use Rattle.derive_decl.specs.Faults.{IsFaultyType}
 use Rattle.derive_decl.specs.Views.{known}
 use Rattle.derive_decl.proofs.unnamed_fields.resolve_types.Given as goal
 
 -- the types so far are those of the fields so far
 abbrev pub invariant-loop-field : goal.invariant-loop-field
 invariant-loop-field l =
-    (all_of (λ (f : FieldItem). type_of (known l.container).known f.ty) (map field_view (take l.field-index l.fields)) ≡ Some (map open_view l.types))
-    × AllByRecursion (λ f. RefusesNone (IsFaultyType (known l.container) f)) (map field_view (take l.field-index l.fields))
+    all_of (λ (f : FieldItem). resolved_type (known l.container).known f.ty) (map field_view (take l.field-index l.fields)) ≡ Some (map open_view l.types)

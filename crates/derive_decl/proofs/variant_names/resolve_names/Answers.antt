@@ -1,13 +1,12 @@
 use Rattle.std.proofs.Common.{◌≡◌, ◌<◌, [], length, map, take, subst, arith, inl, inr, Some}
 use Rattle.std.proofs.lemmas.Grind.{common_steps}
 use Rattle.std.proofs.lemmas.Result.{err_from_is_err_and}
-use Rattle.std.specs.List.{AllByRecursion, cons_option}
-use Rattle.diag.specs.Refusal.{RefusesNone}
+use Rattle.std.specs.List.{cons_option}
 use Rattle.syntax.specs.Items.{variant_view}
 use Rattle.derive_decl.specs.Variants.{is_kept_variant, kept_variants, variant_ident}
 use Rattle.derive_decl.specs.Resolved.{all_of}
 use Rattle.derive_decl.specs.Faults.{IsUnnamed}
-use Rattle.derive_decl.proofs.Growing.{all_kept_more, kept_facts_more, somewhere_kept}
+use Rattle.derive_decl.proofs.Growing.{all_kept_more, somewhere_kept}
 use Rattle.derive_decl.proofs.variant_names.resolve_names.Goals as goal
 
 pub returns-in_err-name-clause-refused : goal.returns-in_err-name-clause-refused
@@ -28,18 +27,9 @@ loop-variant-preserved c =
     let variant = c.variant-item.result in
     let lt : at < length variants = omega arith in
     let name = variant_ident c.args.config.now.renames c.args.rule c.args.tagging.now in
-    rw c.in_ok-push_some.ensures (
-      all_kept_more variant_view is_kept_variant name variants at variant c.loop-variant.names.items (cons_option c.in_ok-name.name []) lt c.variant-item.is c.loop-variant.invariant.0 c.in_ok-name.ensures.name,
-      kept_facts_more variant_view is_kept_variant (λ v. RefusesNone (IsUnnamed c.args.config.now.renames c.args.rule c.args.tagging.now v)) variants at variant lt c.variant-item.is c.loop-variant.invariant.1
-          c.in_ok-name.ensures.faultless,
-    )
+    rw c.in_ok-push_some.ensures (all_kept_more variant_view is_kept_variant name variants at variant c.loop-variant.names.items (cons_option c.in_ok-name.name []) lt c.variant-item.is c.loop-variant.invariant c.in_ok-name.ensures.name)
 
 pub returns-clause-names : goal.returns-clause-names
 returns-clause-names c =
     let whole : take c.loop-variant.variant-index c.args.variants.now ≡ c.args.variants.now = grind (arith, common_steps) in
-    subst (λ vs. all_of (variant_ident c.args.config.now.renames c.args.rule c.args.tagging.now) (kept_variants (map variant_view vs)) ≡ Some c.loop-variant.names.items) whole c.loop-variant.invariant.0
-
-pub returns-clause-faultless : goal.returns-clause-faultless
-returns-clause-faultless c =
-    let whole : take c.loop-variant.variant-index c.args.variants.now ≡ c.args.variants.now = grind (arith, common_steps) in
-    subst (λ vs. AllByRecursion (λ v. RefusesNone (IsUnnamed c.args.config.now.renames c.args.rule c.args.tagging.now v)) (kept_variants (map variant_view vs))) whole c.loop-variant.invariant.1
+    subst (λ vs. all_of (variant_ident c.args.config.now.renames c.args.rule c.args.tagging.now) (kept_variants (map variant_view vs)) ≡ Some c.loop-variant.names.items) whole c.loop-variant.invariant

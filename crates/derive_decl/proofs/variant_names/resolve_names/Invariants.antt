@@ -1,14 +1,10 @@
 use Rattle.std.proofs.Common.{◌≡◌, map, take, Some}
-use Rattle.std.specs.List.{AllByRecursion}
-use Rattle.diag.specs.Refusal.{RefusesNone}
 use Rattle.syntax.specs.Items.{variant_view}
 use Rattle.derive_decl.specs.Variants.{kept_variants, variant_ident}
 use Rattle.derive_decl.specs.Resolved.{all_of}
-use Rattle.derive_decl.specs.Faults.{IsUnnamed}
 use Rattle.derive_decl.proofs.variant_names.resolve_names.Given as goal
 
 -- the names so far are those of the variants so far that are kept
 abbrev pub invariant-loop-variant : goal.invariant-loop-variant
 invariant-loop-variant l =
-    (all_of (variant_ident l.config.renames l.rule l.tagging) (kept_variants (map variant_view (take l.variant-index l.variants))) ≡ Some l.names.items)
-    × AllByRecursion (λ v. RefusesNone (IsUnnamed l.config.renames l.rule l.tagging v)) (kept_variants (map variant_view (take l.variant-index l.variants)))
+    all_of (variant_ident l.config.renames l.rule l.tagging) (kept_variants (map variant_view (take l.variant-index l.variants))) ≡ Some l.names.items

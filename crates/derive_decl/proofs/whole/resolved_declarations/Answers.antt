@@ -1,18 +1,15 @@
-use Rattle.std.proofs.Common.{◌≡◌, ◌<◌, ◌∙◌, List, length, get_or, map, take, ap, sym, subst, arith, inl, inr, Some}
+use Rattle.std.proofs.Common.{◌≡◌, ◌<◌, ◌∙◌, List, length, get_or, map, take, ap, subst, arith, inl, inr, None, Some}
 use Rattle.std.proofs.lemmas.Grind.{common_steps}
-use Rattle.std.proofs.lemmas.List.{map_push}
 use Rattle.std.proofs.lemmas.Result.{err_from_is_err_and}
-use Rattle.std.specs.List.{AllByRecursion}
-use Rattle.diag.specs.Refusal.{RefusesNone}
 use Rattle.syntax.specs.declared.item.Declaration.{Declaration}
-use Rattle.syntax.specs.Items.{declaration_view, declarations_view, DeclaredItem}
+use Rattle.syntax.specs.Items.{declaration_view, declarations_view}
 use Rattle.syntax.specs.Named.{IsNamedBody}
-use Rattle.shapes.specs.Declarations.{AreApartBodies}
+use Rattle.derive_decl.specs.Attributed.{attributes_in, first_other}
 use Rattle.derive_decl.specs.Resolved.{around_of, all_of, resolved_of, Around}
 use Rattle.derive_decl.specs.Faults.{IsFaultyItem}
 use Rattle.shapes.specs.Views.{declaration_view as resolved_view}
-use Rattle.derive_decl.proofs.Faultless.{none_somewhere}
-use Rattle.derive_decl.proofs.Growing.{all_more, facts_more, fact_at, somewhere, apart-push}
+use Rattle.derive_decl.proofs.First.{each_derivable}
+use Rattle.derive_decl.proofs.Growing.{all_more, fact_at, somewhere}
 use Rattle.derive_decl.proofs.Over.{names_are, all_fitting}
 use Rattle.derive_decl.proofs.whole.resolved_declarations.Goals as goal
 use Rattle.derive_decl.specs.Whole.{resolved_among}
@@ -51,47 +48,44 @@ loop-owner-preserved c =
     let is : d ≡ get_or items at d = c.index-as_slice-owner.is ∙ ap (λ (xs : List Declaration). get_or xs at d) c.as_slice.ensures in
     let same : known_here c.in_ok-scope.scope c.args.config.now ≡ around_of c.args.config.now.renames (declarations_view c.args.places.now.declarations.now) (declaration_view d).generics =
     around_is c.args.config.now.renames c.in_ok-scope.scope.places.now.declarations.now c.args.places.now.declarations.now c.in_ok-scope.scope.owner at d (ap (λ (places : Places). places.declarations.now) c.in_ok-scope.ensures.places) c.in_ok-scope.ensures.owner lt is in
-    rw c.in_ok-push.ensures.ok (
-      all_more (resolved_among c.args.config.now.renames (declarations_view c.args.places.now.declarations.now)) declaration_view resolved_view items at d c.loop-owner.resolved _ lt is c.loop-owner.invariant.0
-          (subst (λ around. resolved_of around (declaration_view d) ≡ Some (resolved_view c.in_ok-resolved_of.field-0)) same c.in_ok-resolved_of.ensures.resolved),
-      subst AreApartBodies (sym (map_push resolved_view c.loop-owner.resolved _)) (apart-push (map resolved_view c.loop-owner.resolved) _ c.loop-owner.invariant.1 c.in_ok-resolved_of.ensures.apart),
-      facts_more (λ x. RefusesNone (IsFaultyItem (around_of c.args.config.now.renames (declarations_view c.args.places.now.declarations.now) x.generics) x)) declaration_view items at d lt is c.loop-owner.invariant.2
-          (subst (λ around. RefusesNone (IsFaultyItem around (declaration_view d))) same c.in_ok-resolved_of.ensures.faultless),
-    )
+    rw c.in_ok-push.ensures.ok (all_more (resolved_among c.args.config.now.renames (declarations_view c.args.places.now.declarations.now)) declaration_view resolved_view items at d c.loop-owner.resolved _ lt is c.loop-owner.invariant
+    (subst (λ around. resolved_of around (declaration_view d) ≡ Some (resolved_view c.in_ok-resolved_of.field-0)) same c.in_ok-resolved_of.ensures.resolved))
 
-pub resolved_of-requires : goal.resolved_of-requires
-resolved_of-requires c =
+pub resolved_of-requires-clause-named : goal.resolved_of-requires-clause-named
+resolved_of-requires-clause-named c =
     let items = c.args.places.now.declarations.now.items in
     let at = c.loop-owner.owner in
     let d = c.index-as_slice-owner.result in
     let lt : at < length items = omega arith in
     let is : d ≡ get_or items at d = c.index-as_slice-owner.is ∙ ap (λ (xs : List Declaration). get_or xs at d) c.as_slice.ensures in
-    fact_at (λ x. IsNamedBody x.body) declaration_view items at d lt is c.requires
+    fact_at (λ x. IsNamedBody x.body) declaration_view items at d lt is c.requires.named
+
+pub resolved_of-requires-clause-derivable : goal.resolved_of-requires-clause-derivable
+resolved_of-requires-clause-derivable c =
+    let items = c.args.places.now.declarations.now.items in
+    let at = c.loop-owner.owner in
+    let d = c.index-as_slice-owner.result in
+    let lt : at < length items = omega arith in
+    let is : d ≡ get_or items at d = c.index-as_slice-owner.is ∙ ap (λ (xs : List Declaration). get_or xs at d) c.as_slice.ensures in
+    fact_at (λ x. first_other (attributes_in x) ≡ None) declaration_view items at d lt is (each_derivable (map declaration_view items) c.requires.derivable)
 
 -- all of them, where the loop has ended
 pub returns-clause-resolved : goal.returns-clause-resolved
 returns-clause-resolved c =
     let whole : take c.loop-owner.owner c.args.places.now.declarations.now.items ≡ c.args.places.now.declarations.now.items = grind (arith, common_steps) in
     let rows = c.args.config.now.renames in
-    subst (λ ds. all_of (resolved_among rows (declarations_view c.args.places.now.declarations.now)) (map declaration_view ds) ≡ Some (map resolved_view c.loop-owner.resolved)) whole c.loop-owner.invariant.0
+    subst (λ ds. all_of (resolved_among rows (declarations_view c.args.places.now.declarations.now)) (map declaration_view ds) ≡ Some (map resolved_view c.loop-owner.resolved)) whole c.loop-owner.invariant
 
 pub returns-clause-names : goal.returns-clause-names
 returns-clause-names c =
     let whole : take c.loop-owner.owner c.args.places.now.declarations.now.items ≡ c.args.places.now.declarations.now.items = grind (arith, common_steps) in
     let rows = c.args.config.now.renames in
     let ds = declarations_view c.args.places.now.declarations.now in
-    names_are rows ds (map resolved_view c.loop-owner.resolved) (subst (λ xs. all_of (resolved_among rows ds) (map declaration_view xs) ≡ Some (map resolved_view c.loop-owner.resolved)) whole c.loop-owner.invariant.0)
+    names_are rows ds (map resolved_view c.loop-owner.resolved) (subst (λ xs. all_of (resolved_among rows ds) (map declaration_view xs) ≡ Some (map resolved_view c.loop-owner.resolved)) whole c.loop-owner.invariant)
 
 pub returns-clause-fitting : goal.returns-clause-fitting
 returns-clause-fitting c =
     let whole : take c.loop-owner.owner c.args.places.now.declarations.now.items ≡ c.args.places.now.declarations.now.items = grind (arith, common_steps) in
     let rows = c.args.config.now.renames in
     let ds = declarations_view c.args.places.now.declarations.now in
-    all_fitting c.resolved_are_over.ensures rows ds (map resolved_view c.loop-owner.resolved) (subst (λ xs. all_of (resolved_among rows ds) (map declaration_view xs) ≡ Some (map resolved_view c.loop-owner.resolved)) whole c.loop-owner.invariant.0)
-
-pub returns-clause-faultless : goal.returns-clause-faultless
-returns-clause-faultless c =
-    let whole : take c.loop-owner.owner c.args.places.now.declarations.now.items ≡ c.args.places.now.declarations.now.items = grind (arith, common_steps) in
-    let ds = declarations_view c.args.places.now.declarations.now in
-    let around = λ (d : DeclaredItem). around_of c.args.config.now.renames ds d.generics in
-    none_somewhere (λ x. IsFaultyItem (around x) x) ds (subst (λ xs. AllByRecursion (λ x. RefusesNone (IsFaultyItem (around x) x)) (map declaration_view xs)) whole c.loop-owner.invariant.2)
+    all_fitting c.resolved_are_over.ensures rows ds (map resolved_view c.loop-owner.resolved) (subst (λ xs. all_of (resolved_among rows ds) (map declaration_view xs) ≡ Some (map resolved_view c.loop-owner.resolved)) whole c.loop-owner.invariant)

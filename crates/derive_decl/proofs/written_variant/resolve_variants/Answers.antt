@@ -2,18 +2,15 @@ use Rattle.std.proofs.Common.{◌≡◌, ◌∙◌, ◌<◌, [], length, map, fi
 use Rattle.std.proofs.lemmas.Grind.{common_steps}
 use Rattle.std.proofs.lemmas.List.{map-append}
 use Rattle.std.proofs.lemmas.Result.{err_from_is_err_and}
-use Rattle.std.specs.List.{AllByRecursion, cons_option}
-use Rattle.diag.specs.Refusal.{RefusesNone}
+use Rattle.std.specs.List.{cons_option}
 use Rattle.syntax.specs.Items.{variant_view}
 use Rattle.syntax.specs.Named.{HaveNames}
-use Rattle.shapes.specs.Declarations.{AreApartVariants}
 use Rattle.derive_decl.specs.declared.written_variant.WrittenVariant.{WrittenVariant}
 use Rattle.derive_decl.specs.Variants.{is_kept_variant, kept_variants, variant_ident}
 use Rattle.derive_decl.specs.Resolved.{all_of, variant_of}
 use Rattle.derive_decl.specs.Faults.{IsFaultyVariant}
 use Rattle.derive_decl.specs.Views.{known, written_variant_view}
-use Rattle.derive_decl.proofs.Growing.{fact_at, all_kept_more, some_kept_more, kept_facts_more, somewhere_kept}
-use Rattle.derive_decl.proofs.EnumLaws.{apart-append}
+use Rattle.derive_decl.proofs.Growing.{fact_at, all_kept_more, some_kept_more, somewhere_kept}
 use Rattle.derive_decl.proofs.written_variant.resolve_variants.Goals as goal
 
 pub resolve_variant-requires : goal.resolve_variant-requires
@@ -47,8 +44,6 @@ loop-variant-preserved c =
           c.in_ok-kept.ensures.variant ∙ ap Some (sym (map-append written_variant_view resolved more)),
       some_kept_more variant_view is_kept_variant (variant_ident around.rows c.args.rule tagging) variants at variant (map (λ x. x.ident) resolved) (map (λ x. x.ident) more) lt c.variant-item.is c.loop-variant.invariant.1
           c.in_ok-kept.ensures.ident ∙ sym (map-append (λ (x : WrittenVariant). x.ident) resolved more),
-      subst (AreApartVariants tagging) (sym (map-append written_variant_view resolved more)) (apart-append tagging (map written_variant_view resolved) (map written_variant_view more) c.loop-variant.invariant.2 c.in_ok-kept.ensures.apart),
-      kept_facts_more variant_view is_kept_variant (λ v. RefusesNone (IsFaultyVariant around c.args.rule tagging v)) variants at variant lt c.variant-item.is c.loop-variant.invariant.3 c.in_ok-kept.ensures.faultless,
     )
 
 pub returns-clause-variants : goal.returns-clause-variants
@@ -61,8 +56,3 @@ returns-clause-idents c =
     let whole : take c.loop-variant.variant-index c.args.variants.now ≡ c.args.variants.now = grind (arith, common_steps) in
     subst (λ vs. filter_map (variant_ident c.args.root.now.container.now.config.now.renames c.args.rule c.args.tagging.now) (kept_variants (map variant_view vs)) ≡ map (λ (x : WrittenVariant). x.ident) c.loop-variant.resolved.items)
     whole c.loop-variant.invariant.1
-
-pub returns-clause-faultless : goal.returns-clause-faultless
-returns-clause-faultless c =
-    let whole : take c.loop-variant.variant-index c.args.variants.now ≡ c.args.variants.now = grind (arith, common_steps) in
-    subst (λ vs. AllByRecursion (λ v. RefusesNone (IsFaultyVariant (known c.args.root.now.container.now) c.args.rule c.args.tagging.now v)) (kept_variants (map variant_view vs))) whole c.loop-variant.invariant.3

@@ -1,12 +1,8 @@
 use Rattle.std.proofs.Common.{◌≡◌, map, filter_map, take, Some}
-use Rattle.std.specs.List.{AllByRecursion}
-use Rattle.diag.specs.Refusal.{RefusesNone}
 use Rattle.syntax.specs.Items.{variant_view}
-use Rattle.shapes.specs.Declarations.{AreApartVariants}
 use Rattle.derive_decl.specs.declared.written_variant.WrittenVariant.{WrittenVariant}
 use Rattle.derive_decl.specs.Variants.{kept_variants, variant_ident}
 use Rattle.derive_decl.specs.Resolved.{all_of, variant_of}
-use Rattle.derive_decl.specs.Faults.{IsFaultyVariant}
 use Rattle.derive_decl.specs.Views.{known, written_variant_view}
 use Rattle.derive_decl.proofs.written_variant.resolve_variants.Given as goal
 
@@ -15,5 +11,3 @@ abbrev pub invariant-loop-variant : goal.invariant-loop-variant
 invariant-loop-variant l =
     (all_of (variant_of (known l.root.container.now) l.rule l.tagging) (kept_variants (map variant_view (take l.variant-index l.variants))) ≡ Some (map written_variant_view l.resolved.items))
     × (filter_map (variant_ident l.root.container.now.config.now.renames l.rule l.tagging) (kept_variants (map variant_view (take l.variant-index l.variants))) ≡ map (λ (x : WrittenVariant). x.ident) l.resolved.items)
-    × AreApartVariants l.tagging (map written_variant_view l.resolved.items)
-    × AllByRecursion (λ v. RefusesNone (IsFaultyVariant (known l.root.container.now) l.rule l.tagging v)) (kept_variants (map variant_view (take l.variant-index l.variants)))

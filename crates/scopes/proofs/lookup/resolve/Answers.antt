@@ -1,40 +1,34 @@
-use Rattle.std.proofs.Common.{◌≡◌, ◌⊎◌, length, Some, Result, Ok, Err, ◌∙◌, subst, IfOk, IfErr}
+use Rattle.std.proofs.Common.{◌≡◌, ◌⊎◌, length, Bool, true, false, cond, Option, Some, None, ◌∙◌, subst, IfOk, IfErr}
+use Rattle.std.proofs.lemmas.Option.{none-some}
 use Rattle.std.proofs.lemmas.Result.{IfOk-weaker}
 use Rattle.std.specs.BTreeMap.{get_by_text}
 use Rattle.diag.specs.declared.error.DeriveError.TheVariants.{Memory}
 use Rattle.written_types.specs.Written.{written_view}
-use Rattle.open_types.specs.Open.{open_view}
-use Rattle.resolving.specs.Resolved.{type_of, Fault, IsFault, IsRefusedFor}
+use Rattle.open_types.specs.Open.{Open, open_view}
+use Rattle.resolving.specs.Resolved.{resolved_type, Fault, IsFault, IsRefusedFor}
 use Rattle.scopes.specs.Scopes.{declared_in, generics_in, parameters_in, known_in}
 use Rattle.scopes.specs.Parameters.{type_parameters}
 use Rattle.scopes.proofs.Declared.{placed}
 use Rattle.scopes.proofs.Given.{known_is, place_below}
 use Rattle.scopes.proofs.lookup.resolve.Goals as goal
 
--- of what two facts say together
-IfOk-both : {A B : Type 0} (r : Result A B) (P Q R : A → Type 0) → ((x : A) → P x → Q x → R x) → IfOk r P → IfOk r Q → IfOk r R
-IfOk-both (Ok x) P Q R f p q = f x p q
-IfOk-both (Err e) P Q R f p q = tt
+-- what is resolved stands for that
+chosen : (b : Bool) (o : Option Open) (u : Open) → cond b o None ≡ Some u → o ≡ Some u
+chosen true o u e = e
+chosen false o u e = absurd (none-some u e)
 
 pub returns-clause-resolved : goal.returns-clause-resolved
 returns-clause-resolved c =
     let scope = c.args.scope.now in
     let is = known_is (declared_in scope) (generics_in scope) (get_by_text scope.places.now.by_name) (get_by_text scope.parameters) (get_by_text scope.constants) c.as_slice.result.now scope.places.now.placed (c.as_slice.ensures ∙ scope.places.now.counted) scope.typed scope.constant in
-    subst (λ known. IfOk c.resolve_type.result (λ t. type_of known (written_view c.args.ty.now) ≡ Some (open_view t))) is c.resolve_type.ensures.resolved
-
-pub returns-clause-faultless : goal.returns-clause-faultless
-returns-clause-faultless c =
-    let scope = c.args.scope.now in
-    let is = known_is (declared_in scope) (generics_in scope) (get_by_text scope.places.now.by_name) (get_by_text scope.parameters) (get_by_text scope.constants) c.as_slice.result.now scope.places.now.placed (c.as_slice.ensures ∙ scope.places.now.counted) scope.typed scope.constant in
-    subst (λ known. IfOk c.resolve_type.result (λ _. (fault : Fault) → ¬ IsFault known (written_view c.args.ty.now) fault)) is
-    (IfOk-both c.resolve_type.result _ _ _ (λ t found small. c.resolved_have_no_fault.ensures _ (written_view c.args.ty.now) (open_view t) found small) c.resolve_type.ensures.resolved c.resolve_type.ensures.small)
+    subst (λ known. IfOk c.resolve_type.result (λ t. resolved_type known (written_view c.args.ty.now) ≡ Some (open_view t))) is c.resolve_type.ensures.resolved
 
 pub returns-clause-over : goal.returns-clause-over
 returns-clause-over c =
     let scope = c.args.scope.now in
     let ds = declared_in scope in
     IfOk-weaker c.resolve_type.result _ _
-    (λ t found. c.resolved_are_over.ensures (known_in scope) (length ds) (parameters_in scope) (placed ds) (λ k i is. place_below k (type_parameters (generics_in scope)) i is) (written_view c.args.ty.now) (open_view t) found)
+    (λ t found. c.resolved_are_over.ensures (known_in scope) (length ds) (parameters_in scope) (placed ds) (λ k i is. place_below k (type_parameters (generics_in scope)) i is) (written_view c.args.ty.now) (open_view t) (chosen _ _ (open_view t) found))
     (returns-clause-resolved c)
 
 pub returns-clause-refused : goal.returns-clause-refused

@@ -1,11 +1,12 @@
-use Rattle.std.proofs.Common.{map, inl, inr}
+use Rattle.std.proofs.Common.{map, Some, ap, sym, ◌∙◌, inl, inr}
 use Rattle.std.proofs.lemmas.Result.{err_from_is_err_and}
 use Rattle.syntax.specs.Items.{variant_view}
 use Rattle.shapes.specs.Views.{body_view}
 use Rattle.derive_decl.specs.Resolved.{units_of}
 use Rattle.derive_decl.specs.Faults.{AreUnnamed}
-use Rattle.derive_decl.specs.Views.{items_of, known}
-use Rattle.declaration_schemas.proofs.Rules.{body-by, refused-by, faultless-by}
+use Rattle.derive_decl.specs.Views.{attributes_of, items_of, known}
+use Rattle.declaration_schemas.specs.Remarks.{with_remarks}
+use Rattle.declaration_schemas.proofs.Rules.{body-by, refused-by}
 use Rattle.declaration_schemas.proofs.enums.PlainEnum.new.Goals as goal
 
 pub returns-in_err-rules-clause-refused : goal.returns-in_err-rules-clause-refused
@@ -26,12 +27,8 @@ returns-in_err-body-clause-refused c =
 
 pub returns-clause-body : goal.returns-clause-body
 returns-clause-body c =
+    let root = c.args.root.now in
     let rules = c.in_ok-rules.rules in
-    body-by (items_of c.args.root.now) rules.rule rules.tagging c.in_ok-rules.ensures.rule c.in_ok-rules.ensures.tagging
-    (λ r. units_of (known c.args.root.now.container.now) r (map variant_view c.args.variants.now)) (body_view c.in_ok-body.body) c.in_ok-body.ensures.units
-
-pub returns-clause-faultless : goal.returns-clause-faultless
-returns-clause-faultless c e (inl fault) = c.in_ok-rules.ensures.faultless e fault
-returns-clause-faultless c e (inr (tagging, is, fault)) =
-    let rules = c.in_ok-rules.rules in
-    faultless-by (items_of c.args.root.now) rules.rule rules.tagging c.in_ok-rules.ensures.rule c.in_ok-rules.ensures.tagging (λ r t. AreUnnamed (known c.args.root.now.container.now).rows r t (map variant_view c.args.variants.now)) c.in_ok-body.ensures.faultless e tagging is fault
+    let body = body_view c.in_ok-body.body in
+    ap (with_remarks (attributes_of root)) (body-by (items_of root) rules.rule rules.tagging c.in_ok-rules.ensures.rule c.in_ok-rules.ensures.tagging (λ r. units_of (known root.container.now) r (map variant_view c.args.variants.now)) body c.in_ok-rules.ensures.allowed c.in_ok-body.ensures.units)
+    ∙ ap (λ remarks. Some (remarks, body)) (sym c.in_ok-remarks_of.ensures)

@@ -1,0 +1,43 @@
+-- The attributes of declarations, and those from which nothing is derived.
+use Rattle.std.specs.Prelude.{List, [], ◌∷◌, ◌++◌, ◌||◌, Bool, cond, Option, Some, None, is_none, codes}
+use Rattle.std.specs.List.{flat_map}
+use Rattle.texts.specs.declared.span.Span.{Span}
+use Rattle.attributes.specs.Attributes.{AttributeItem, is_word}
+use Rattle.serde_rules.specs.Items.{has_item}
+use Rattle.syntax.specs.Items.{FieldItem, FieldItems, named, unnamed, unit, BodyItem, struct_body, enum_body, DeclaredItem}
+
+abbrev pub fields_in : FieldItems → List FieldItem
+fields_in (named fs) = fs
+fields_in (unnamed fs) = fs
+fields_in unit = []
+
+abbrev pub attributes_on : FieldItems → List AttributeItem
+attributes_on fs = flat_map (λ f. f.attrs) (fields_in fs)
+
+-- the attributes of the fields, or of each variant and its fields
+abbrev pub attributes_inside : BodyItem → List AttributeItem
+attributes_inside (struct_body fs) = attributes_on fs
+attributes_inside (enum_body vs) = flat_map (λ v. v.attrs ++ attributes_on v.fields) vs
+
+-- the attributes of a declaration and of its variants and fields, in order; those of its parameters are not kept
+abbrev pub attributes_with : List AttributeItem → BodyItem → List AttributeItem
+attributes_with attrs body = attrs ++ attributes_inside body
+
+abbrev pub attributes_in : DeclaredItem → List AttributeItem
+attributes_in d = attributes_with d.attrs d.body
+
+abbrev pub attributes_among : List DeclaredItem → List AttributeItem
+attributes_among ds = flat_map attributes_in ds
+
+-- an attribute of `schema` or `repr`, or a serde list that flattens: nothing is derived from these
+abbrev pub is_other : AttributeItem → Bool
+is_other a = is_word (codes "schema") a.path || is_word (codes "repr") a.path || has_item (codes "flatten") a.items
+
+-- where the first of these stands
+abbrev pub first_other : List AttributeItem → Option Span
+first_other [] = None
+first_other (a ∷ others) = cond (is_other a) (Some a.span) (first_other others)
+
+-- something is derived from each of these
+abbrev pub are_derivable : List AttributeItem → Bool
+are_derivable attrs = is_none (first_other attrs)
