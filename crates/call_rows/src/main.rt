@@ -2,6 +2,7 @@
 #![tactic(auto)]
 
 mod accepted;
+mod answers;
 mod arguments;
 mod composed;
 mod reported;

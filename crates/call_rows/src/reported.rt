@@ -37,35 +37,30 @@ fn joined(alloc: Global, given: &Value) -> anyhow::Result<Option<Diagnostics>> {
 }
 
 /// The entries as a report prints them.
-fn report_text(alloc: Global, diagnostics: &Diagnostics) -> Result<String, AllocError> {
-    let text = diagnostics.text(alloc)?;
-    String::from_str(alloc, text.as_str())
+fn report_text(alloc: Global, entries: &Option<Diagnostics>) -> Result<String, AllocError> {
+    match entries {
+        Some(diagnostics) => String::from_str(alloc, diagnostics.text(alloc)?.as_str()),
+        None => String::from_str(alloc, "no diagnostics"),
+    }
 }
 
 /// The joined entries as a report prints them.
 pub(crate) fn report(alloc: Global, given: &Value) -> anyhow::Result<String> {
-    let text = match joined(alloc, given)? {
-        Some(diagnostics) => report_text(alloc, &diagnostics),
-        None => String::from_str(alloc, "no diagnostics"),
-    };
-    Ok(text?)
+    let entries = joined(alloc, given)?;
+    Ok(report_text(alloc, &entries)?)
 }
 
 /// How many suggestions and how many instances the first entry has, and its message.
-fn first_text(alloc: Global, diagnostics: &Diagnostics) -> Result<String, AllocError> {
-    let mut text = diagnostics.suggestions().len().to_string(alloc)?;
-    text.push_str(" ")?;
-    text.push_str(diagnostics.instances().len().to_string(alloc)?.as_str())?;
-    text.push_str(" ")?;
-    text.push_str(diagnostics.message())?;
-    Ok(text)
+fn first_text(alloc: Global, entries: &Option<Diagnostics>) -> Result<String, AllocError> {
+    let Some(first) = entries else {
+        return String::from_str(alloc, "no diagnostics");
+    };
+    let (suggestions, instances) = (first.suggestions().len(), first.instances().len());
+    format!(in alloc; "{suggestions} {instances} {}", first.message())
 }
 
 /// What the first of the joined entries has.
 pub(crate) fn first(alloc: Global, given: &Value) -> anyhow::Result<String> {
-    let text = match joined(alloc, given)? {
-        Some(diagnostics) => first_text(alloc, &diagnostics),
-        None => String::from_str(alloc, "no diagnostics"),
-    };
-    Ok(text?)
+    let entries = joined(alloc, given)?;
+    Ok(first_text(alloc, &entries)?)
 }

@@ -1,7 +1,9 @@
 //! Single words, tokens and values.
 
+use crate::answers::equality;
 use anyhow::bail;
 use configuration::{Config, SchemaCollect};
+use diag::DeriveError;
 use lexing::lex;
 use rows::given::text_of;
 use schema_core::Components;
@@ -13,13 +15,18 @@ use texts::Text;
 use tokens::{Cursor, TokenTree};
 use words::lifetime_at;
 
-/// The lifetime that the text begins with.
-pub(crate) fn lifetime(alloc: Global, given: &Value) -> anyhow::Result<String> {
-    let trees = lex(alloc, text_of(given)?)?;
-    let Ok((token, _)) = lifetime_at(trees.as_slice()) else {
+/// The lifetime that the trees begin with.
+fn first_lifetime(alloc: Global, trees: &[TokenTree]) -> anyhow::Result<String> {
+    let Ok((token, _)) = lifetime_at(trees) else {
         bail!("no lifetime");
     };
     Ok(String::from_str(alloc, token.text.as_str())?)
+}
+
+/// The lifetime that the text begins with.
+pub(crate) fn lifetime(alloc: Global, given: &Value) -> anyhow::Result<String> {
+    let trees = lex(alloc, text_of(given)?)?;
+    first_lifetime(alloc, trees.as_slice())
 }
 
 /// Whether a copy of the tree is equal.
@@ -28,7 +35,7 @@ fn has_equal_copy(alloc: Global, tree: &TokenTree) -> Result<bool, AllocError> {
 }
 
 /// How many trees stand in front of the first whose copy is not equal, or of the end.
-fn count_equal(alloc: Global, trees: &[TokenTree]) -> Result<usize, AllocError> {
+fn count_equal(alloc: Global, trees: &[TokenTree]) -> Result<usize, DeriveError> {
     let mut cursor = Cursor::new(trees);
     let mut count = 0usize;
     for _ in 0..trees.len() {
@@ -45,9 +52,14 @@ fn count_equal(alloc: Global, trees: &[TokenTree]) -> Result<usize, AllocError> 
 }
 
 /// How many trees the text has, read and copied one by one.
+fn count_of(alloc: Global, source: &str) -> Result<usize, DeriveError> {
+    let trees = lex(alloc, source)?;
+    count_equal(alloc, trees.as_slice())
+}
+
+/// How many trees the text has, read and copied one by one.
 pub(crate) fn count(alloc: Global, given: &Value) -> anyhow::Result<String> {
-    let trees = lex(alloc, text_of(given)?)?;
-    let count = count_equal(alloc, trees.as_slice())?;
+    let count = count_of(alloc, text_of(given)?)?;
     Ok(count.to_string(alloc)?)
 }
 
@@ -57,15 +69,16 @@ fn is_equal_copy(alloc: Global, of: &SerdeEnumRepr) -> Result<bool, AllocError> 
 }
 
 /// Whether a copy of the representation with the tag is equal.
-pub(crate) fn representation(alloc: Global, given: &Value) -> anyhow::Result<String> {
-    let tag = Text::new(alloc, text_of(given)?)?;
+fn has_equal_representation(alloc: Global, tag: &str) -> Result<bool, AllocError> {
+    let tag = Text::new(alloc, tag)?;
     let of = SerdeEnumRepr::InternallyTagged { tag };
-    let word = if is_equal_copy(alloc, &of)? {
-        "equal"
-    } else {
-        "not equal"
-    };
-    Ok(String::from_str(alloc, word)?)
+    is_equal_copy(alloc, &of)
+}
+
+/// Whether a copy of the representation with the tag is equal.
+pub(crate) fn representation(alloc: Global, given: &Value) -> anyhow::Result<String> {
+    let is_equal = has_equal_representation(alloc, text_of(given)?)?;
+    Ok(String::from_str(alloc, equality(is_equal))?)
 }
 
 /// Which instances get a component where no configuration is given.
@@ -77,14 +90,21 @@ pub(crate) fn collected(alloc: Global) -> anyhow::Result<String> {
     Ok(String::from_str(alloc, word)?)
 }
 
-/// The document of one component of the name, a reference to itself.
-pub(crate) fn document(alloc: Global, given: &Value) -> anyhow::Result<String> {
-    let name = text_of(given)?;
+/// One component of the name, a reference to itself.
+fn self_reference(alloc: Global, name: &str) -> Result<Components, AllocError> {
+    let key = Text::new(alloc, name)?;
     let reference = RefLeaf {
         name: Text::new(alloc, name)?,
         notes: Notes::new(),
     };
     let mut components = Components::new(alloc);
-    components.insert(Text::new(alloc, name)?, Tree::Leaf(reference))?;
-    Ok(components.to_value(alloc)?.to_string(alloc)?)
+    components.insert(key, Tree::Leaf(reference))?;
+    Ok(components)
+}
+
+/// The document of one component of the name, a reference to itself.
+pub(crate) fn document(alloc: Global, given: &Value) -> anyhow::Result<String> {
+    let components = self_reference(alloc, text_of(given)?)?;
+    let document = components.to_value(alloc)?;
+    Ok(document.to_string(alloc)?)
 }

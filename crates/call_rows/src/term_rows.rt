@@ -5,6 +5,7 @@ ghost use Rattle.std.specs.List.{AllByRecursion};
 ghost use Rattle.syntax.specs.Items.{body_view, declaration_view, declarations_view, fields_view, variant_view};
 ghost use Rattle.syntax.specs.Named.{AreNamed, HaveNames, IsNamedBody};
 
+use crate::answers::text_or_refusal;
 use component::{Term, copy_term};
 use configuration::Config;
 use declaration_schemas::{
@@ -15,14 +16,14 @@ use derive_decl::Root;
 use diag::DeriveError;
 use place_schemas::{ComponentSchema, ComponentSchemaProps, ToTerm};
 use rows::given::{is_said, pair_of, text_of};
-use rows::refusal_text;
 use schema_trees::Tree;
 use scopes::{ComponentDescription, Container, Places, Scope};
 use serde_json::Value;
 use shapes::Body as Resolved;
 use std::alloc::{AllocError, Global};
 use syntax::{
-    Body, CommentAttributes, Declaration, Fields, Variant, parse_declarations, parse_type,
+    Body, CommentAttributes, Declaration, Declarations, Fields, Variant, parse_declarations,
+    parse_type,
 };
 use terms::{declaration_term, form_term};
 use texts::List;
@@ -97,6 +98,34 @@ fn push_enum(
     }
 }
 
+/// Adds the form of the resolved body, and of a struct that of its form.
+fn push_resolved(
+    alloc: Global,
+    text: &mut String,
+    made: &SchemaVariant,
+) -> Result<(), DeriveError> {
+    push_made(alloc, text, made)?;
+    if let Resolved::Fields(form) = &made.body {
+        let term = form_term(alloc, &made.remarks, form)?;
+        push_form(text, &term)?;
+    }
+    Ok(())
+}
+
+/// Adds the forms of the body as it is resolved, and tells whether it is that of an enum by its names.
+fn push_variant(
+    alloc: Global,
+    text: &mut String,
+    root: &Root<'_>,
+    body: &Body,
+) -> Result<bool, DeriveError>
+    requires { IsNamedBody (body_view body.now) }
+{
+    let made = SchemaVariant::new(alloc, body, root)?;
+    push_resolved(alloc, text, &made)?;
+    Ok(matches!(&made.body, Resolved::Units { .. }))
+}
+
 /// Adds the forms of the body, and of what is written there.
 fn push_body(
     alloc: Global,
@@ -106,18 +135,30 @@ fn push_body(
 ) -> Result<(), DeriveError>
     requires { IsNamedBody (body_view body.now) }
 {
-    let made = SchemaVariant::new(alloc, body, root)?;
-    push_made(alloc, text, &made)?;
-    if let Resolved::Fields(form) = &made.body {
-        push_form(text, &form_term(alloc, &made.remarks, form)?)?;
-    }
+    let units = push_variant(alloc, text, root, body)?;
     match body {
         Body::Struct(fields) => push_struct(alloc, text, root, fields),
-        Body::Enum(variants) => {
-            let units = matches!(&made.body, Resolved::Units { .. });
-            push_enum(alloc, text, root, variants.as_slice(), units)
-        }
+        Body::Enum(variants) => push_enum(alloc, text, root, variants.as_slice(), units),
     }
+}
+
+/// Adds the form of the declaration, and of what it is resolved to.
+fn push_schema(alloc: Global, text: &mut String, schema: &Schema<'_>) -> Result<(), DeriveError>
+    requires { IsNamedBody (body_view schema.now.body.now) }
+{
+    push_made(alloc, text, schema)?;
+    let resolved = schema.resolve(alloc)?;
+    let term = declaration_term(alloc, &resolved)?;
+    push_form(text, &term)?;
+    Ok(())
+}
+
+/// How many places the declaration has.
+fn places_text(alloc: Global, schema: &Schema<'_>) -> Result<String, DeriveError>
+    requires { IsNamedBody (body_view schema.now.body.now) }
+{
+    let types = schema.place_types(alloc)?;
+    Ok(types.len().to_string(alloc)?)
 }
 
 /// How many places the declaration has, its form, and the forms of what it is resolved to.
@@ -129,17 +170,13 @@ fn of_declaration(
     requires { IsNamedBody (declaration_view first.now).body }
 {
     let schema = Schema::new(&first.body, first.attrs.as_slice(), &first.ident, container);
-    let mut text = schema.place_types(alloc)?.len().to_string(alloc)?;
-    push_made(alloc, &mut text, &schema)?;
-    push_form(
-        &mut text,
-        &declaration_term(alloc, &schema.resolve(alloc)?)?,
-    )?;
     let root = Root {
         ident: &first.ident,
         attributes: first.attrs.as_slice(),
         container,
     };
+    let mut text = places_text(alloc, &schema)?;
+    push_schema(alloc, &mut text, &schema)?;
     push_body(alloc, &mut text, &root, &first.body)?;
     Ok(text)
 }
@@ -190,6 +227,22 @@ fn of_place(
     of_props(alloc, props, given)
 }
 
+/// The answer for the first of the declarations, which stands there.
+fn of_container(
+    alloc: Global,
+    call: &str,
+    first: &Declaration,
+    container: &Container<'_>,
+    given: &Value,
+) -> Result<String, DeriveError>
+    requires { IsNamedBody (declaration_view first.now).body }
+{
+    match call {
+        "place" => of_place(alloc, container, given),
+        _ => of_declaration(alloc, first, container),
+    }
+}
+
 /// The answer for the first of the declarations.
 fn of_first(
     alloc: Global,
@@ -208,21 +261,33 @@ fn of_first(
         scope: &scope,
         config: &config,
     };
-    match call {
-        "place" => of_place(alloc, &container, given),
-        _ => of_declaration(alloc, first, &container),
-    }
+    of_container(alloc, call, first, &container, given)
 }
 
-/// The answer for the first declaration of the source, the first of the list, of which the second says more.
+/// The answer for the first of the declarations.
+fn of_parsed(
+    alloc: Global,
+    call: &str,
+    declarations: &Declarations,
+    given: &Value,
+) -> Result<String, DeriveError>
+    requires { AreNamed (declarations_view declarations.now) }
+{
+    let places = Places::new(alloc, declarations)?;
+    of_first(alloc, call, &places, given)
+}
+
+/// The answer for the first declaration of the source.
+fn of_text(alloc: Global, call: &str, source: &str, given: &Value) -> Result<String, DeriveError> {
+    syntax::read_fields_are_named();
+    let declarations = parse_declarations(alloc, source)?;
+    of_parsed(alloc, call, &declarations, given)
+}
+
+/// The answer for the first declaration of the source, the first of the list, of which the second says more; or how its
+/// refusal is told.
 pub(crate) fn of_source(alloc: Global, call: &str, given: &Value) -> anyhow::Result<String> {
     let (source, given) = pair_of(given)?;
-    syntax::read_fields_are_named();
-    let declarations = parse_declarations(alloc, text_of(source)?)?;
-    let places = Places::new(alloc, &declarations)?;
-    let told = match of_first(alloc, call, &places, given) {
-        Ok(text) => Ok(text),
-        Err(error) => refusal_text(alloc, &error),
-    };
-    Ok(told?)
+    let made = of_text(alloc, call, text_of(source)?, given);
+    Ok(text_or_refusal(alloc, made)?)
 }

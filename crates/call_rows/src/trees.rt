@@ -41,17 +41,22 @@ fn tree_text(alloc: Global, tree: &TypeTree<'_>, name: &str) -> Result<String, A
 }
 
 /// What a copy of the type's tree is.
-fn copy_text(alloc: Global, ty: &WrittenType, name: &str) -> Result<String, AllocError> {
+fn copy_text(alloc: Global, ty: &WrittenType, name: &str) -> Result<String, DeriveError> {
     let tree = TypeTree::from_type(alloc, ty)?;
     let copy = tree.copy(alloc)?;
-    tree_text(alloc, &copy, name)
+    Ok(tree_text(alloc, &copy, name)?)
+}
+
+/// What a copy of the tree of the text's type is.
+fn parsed_text(alloc: Global, source: &str, name: &str) -> Result<String, DeriveError> {
+    let ty = parse_type(alloc, source)?;
+    copy_text(alloc, &ty, name)
 }
 
 /// The tree of the type.
 pub(crate) fn tree(alloc: Global, given: &Value) -> anyhow::Result<String> {
     let (written, name) = pair_of(given)?;
-    let ty = parse_type(alloc, text_of(written)?)?;
-    Ok(copy_text(alloc, &ty, text_of(name)?)?)
+    Ok(parsed_text(alloc, text_of(written)?, text_of(name)?)?)
 }
 
 /// Whether the type is built-in, and unsigned.
@@ -92,16 +97,19 @@ fn type_words(alloc: Global, ty: &SchemaType<'_>) -> Result<String, AllocError> 
     words.concat(alloc)
 }
 
+/// What the last name of the type's path says.
+fn path_words(alloc: Global, ty: &WrittenType, nullable: bool) -> anyhow::Result<String> {
+    let path = TypeTree::from_type(alloc, ty)?.path;
+    let path = path.context("a path")?;
+    Ok(type_words(alloc, &SchemaType { path, nullable })?)
+}
+
 /// What the last name of the type's path says. The second of the list is whether null is a value.
 pub(crate) fn tests(alloc: Global, given: &Value) -> anyhow::Result<String> {
     let (written, nullable) = pair_of(given)?;
-    let written = parse_type(alloc, text_of(written)?)?;
-    let path = TypeTree::from_type(alloc, &written)?.path;
-    let ty = SchemaType {
-        path: path.context("a path")?,
-        nullable: nullable.as_bool().context("a truth value")?,
-    };
-    Ok(type_words(alloc, &ty)?)
+    let nullable = nullable.as_bool().context("a truth value")?;
+    let ty = parse_type(alloc, text_of(written)?)?;
+    path_words(alloc, &ty, nullable)
 }
 
 /// Whether the format, of which a copy is equal, is known.
@@ -118,10 +126,15 @@ fn format_text(alloc: Global, format: &KnownFormat) -> Result<String, AllocError
 }
 
 /// The format of the last name of the type's path.
+fn path_format(alloc: Global, ty: &WrittenType) -> anyhow::Result<KnownFormat> {
+    let path = TypeTree::from_type(alloc, ty)?.path;
+    Ok(KnownFormat::from_path(&path.context("a path")?))
+}
+
+/// The format of the last name of the type's path.
 pub(crate) fn format(alloc: Global, given: &Value) -> anyhow::Result<String> {
-    let written = parse_type(alloc, text_of(given)?)?;
-    let path = TypeTree::from_type(alloc, &written)?.path;
-    let format = KnownFormat::from_path(&path.context("a path")?);
+    let ty = parse_type(alloc, text_of(given)?)?;
+    let format = path_format(alloc, &ty)?;
     Ok(format_text(alloc, &format)?)
 }
 
@@ -150,11 +163,16 @@ fn found_text(
 }
 
 /// The format that stands behind a name and `=`, or its refusal.
-pub(crate) fn format_value(alloc: Global, given: &Value) -> anyhow::Result<String> {
-    let trees = lex(alloc, text_of(given)?)?;
-    let [attribute, _, value @ ..] = trees.as_slice() else {
+fn format_in(alloc: Global, trees: &[TokenTree]) -> anyhow::Result<String> {
+    let [attribute, _, value @ ..] = trees else {
         bail!("a name, `=` and a value");
     };
     let found = format_of(alloc, attribute, value);
     Ok(found_text(alloc, &found)?)
+}
+
+/// The format that stands behind a name and `=`, or its refusal.
+pub(crate) fn format_value(alloc: Global, given: &Value) -> anyhow::Result<String> {
+    let trees = lex(alloc, text_of(given)?)?;
+    format_in(alloc, trees.as_slice())
 }

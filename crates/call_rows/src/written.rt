@@ -1,7 +1,8 @@
 //! Written types, and their copies.
 
+use crate::answers::{equality, word_or_refusal};
+use diag::DeriveError;
 use rows::given::text_of;
-use rows::refusal_text;
 use serde_json::Value;
 use std::alloc::{AllocError, Global};
 use syntax::parse_type;
@@ -16,13 +17,16 @@ fn form(ty: &WrittenType) -> &'static str {
     }
 }
 
+/// Whether the type of the text is a path.
+fn form_of(alloc: Global, source: &str) -> Result<&'static str, DeriveError> {
+    let ty = parse_type(alloc, source)?;
+    Ok(form(&ty))
+}
+
 /// Whether the type of the text is a path, or why there is no type.
 pub(crate) fn parsed(alloc: Global, given: &Value) -> anyhow::Result<String> {
-    let text = match parse_type(alloc, text_of(given)?) {
-        Ok(ty) => String::from_str(alloc, form(&ty)),
-        Err(error) => refusal_text(alloc, &error),
-    };
-    Ok(text?)
+    let made = form_of(alloc, text_of(given)?);
+    Ok(word_or_refusal(alloc, &made)?)
 }
 
 /// Whether a copy of the path is equal.
@@ -36,22 +40,23 @@ fn is_equal_copy(alloc: Global, ty: &WrittenType) -> Result<bool, AllocError> {
 }
 
 /// Whether a copy of the type is equal, and one of its path where it is one.
-fn are_equal(alloc: Global, ty: &WrittenType) -> Result<bool, AllocError> {
+fn are_equal(alloc: Global, ty: &WrittenType) -> Result<bool, DeriveError> {
     if let WrittenType::Path(path) = ty {
         if !has_equal_copy(alloc, path)? {
             return Ok(false);
         }
     }
-    is_equal_copy(alloc, ty)
+    Ok(is_equal_copy(alloc, ty)?)
+}
+
+/// Whether copies of the type of the text are equal.
+fn has_equal_copies(alloc: Global, source: &str) -> Result<bool, DeriveError> {
+    let ty = parse_type(alloc, source)?;
+    are_equal(alloc, &ty)
 }
 
 /// Whether copies of the type of the text are equal.
 pub(crate) fn copied(alloc: Global, given: &Value) -> anyhow::Result<String> {
-    let ty = parse_type(alloc, text_of(given)?)?;
-    let word = if are_equal(alloc, &ty)? {
-        "equal"
-    } else {
-        "not equal"
-    };
-    Ok(String::from_str(alloc, word)?)
+    let is_equal = has_equal_copies(alloc, text_of(given)?)?;
+    Ok(String::from_str(alloc, equality(is_equal))?)
 }

@@ -2,7 +2,7 @@
 #![tactic(auto)]
 
 use schema_gen::{
-    Config, Derived, HonestFiles, HonestSink, HonestSource, Words, derive_components, run,
+    Config, Derived, HonestFiles, HonestSink, HonestSource, Status, Words, derive_components, run,
 };
 
 /// Prints the names of the components, and their document.
@@ -11,6 +11,14 @@ fn print_derived(rt: &HostRuntime, derived: &Derived) -> anyhow::Result<()> {
         println!(rt; "component {}", name.as_str())?;
     }
     print!(rt; "{}", derived.components.to_text(rt.alloc())?.as_str())?;
+    Ok(())
+}
+
+/// Prints how a run ended, and what it wrote.
+fn print_outcome(rt: &HostRuntime, status: Status, out: &[u8], err: &[u8]) -> anyhow::Result<()> {
+    println!(rt; "status {}", status.number())?;
+    print!(rt; "{}", str::from_utf8(out)?)?;
+    print!(rt; "{}", str::from_utf8(err)?)?;
     Ok(())
 }
 
@@ -23,10 +31,7 @@ fn print_run(rt: &HostRuntime, source: &str) -> anyhow::Result<()> {
     let mut out = HonestSink::new(alloc, 1000)?;
     let mut err = HonestSink::new(alloc, 1000)?;
     let status = run(alloc, &words, &mut input, &mut files, &mut out, &mut err);
-    println!(rt; "status {}", status.number())?;
-    print!(rt; "{}", str::from_utf8(out.as_slice())?)?;
-    print!(rt; "{}", str::from_utf8(err.as_slice())?)?;
-    Ok(())
+    print_outcome(rt, status, out.as_slice(), err.as_slice())
 }
 
 fn main(rt: HostRuntime) -> anyhow::Result<()> {

@@ -36,35 +36,40 @@ pub(crate) fn status_named(name: &str) -> anyhow::Result<Status> {
     }
 }
 
-/// Adds the name of the status, with the kind of a refusal in brackets.
-fn push_status(text: &mut String, status: Status) -> Result<(), AllocError> {
-    let name = match status {
+/// The name of the status; of a refusal without its kind.
+fn status_name(status: Status) -> &'static str {
+    match status {
         Status::Done => "Done",
-        Status::Refused(kind) => {
-            text.push_str("Refused(")?;
-            text.push_str(kind.name())?;
-            ")"
-        }
+        Status::Refused(_) => "Refused",
         Status::Usage => "Usage",
         Status::ReadFault => "ReadFault",
         Status::WriteFault => "WriteFault",
         Status::Memory => "Memory",
         Status::FileFault => "FileFault",
-    };
-    text.push_str(name)
+    }
 }
 
-/// Adds what an output has: a document of one line for itself, without the new line that ends it, and any other text as a
-/// JSON text.
-fn push_output(alloc: Global, text: &mut String, output: &str) -> Result<(), AllocError> {
+/// The name of the status, with the kind of a refusal in brackets.
+fn status_text(alloc: Global, status: Status) -> Result<String, AllocError> {
+    match status {
+        Status::Refused(kind) => format!(in alloc; "Refused({})", kind.name()),
+        other => String::from_str(alloc, status_name(other)),
+    }
+}
+
+/// The text as a JSON text.
+fn quoted(alloc: Global, text: &str) -> Result<String, AllocError> {
+    let value = Value::String(String::from_str(alloc, text)?);
+    value.to_string(alloc)
+}
+
+/// What an output has: a document of one line for itself, without the new line that ends it, and any other text as a JSON text.
+fn output_text(alloc: Global, output: &str) -> Result<String, AllocError> {
     match output.strip_suffix('\n') {
         Some(document) if document.starts_with('{') && !document.contains('\n') => {
-            text.push_str(document)
+            String::from_str(alloc, document)
         }
-        _ => {
-            let quoted = Value::String(String::from_str(alloc, output)?).to_string(alloc)?;
-            text.push_str(quoted.as_str())
-        }
+        _ => quoted(alloc, output),
     }
 }
 
@@ -85,14 +90,15 @@ impl Outcome {
 
     /// The JSON list of the status and of what both outputs have.
     pub(crate) fn text(&self, alloc: Global) -> Result<String, AllocError> {
-        let mut text = String::from_str(alloc, "[\"")?;
-        push_status(&mut text, self.status)?;
-        text.push_str("\",")?;
-        push_output(alloc, &mut text, self.out.as_str())?;
-        text.push_str(",")?;
-        push_output(alloc, &mut text, self.err.as_str())?;
-        text.push_str("]")?;
-        Ok(text)
+        let status = status_text(alloc, self.status)?;
+        let out = output_text(alloc, self.out.as_str())?;
+        let err = output_text(alloc, self.err.as_str())?;
+        format!(in alloc;
+            "[\"{}\",{},{}]",
+            status.as_str(),
+            out.as_str(),
+            err.as_str()
+        )
     }
 
     /// The document, or the report of a refusal without `refused: `; each without the new line that ends it.

@@ -8,7 +8,7 @@ use rows::Row;
 use rows::given::{count_at, items_at, text_of};
 use schema_gen::{Status, Words};
 use serde_json::Value;
-use std::alloc::Global;
+use std::alloc::{AllocError, Global};
 use std::rt::Files as FileSystem;
 use streams::{
     HonestSink, HonestSource, MemorySink, MemorySource, Sink, Source, StdSink, StdSource,
@@ -37,23 +37,36 @@ pub(crate) fn told<R: AllocGlobal + FileSystem>(rt: &R, row: &Row) -> anyhow::Re
     }
 }
 
+/// Adds the word that is given.
+fn push_word(alloc: Global, words: &mut Vec<String>, given: &Value) -> anyhow::Result<()> {
+    let word = text_of(given)?;
+    words.push(String::from_str(alloc, word)?)?;
+    Ok(())
+}
+
 /// The words of the row.
 fn words_of(alloc: Global, given: &Value) -> anyhow::Result<Words> {
+    let given = items_at(given, "words")?;
     let mut words = Vec::new(alloc);
-    for word in items_at(given, "words")? {
-        words.push(String::from_str(alloc, text_of(word)?)?)?;
+    for word in given {
+        push_word(alloc, &mut words, word)?;
     }
     Ok(Words::new(words))
 }
 
+/// The file `config` with these bytes.
+fn configuration_file(alloc: Global, bytes: Vec<u8>) -> Result<Vec<(String, Vec<u8>)>, AllocError> {
+    let path = String::from_str(alloc, CONFIG)?;
+    Ok(vec![in alloc; (path, bytes)]?)
+}
+
 /// The file `config`, where the row gives its bytes.
 fn files_of(alloc: Global, given: &Value) -> anyhow::Result<Vec<(String, Vec<u8>)>> {
-    let mut files = Vec::new(alloc);
-    if given.get(CONFIG).is_some() {
-        let bytes = bytes_at(alloc, given, CONFIG)?;
-        files.push((String::from_str(alloc, CONFIG)?, bytes))?;
-    }
-    Ok(files)
+    let Some(given) = given.get(CONFIG) else {
+        return Ok(Vec::new(alloc));
+    };
+    let bytes = bytes_of(alloc, given)?;
+    Ok(configuration_file(alloc, bytes)?)
 }
 
 /// A run of `schema_gen`, or where the row has the member `program`, of the program of that name.
@@ -75,29 +88,27 @@ fn run<S: Source, F: Files, O: Sink, E: Sink>(
     }
 }
 
-/// A run whose input and outputs do not fail.
-fn run_on(
+/// A run over this input and these files, whose outputs do not fail.
+fn run_on<S: Source, F: Files>(
     alloc: Global,
     given: &Value,
     words: &Words,
-    source: Vec<u8>,
-    files: Vec<(String, Vec<u8>)>,
+    input: &mut S,
+    files: &mut F,
 ) -> anyhow::Result<Outcome> {
-    let mut input = HonestSource::new(source);
-    let mut files = HonestFiles::new(files);
     let mut out = HonestSink::new(alloc, ROOM)?;
     let mut err = HonestSink::new(alloc, ROOM)?;
-    let status = run(
-        alloc, given, words, &mut input, &mut files, &mut out, &mut err,
-    )?;
+    let status = run(alloc, given, words, input, files, &mut out, &mut err)?;
     Outcome::new(alloc, status, out.as_slice(), err.as_slice())
 }
 
 /// A run with the row's words, source and file.
 fn honest(alloc: Global, given: &Value) -> anyhow::Result<Outcome> {
+    let words = words_of(alloc, given)?;
     let source = bytes_at(alloc, given, "source")?;
-    let files = files_of(alloc, given)?;
-    run_on(alloc, given, &words_of(alloc, given)?, source, files)
+    let mut files = HonestFiles::new(files_of(alloc, given)?);
+    let mut input = HonestSource::new(source);
+    run_on(alloc, given, &words, &mut input, &mut files)
 }
 
 /// The words to derive, with the file `config` where one is told.
@@ -111,17 +122,26 @@ fn derive_words(alloc: Global, is_configured: bool) -> anyhow::Result<Words> {
     Ok(Words::new(words))
 }
 
+/// The file `config` with this configuration, where there is one.
+fn configured(
+    alloc: Global,
+    configuration: Option<&Value>,
+) -> Result<Vec<(String, Vec<u8>)>, AllocError> {
+    let Some(value) = configuration else {
+        return Ok(Vec::new(alloc));
+    };
+    let bytes = value.to_string(alloc)?.into_bytes();
+    configuration_file(alloc, bytes)
+}
+
 /// A run of `derive` on a source, with the configuration where the row has one beside its source.
 fn derive(alloc: Global, given: &Value) -> anyhow::Result<Outcome> {
-    let source = bytes_of(alloc, given.get("source").unwrap_or(given))?;
-    let mut files = Vec::new(alloc);
     let configuration = given.get("configuration");
-    if let Some(value) = configuration {
-        let bytes = value.to_string(alloc)?.into_bytes();
-        files.push((String::from_str(alloc, CONFIG)?, bytes))?;
-    }
     let words = derive_words(alloc, configuration.is_some())?;
-    run_on(alloc, given, &words, source, files)
+    let source = bytes_of(alloc, given.get("source").unwrap_or(given))?;
+    let mut files = HonestFiles::new(configured(alloc, configuration)?);
+    let mut input = HonestSource::new(source);
+    run_on(alloc, given, &words, &mut input, &mut files)
 }
 
 /// The document of the source, or why it is refused.
@@ -141,28 +161,44 @@ fn refusal(alloc: Global, given: &Value) -> anyhow::Result<String> {
     Ok(String::from_str(alloc, line)?)
 }
 
-/// A run of which chosen calls fail: reads of the input, which gives 16 bytes at a time, reads of files, writes and flushes of
-/// the output, which takes 100 bytes at a time and has room for so many, and those of the output for reports.
-fn with_faults(alloc: Global, given: &Value) -> anyhow::Result<Outcome> {
+/// The row's input, which gives 16 bytes at a time, and of which chosen reads fail.
+fn failing_source(alloc: Global, given: &Value) -> anyhow::Result<MemorySource> {
+    let failing = counts_at(alloc, given, "reads")?;
+    Ok(MemorySource::new(bytes_at(alloc, given, "source")?, 16, failing))
+}
+
+/// The row's file, of which chosen reads fail.
+fn failing_files(alloc: Global, given: &Value) -> anyhow::Result<MemoryFiles> {
+    let failing = counts_at(alloc, given, "files")?;
+    Ok(MemoryFiles::new(files_of(alloc, given)?, failing))
+}
+
+/// A run over this input, with the row's words and file, whose chosen calls fail: reads of files, writes and flushes of the
+/// output, which takes 100 bytes at a time and has room for so many, and those of the output for reports.
+fn over_failing<S: Source>(alloc: Global, given: &Value, input: &mut S) -> anyhow::Result<Outcome> {
+    let room = count_at(given, "room")?;
     let words = words_of(alloc, given)?;
-    let source = bytes_at(alloc, given, "source")?;
-    let mut input = MemorySource::new(source, 16, counts_at(alloc, given, "reads")?);
-    let mut files = MemoryFiles::new(files_of(alloc, given)?, counts_at(alloc, given, "files")?);
-    let writes = counts_at(alloc, given, "writes")?;
-    let mut out = MemorySink::new(alloc, count_at(given, "room")?, 100, writes)?;
-    let reports = counts_at(alloc, given, "reports")?;
-    let mut err = MemorySink::new(alloc, ROOM, 1000, reports)?;
-    let status = run(
-        alloc, given, &words, &mut input, &mut files, &mut out, &mut err,
-    )?;
+    let mut files = failing_files(alloc, given)?;
+    let mut out = MemorySink::new(alloc, room, 100, counts_at(alloc, given, "writes")?)?;
+    let mut err = MemorySink::new(alloc, ROOM, 1000, counts_at(alloc, given, "reports")?)?;
+    let status = run(alloc, given, &words, input, &mut files, &mut out, &mut err)?;
     Outcome::new(alloc, status, out.as_slice(), err.as_slice())
 }
 
-/// A run over a reader and writers of std, with room for so many bytes, and the files of the system.
-fn over_std<R: AllocGlobal + FileSystem>(rt: &R, given: &Value) -> anyhow::Result<Outcome> {
+/// A run of which chosen calls fail.
+fn with_faults(alloc: Global, given: &Value) -> anyhow::Result<Outcome> {
+    let mut input = failing_source(alloc, given)?;
+    over_failing(alloc, given, &mut input)
+}
+
+/// A run on these bytes over a reader and writers of std, with room for so many bytes, and the files of the system.
+fn over_bytes<R: AllocGlobal + FileSystem>(
+    rt: &R,
+    given: &Value,
+    source: &[u8],
+) -> anyhow::Result<Outcome> {
     let alloc = rt.alloc();
     let words = words_of(alloc, given)?;
-    let source = bytes_at(alloc, given, "source")?;
     let mut out = dots(alloc, given, "room")?;
     let mut err = dots(alloc, given, "report room")?;
     let mut room = out.as_mut_slice();
@@ -171,12 +207,18 @@ fn over_std<R: AllocGlobal + FileSystem>(rt: &R, given: &Value) -> anyhow::Resul
         alloc,
         given,
         &words,
-        &mut StdSource::new(source.as_slice()),
+        &mut StdSource::new(source),
         &mut StdFiles::new(rt),
         &mut StdSink::new(&mut room),
         &mut StdSink::new(&mut report_room),
     )?;
     Outcome::new(alloc, status, &out, &err)
+}
+
+/// A run on the row's source, as `over_bytes`.
+fn over_std<R: AllocGlobal + FileSystem>(rt: &R, given: &Value) -> anyhow::Result<Outcome> {
+    let source = bytes_at(rt.alloc(), given, "source")?;
+    over_bytes(rt, given, source.as_slice())
 }
 
 /// So many dots as the member says, or none where there is no member.
