@@ -1,6 +1,6 @@
 //! The terms of instances, and the instances that they name, by number.
 
-ghost use Rattle.std.specs.Prelude.{◌≡◌, ◌<◌, ◌++◌, length, map, IfOk, OnOk};
+ghost use Rattle.std.specs.Prelude.{◌≡◌, ◌<◌, ◌++◌, ◌∷◌, [], length, map, IfOk, OnOk};
 ghost use Rattle.schema_trees.specs.Schema.{object_view, tree_views, named_views, additional_view, array_items_view, optional_view, array_view};
 ghost use Rattle.component.specs.Leaves.{leaf_view, term_view};
 ghost use Rattle.component.specs.References.{leaf_references, named_leaves, schema_leaves, property_leaves, part_leaves};
@@ -8,7 +8,7 @@ ghost use Rattle.terms.specs.InstanceTerms.{instance_term};
 ghost use Rattle.shapes.specs.Declarations.{AreFitting};
 ghost use Rattle.shapes.specs.Views.{declaration_view};
 ghost use Rattle.instances.specs.Lists.{instance_at, AreInstances};
-ghost use Rattle.closing.specs.Links.{numbered_inline, numbered_referred, inlining_of, referring_of};
+ghost use Rattle.closing.specs.Links.{numbered, numbered_inline, numbered_referred, targets_at, references_at, inlining_of, referring_of};
 
 use component::{Place, Term, TermLeaf, place_term};
 use filling::{Fill, filled};
@@ -259,6 +259,33 @@ fn named_in(alloc: Global, reach: &Reach, term: &Term) -> Result<Named, AllocErr
     Ok(found)
 }
 
+/// The term of the instance, whose links are added.
+fn linked_term(
+    alloc: Global,
+    declared: &[Declaration],
+    reach: &Reach,
+    links: &mut Links,
+    number: usize,
+) -> Result<Term, AllocError>
+    requires fitting { AreFitting (map declaration_view declared.now) }
+    requires instances { AreInstances (map declaration_view declared.now) reach.now }
+    requires number { number < length reach.now }
+    ensures term { IfOk result (λ t. term_view t
+        ≡ instance_term (map declaration_view declared.now) (instance_at reach.now number)) }
+    ensures targets { OnOk result (links.new.targets ≡ links.old.targets
+        ++ numbered reach.now (targets_at (map declaration_view declared.now)
+        (instance_at reach.now number)) ∷ []) }
+    ensures references { OnOk result (links.new.references ≡ links.old.references
+        ++ numbered reach.now (references_at (map declaration_view declared.now)
+        (instance_at reach.now number)) ∷ []) }
+{
+    let term = term_of(alloc, declared, reach, number)?;
+    let named = named_in(alloc, reach, &term)?;
+    links.targets.push(named.targets)?;
+    links.references.push(named.references)?;
+    Ok(term)
+}
+
 /// The terms of the instances, in their order, and their links.
 pub fn linked_terms(
     alloc: Global,
@@ -280,10 +307,7 @@ pub fn linked_terms(
         references: List::new(alloc),
     };
     for number in 0..reach.len() {
-        let term = term_of(alloc, declared, reach, number)?;
-        let named = named_in(alloc, reach, &term)?;
-        links.targets.push(named.targets)?;
-        links.references.push(named.references)?;
+        let term = linked_term(alloc, declared, reach, &mut links, number)?;
         terms.push(term)?;
     }
     Ok((terms, links))
