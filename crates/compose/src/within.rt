@@ -1,11 +1,16 @@
 //! Instances within their bounds.
 
-ghost use Rattle.std.specs.Prelude.{◌≡◌, length, map, IfOk};
+ghost use Rattle.std.specs.Prelude.{◌≡◌, ◌≤◌, ◌⊎◌, length, map, IfOk};
 ghost use Rattle.diag.specs.Refusal.{Refuses};
 ghost use Rattle.shapes.specs.Declarations.{AreFitting};
 ghost use Rattle.shapes.specs.Views.{declaration_view};
-ghost use Rattle.compose.specs.Bounds.{AreBounded, IsUnbounded, collects_all};
-ghost use Rattle.compose.specs.Within.{AreWithin};
+ghost use Rattle.instances.specs.Lists.{AreInstances, instance_at};
+ghost use Rattle.closing.specs.Closed.{most_inlined};
+ghost use Rattle.closing.specs.Copies.{instance_copies, sum_over};
+ghost use Rattle.closing.specs.Described.{AreShallow};
+ghost use Rattle.closing.specs.Links.{inlining_of, referring_of};
+ghost use Rattle.compose.specs.Bounds.{AreBounded, ArePlaced, IsCopied, IsDeep, IsUnbounded, collects_all};
+ghost use Rattle.compose.specs.Within.{AreShown, AreWithin};
 
 use crate::bounds::{few_copies, few_instances, names_apart, shallow_order};
 use closing::{Links, linked_terms, shown_of};
@@ -43,6 +48,41 @@ fn collects_all(config: &Config) -> bool
     }
 }
 
+/// An order of the instances and what is shown of them, where no inline path is too long and the copies are not too many.
+fn shown_within(
+    alloc: Global,
+    idents: &[Ident],
+    resolved: &[Declaration],
+    config: &Config,
+    reach: &Reach,
+    links: &Links,
+) -> Result<(List<usize>, Shown), DeriveError>
+    requires fitting { AreFitting (map declaration_view resolved.now) }
+    requires instances { AreInstances (map declaration_view resolved.now) reach.now }
+    requires placed { ArePlaced (length idents.now) reach.now }
+    requires targets { links.now.targets ≡ inlining_of (map declaration_view resolved.now) reach.now }
+    requires references { links.now.references
+        ≡ referring_of (map declaration_view resolved.now) reach.now }
+    ensures shallow { IfOk result (λ _. AreShallow (map declaration_view resolved.now)) }
+    ensures shown { IfOk result (λ p. AreShown (map declaration_view resolved.now)
+        (collects_all config.now.collect) reach.now p.0 p.1) }
+    ensures copied { IfOk result (λ p. sum_over
+        (instance_copies (map declaration_view resolved.now) most_inlined)
+        (map (instance_at reach.now) p.1.components) ≤ config.now.copies) }
+    ensures refused { Refuses result (λ e. IsDeep idents.now (map declaration_view resolved.now) e
+        ⊎ (AreShallow (map declaration_view resolved.now)
+        × IsCopied config.now (map declaration_view resolved.now) e)) }
+{
+    closing::shallow_by_numbers();
+    closing::copies_by_numbers();
+    let targets = links.targets.as_slice();
+    let order = shallow_order(alloc, idents, resolved, reach, targets)?;
+    let shown = shown_of(alloc, resolved, reach, links, collects_all(config))?;
+    let components = shown.components.as_slice();
+    few_copies(alloc, targets, order.as_slice(), components, config)?;
+    Ok((order, shown))
+}
+
 /// The instances of the declarations with these names, where nothing is beyond its bound.
 pub(crate) fn within_bounds(
     alloc: Global,
@@ -58,24 +98,12 @@ pub(crate) fn within_bounds(
     ensures refused { Refuses result
         (IsUnbounded config.now idents.now (map declaration_view resolved.now)) }
 {
-    closing::shallow_by_numbers();
-    closing::copies_by_numbers();
     let reach = few_instances(alloc, idents, resolved, config)?;
     let names = names_apart(alloc, idents, resolved, &reach)?;
     let (terms, links) = linked_terms(alloc, resolved, &reach)?;
-    let targets = links.targets.as_slice();
-    let order = shallow_order(alloc, idents, resolved, &reach, targets)?;
-    let all = collects_all(config);
-    let shown = shown_of(alloc, resolved, &reach, &links, all)?;
-    few_copies(
-        alloc,
-        targets,
-        order.as_slice(),
-        shown.components.as_slice(),
-        config,
-    )?;
+    let (order, shown) = shown_within(alloc, idents, resolved, config, &reach, &links)?;
     Ok(Bounded {
-        all,
+        all: collects_all(config),
         reach,
         names,
         terms,

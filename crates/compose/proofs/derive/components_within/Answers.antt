@@ -17,8 +17,8 @@ returns-clause-types c =
     let components = c.in_ok-components.components in
     let entries = c.in_ok-components.ensures in
     let made : AreComponents ss all components = record {
-      held = λ t k. entries.held t (c.requires.components.whole t k);
-      only = λ name f. let o = entries.only name f in (o.0, c.requires.components.are o.0 o.1, o.2);
+      held = λ t k. entries.held t (c.requires.shown.components.whole t k);
+      only = λ name f. let o = entries.only name f in (o.0, c.requires.shown.components.are o.0 o.1, o.2);
       order = entries.order;
     } in
     let look : List (List ℕ) → List ℕ → _ = λ known name. option_map (instance_at is) (place_in name known) in
