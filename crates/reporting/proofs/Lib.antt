@@ -1,0 +1,2 @@
+pub mod Consequences
+pub mod Ended

@@ -1,5 +1,5 @@
 -- When bytes are a text, and how others are refused.
-use Rattle.std.specs.Prelude.{◌<◌, ◌≤◌, ◌+◌, ℕ, List, length, codes}
+use Rattle.std.specs.Prelude.{◌<◌, ◌≤◌, ◌+◌, ◌⊎◌, ℕ, List, length, codes}
 use Rattle.std.specs.Str.{IsUtf8, IsValidUpTo}
 use Rattle.diag.specs.Refusal.{IsRefusal, IsSyntaxRefusal}
 use Rattle.texts.specs.Span.{no_span}
@@ -37,3 +37,9 @@ IsTooLong bytes e =
 abbrev pub IsNoText : List ℕ → DeriveError → Type 0
 IsNoText bytes e =
     (length bytes ≤ most_bytes) × ((span : Span) × IsBroken bytes span × IsSyntaxRefusal span e)
+
+-- the error refuses the bytes: they are too many, or else no UTF-8, or else it refuses the text that
+-- they are
+abbrev pub IsRefusedBytes : (DeriveError → Type 0) → List ℕ → DeriveError → Type 0
+IsRefusedBytes refuses bytes e =
+    IsTooLong bytes e ⊎ (IsNoText bytes e ⊎ (IsText bytes × refuses e))

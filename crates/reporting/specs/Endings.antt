@@ -2,6 +2,8 @@
 use Rattle.std.specs.Prelude.{◌≡◌, ℕ, List, [], codes}
 use Rattle.diag.specs.Diagnostics.{HasFirst}
 use Rattle.diag.specs.declared.diagnostics.DiangosticsInner.{DiangosticsInner}
+use Rattle.diag.specs.declared.error.DeriveError.{DeriveError}
+use Rattle.diag.specs.declared.error.DeriveError.TheVariants as error
 use Rattle.reporting.specs.Report.{refusal_line}
 use Rattle.reporting.specs.declared.status.Status.{Status}
 use Rattle.reporting.specs.declared.status.Status.TheVariants as status
@@ -40,3 +42,8 @@ Reports diagnostics (Usage line) = ⊥
 Reports diagnostics ReadFault = ⊥
 Reports diagnostics Memory = Unit {0}
 Reports diagnostics FileFault = ⊥
+
+-- the ending tells the error
+abbrev pub ReportsError : DeriveError → Ending → Type 0
+ReportsError (error.Refused diagnostics) ending = Reports diagnostics ending
+ReportsError error.Memory ending = ending ≡ Memory

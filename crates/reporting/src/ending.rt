@@ -1,11 +1,11 @@
 //! What a run has to write, made whole before the first byte is written.
 
 ghost use Rattle.std.specs.Prelude.{◌≡◌};
-ghost use Rattle.reporting.specs.Endings.{status_of, document_of, report_of, Reports};
+ghost use Rattle.reporting.specs.Endings.{status_of, document_of, report_of, Reports, ReportsError};
 
 use crate::refusal::refusal_line;
 use crate::status::Status;
-use diag::{Diagnostics, Kind};
+use diag::{DeriveError, Diagnostics, Kind};
 use std::alloc::{AllocError, Global};
 use texts::Text;
 
@@ -34,6 +34,16 @@ impl Ending {
         match refusal_line(alloc, refusal) {
             Ok(line) => Ending::Refused(refusal.kind(), line),
             Err(AllocError) => Ending::Memory,
+        }
+    }
+
+    /// The end of a run that ends with the error.
+    pub(crate) fn of_error(alloc: Global, error: DeriveError) -> Ending
+        ensures { ReportsError error result }
+    {
+        match error {
+            DeriveError::Refused(refusal) => Ending::of_refusal(alloc, &refusal),
+            DeriveError::Memory => Ending::Memory,
         }
     }
 

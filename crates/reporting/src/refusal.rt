@@ -1,6 +1,6 @@
 //! Refusals of a file and of bytes that are no text of a source, and the report of any refusal.
 
-ghost use Rattle.std.specs.Prelude.{◌≡◌, ◌≤◌, ◌⊎◌, [], ◌∷◌, length, codes, IfOk};
+ghost use Rattle.std.specs.Prelude.{◌≡◌, ◌≤◌, ◌⊎◌, length, codes, IfOk};
 ghost use Rattle.std.specs.Str.{IsUtf8, IsValidUpTo, IsErrorLen, valid_up_to, error_len};
 ghost use Rattle.diag.specs.Refusal.{IsRefusal, Refuses};
 ghost use Rattle.texts.specs.Span.{no_span};
