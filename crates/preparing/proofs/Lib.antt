@@ -1,4 +1,3 @@
-pub mod Consequences
 pub mod Forms
 pub mod Spans
 pub mod Told

@@ -1,45 +1,22 @@
 -- What words, files and input give, where they tell it.
-use Rattle.std.proofs.Common.{◌≡◌, ◌⊎◌, ℕ, List, IsTrue, Option, Some, None, IsSome, inl, inr, refl, sym, subst}
-use Rattle.diag.specs.declared.diagnostics.DiangosticsInner.{DiangosticsInner}
+use Rattle.std.proofs.Common.{◌≡◌, ◌↔◌, ℕ, List, IsTrue, Option, Some, None, IsSome, inl, inr, sym, subst}
 use Rattle.diag.specs.declared.error.DeriveError.{DeriveError}
-use Rattle.diag.specs.declared.error.DeriveError.TheVariants as error
 use Rattle.streams.specs.Told.{IsAll}
-use Rattle.files.specs.Held.{IsMissing}
 use Rattle.prepare.specs.declared.choice.Choice.TheVariants.{All, Serde}
 use Rattle.reporting.specs.Beginning.{Beginning}
-use Rattle.reporting.specs.Endings.{Reports}
-use Rattle.reporting.specs.declared.ending.Ending.{Ending}
-use Rattle.reporting.specs.declared.ending.Ending.TheVariants.{Done, Refused, Usage, ReadFault, Memory, FileFault}
+use Rattle.reporting.specs.Bytes.{IsText}
+use Rattle.reporting.specs.Command.{HasFile}
+use Rattle.reporting.specs.Program.{IsRefusedRun}
+use Rattle.texts.specs.declared.span.Span.{Span}
 use Rattle.preparing.specs.Answers.{IsSoundFor}
-use Rattle.preparing.specs.Given.{Given, IsAbout, IsGiven, IsTold}
-use Rattle.preparing.specs.Owed.{Owed, IsEnding}
-use Rattle.preparing.specs.Refusals.{IsRefusedRun}
-use Rattle.preparing.specs.Words.{Request, declarations, renames, place, AskFor, AskForInput, NamePath, HaveForm, IsOfInput}
+use Rattle.preparing.specs.Given.{Given, IsAbout, IsGiven}
+use Rattle.preparing.specs.Owed.{schema_prepare, IsTold}
+use Rattle.preparing.specs.Refusals.{IsSound, IsRefusedSource}
+use Rattle.preparing.specs.Words.{Request, declarations, renames, place, AskFor, AskForInput, NamePath, IsOfInput}
 
--- an error that refuses is no want of memory
-pub refuses : (P : DeriveError → Type 0) (e : DeriveError) (ds : List DiangosticsInner) → (e ≡ error.Memory) ⊎ P e → e ≡ error.Refused ds → P (error.Refused ds)
-refuses P e ds (inl memory) is = cc
-refuses P e ds (inr holds) is = subst P is holds
-
--- a refused run has words of a form
-pub refused_form : (begun : Beginning) (e : DeriveError) → IsRefusedRun begun e → HaveForm begun.words
-refused_form begun e (given, is, refused) = (given.request, is.asked)
-
--- a run that is refused may end as the diagnostics are reported
-pub reported : (begun : Beginning) (ds : List DiangosticsInner) (ending : Ending) → Reports ds ending → IsRefusedRun begun (error.Refused ds) → IsEnding begun ending
-unfolding Owed
-reported begun ds (Done text) is cause = absurd is
-reported begun ds (Refused kind line) is cause = (record { diagnostics = ds; cause = cause; kind_is = is.0; line_is = is.1 }, refl)
-reported begun ds (Usage line) is cause = absurd is
-reported begun ds ReadFault is cause = absurd is
-reported begun ds Memory is cause = (refused_form begun (error.Refused ds) cause, refl, refl)
-reported begun ds FileFault is cause = absurd is
-
--- a request about the input is about all that it has left
-pub about_input : (begun : Beginning) (request : Request) (bytes : List ℕ) → IsOfInput request → IsAll begun.left bytes → IsAbout begun request bytes
-about_input begun (declarations choice) bytes of all = all
-about_input begun renames bytes of all = all
-about_input begun (place path span) bytes of all = absurd of
+-- nothing refuses what is sound
+abbrev pub SoundIsNotRefused : Type 0
+SoundIsNotRefused = (given : Given) (e : DeriveError) → IsSound given → IsRefusedSource given.request given.bytes e → ⊥
 
 -- words that name no path ask for what is about the input
 pub of_input : (words : List (List ℕ)) (request : Request) → AskFor words request → ((path : List ℕ) → NamePath words path → ⊥) → IsOfInput request
@@ -123,25 +100,41 @@ module _ (begun : Beginning) (told : IsTold begun) where
       one_held (begun.held path) x y (p tells) (subst (λ o. begun.held o ≡ Some y) (sym same) (q tells))
 
   -- what is sound of what a run is given is sound of all that it is given
-  pub one_given : (given other : Given) → IsGiven begun given → IsGiven begun other → IsSoundFor given.request given.bytes → (given.bytes ≡ other.bytes) × IsSoundFor other.request other.bytes
+  one_given : (given other : Given) → IsGiven begun given → IsGiven begun other → IsSoundFor given.request given.bytes → (given.bytes ≡ other.bytes) × IsSoundFor other.request other.bytes
   one_given given other is other_is sound =
       let same : Alike given.request other.request = alike begun.words given.request other.request is.asked other_is.asked in
       let bytes : given.bytes ≡ other.bytes = about_alike given.request other.request given.bytes other.bytes is.asked same is.about other_is.about in
       (bytes, subst (IsSoundFor other.request) bytes (sound_alike given.request other.request given.bytes same sound))
 
--- a file that is told to be missing is not given
-module _ (begun : Beginning) (path : List ℕ) (named : NamePath begun.words path) (missing : IsMissing begun.tells (begun.held path)) where
-  pub none_given : (given : Given) → IsGiven begun given → ⊥
-  none_given given is = by given.request (alike begun.words (place path named.0) given.request named.1 is.asked) is.about
-    where
-      by : (r : Request) → Alike (place path named.0) r → IsAbout begun r given.bytes → ⊥
-      by (declarations c) same about = same
-      by renames same about = same
-      by (place q t) same about =
-          let here : begun.held path ≡ Some given.bytes = subst (λ o. begun.held o ≡ Some given.bytes) (sym same) (about missing.0) in
-          let gone : begun.held path ≡ None = missing.1 in
-          cc
+  -- what is told and sound is not refused
+  pub sound_run : SoundIsNotRefused → (given : Given) → IsGiven begun given → IsSound given → (e : DeriveError) → IsRefusedRun schema_prepare begun e → ⊥
+  sound_run law given is sound e (inl none) = none
+  sound_run law given is sound e (inr (other, other_is, refused)) =
+      let same = one_given given other is other_is sound.sound in
+      law other e (record { text = subst IsText same.0 sound.text; sound = same.1 }) refused
 
-  -- nor do the words ask for the input
-  pub none_asked : AskForInput begun.words → ⊥
-  none_asked asked = of_asked_input begun.words (place path named.0) named.1 asked
+-- a request of words that name a path is about the file there
+pub about_file : (begun : Beginning) (request : Request) (bytes : List ℕ) → HasFile schema_prepare begun request bytes → IsAbout begun request bytes
+about_file begun (declarations c) bytes file = absurd (alike begun.words (place file.path file.named.0) (declarations c) file.named.1 file.asked)
+about_file begun renames bytes file = absurd (alike begun.words (place file.path file.named.0) renames file.named.1 file.asked)
+about_file begun (place path span) bytes file =
+    let same : file.path ≡ path = alike begun.words (place file.path file.named.0) (place path span) file.named.1 file.asked in
+    subst (λ p. IsTrue begun.tells → begun.held p ≡ Some bytes) same file.held
+
+-- and it is given
+pub file_given : (begun : Beginning) (request : Request) (bytes : List ℕ) → HasFile schema_prepare begun request bytes → IsGiven begun (record { request = request; bytes = bytes })
+file_given begun request bytes file = record { asked = file.asked; about = about_file begun request bytes file }
+
+-- words that name a path do not ask for the input
+pub no_input : (words : List (List ℕ)) (path : List ℕ) → NamePath words path → ¬ (AskForInput words)
+no_input words path named asked = of_asked_input words (place path named.0) named.1 asked
+
+-- words that ask for a place name its path alone, and others none
+pub one_path : (words : List (List ℕ)) (path : List ℕ) (span : Span) → AskFor words (place path span) → (other : List ℕ) → NamePath words other ↔ (other ≡ path)
+one_path words path span asked other = (
+  λ named. sym (alike words (place path span) (place other named.0) asked named.1),
+  λ same. (span, subst (λ p. AskFor words (place p span)) (sym same) asked),
+)
+
+pub no_path : (words : List (List ℕ)) (request : Request) → IsOfInput request → AskFor words request → (path : List ℕ) → ¬ (NamePath words path)
+no_path words request of asked path named = no_input words path named (request, of, asked)

@@ -1,9 +1,9 @@
 -- What a run is given by its words, its files and its input.
-use Rattle.std.specs.Prelude.{ℕ, List, IsTrue, IsSome}
+use Rattle.std.specs.Prelude.{ℕ, List}
 use Rattle.streams.specs.Told.{IsAll}
 use Rattle.files.specs.Held.{IsHeld}
 use Rattle.reporting.specs.Beginning.{Beginning}
-use Rattle.preparing.specs.Words.{Request, declarations, renames, place, AskFor, AskForInput, NamePath}
+use Rattle.preparing.specs.Words.{Request, declarations, renames, place, AskFor}
 
 -- a request, and the bytes that it is about
 pub record Given : Type 0 where
@@ -21,9 +21,3 @@ IsAbout begun (place path span) bytes = IsHeld begun.tells (begun.held path) byt
 pub record IsGiven (begun : Beginning) (given : Given) : Type 0 where
   pub asked : AskFor begun.words given.request
   pub about : IsAbout begun given.request given.bytes
-
--- The run is told what it is given: what the input has left, or where the words name a path, what
--- the files hold.
-pub record IsTold (begun : Beginning) : Type 0 where
-  pub left : AskForInput begun.words → IsSome begun.left
-  pub held : (path : List ℕ) → NamePath begun.words path → IsTrue begun.tells

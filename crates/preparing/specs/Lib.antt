@@ -4,6 +4,7 @@ pub mod Owed
 pub mod Refusals
 pub mod Shown
 pub mod Words
+pub mod proved
 pub use Rattle.diag.specs.Diagnostics
 pub use Rattle.diag.specs.Kind
 pub use Rattle.diag.specs.Refusal
@@ -20,6 +21,8 @@ pub use Rattle.reporting.specs.Beginning
 pub use Rattle.reporting.specs.Bytes
 pub use Rattle.reporting.specs.Endings
 pub use Rattle.reporting.specs.Numbers
+pub use Rattle.reporting.specs.Owed as RunsOwed
+pub use Rattle.reporting.specs.Program
 pub use Rattle.reporting.specs.Report
 pub use Rattle.streams.specs.Faults as StreamFaults
 pub use Rattle.streams.specs.Memory

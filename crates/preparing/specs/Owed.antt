@@ -1,15 +1,15 @@
--- What a run answers and writes.
-use Rattle.std.specs.Prelude.{◌≡◌, ℕ, List, [], codes}
+-- What schema_prepare is to its runs: what they are told, answer, report and owe.
+use Rattle.std.specs.Prelude.{ℕ, List, codes}
+use Rattle.diag.specs.declared.kind.Kind.{Kind}
 use Rattle.reporting.specs.Beginning.{Beginning}
 use Rattle.reporting.specs.Bytes.{IsText}
-use Rattle.reporting.specs.Endings.{status_of, document_of, report_of}
-use Rattle.reporting.specs.declared.ending.Ending.{Ending}
+use Rattle.reporting.specs.Owed.{Owes}
+use Rattle.reporting.specs.Program.{Program, IsRefusedRun, IsReportOf, IsToldTo}
 use Rattle.reporting.specs.declared.status.Status.{Status}
-use Rattle.reporting.specs.declared.status.Status.TheVariants.{Done, Refused, Usage, ReadFault, WriteFault, Memory, FileFault}
 use Rattle.preparing.specs.Answers.{IsAnswer}
 use Rattle.preparing.specs.Given.{Given, IsGiven}
-use Rattle.preparing.specs.Refusals.{IsReported}
-use Rattle.preparing.specs.Words.{HaveForm, AskForInput, NamePath}
+use Rattle.preparing.specs.Refusals.{IsRefusedSource}
+use Rattle.preparing.specs.Words.{Request, AskFor, AskForInput, NamePath}
 
 -- how to use the program
 abbrev pub usage : List ℕ
@@ -21,19 +21,29 @@ pub record Answers (given : Given) (text : List ℕ) : Type 0 where
   pub is_text : IsText given.bytes
   pub answer : IsAnswer given.request given.bytes text
 
--- With this status a run that begins so owes these bytes to `out` and to `err`.
-unfoldable pub Owed : Beginning → Status → List ℕ → List ℕ → Type 0
-Owed begun Done out err =
-    ((given : Given) × IsGiven begun given × Answers given out) × (err ≡ [])
-Owed begun (Refused kind) out err = IsReported begun kind err × (out ≡ [])
-Owed begun Usage out err = ¬ (HaveForm begun.words) × (out ≡ []) × (err ≡ usage)
-Owed begun FileFault out err =
-    ((path : List ℕ) × NamePath begun.words path) × (out ≡ []) × (err ≡ codes "file fault\n")
-Owed begun ReadFault out err =
-    AskForInput begun.words × (out ≡ []) × (err ≡ codes "read fault\n")
-Owed begun Memory out err = HaveForm begun.words × (out ≡ []) × (err ≡ [])
-Owed begun WriteFault out err = ⊥
+-- a request is given with the bytes that it is about, of the input or of the file that it names
+abbrev pub schema_prepare : Program
+schema_prepare = record {
+  usage = usage;
+  Request = Request;
+  ask_for = AskFor;
+  name_path = NamePath;
+  asks_for_input = λ begun. AskForInput begun.words;
+  Given = Given;
+  is_given = IsGiven;
+  answers = Answers;
+  refuses = λ given e. IsRefusedSource given.request given.bytes e;
+  refuses_file = λ begun e. ⊥;
+}
 
--- a run that begins so may end so
-abbrev pub IsEnding : Beginning → Ending → Type 0
-IsEnding begun ending = Owed begun (status_of ending) (document_of ending) (report_of ending)
+-- the run is told what it is given
+abbrev pub IsTold : Beginning → Type 0
+IsTold begun = IsToldTo schema_prepare begun
+
+-- there is a refusal of the run with this kind, whose report is the line
+abbrev pub IsReported : Beginning → Kind → List ℕ → Type 0
+IsReported begun kind line = IsReportOf (IsRefusedRun schema_prepare begun) kind line
+
+-- with this status a run that begins so owes these bytes to `out` and to `err`
+abbrev pub Owed : Beginning → Status → List ℕ → List ℕ → Type 0
+Owed begun status out err = Owes schema_prepare begun status out err

@@ -3,9 +3,9 @@
 #![tactic(auto)]
 
 mod answer;
+mod command;
 mod law;
 mod program;
-mod reading;
 mod shown;
 mod span_text;
 mod task;

@@ -6,17 +6,17 @@ ghost use Rattle.streams.specs.Told.{AppendsPart};
 ghost use Rattle.files.specs.Held.{IsMissing};
 ghost use Rattle.reporting.specs.Beginning.{beginning_of};
 ghost use Rattle.reporting.specs.declared.status.Status.{Status as AnyStatus};
-ghost use Rattle.preparing.specs.Given.{Given as AnyGiven, IsGiven, IsTold};
-ghost use Rattle.preparing.specs.Owed.{Answers, Owed, usage};
-ghost use Rattle.preparing.specs.Refusals.{IsSound, IsReported};
+ghost use Rattle.preparing.specs.Given.{Given as AnyGiven, IsGiven};
+ghost use Rattle.preparing.specs.Owed.{Answers, IsReported, IsTold, Owed, usage};
+ghost use Rattle.preparing.specs.Refusals.{IsSound};
 ghost use Rattle.preparing.specs.Words.{HaveForm, AskForInput, NamePath};
 
 use crate::law::sound_is_not_refused;
-use crate::reading::end_of;
+use crate::task::task_of;
 use files::Files;
-use reporting::{Status, Words, deliver};
+use reporting::{Status, Words, run_command};
 use std::alloc::Global;
-use streams::{Failed, Sink, Source};
+use streams::{Sink, Source};
 
 /// Runs the program. With the word `declarations` it reads a whole file of Rust from the input, and writes to `out` the
 /// text of which only the declarations stand; with `declarations --serde` only those that serde and utoipa know, and those
@@ -27,7 +27,6 @@ use streams::{Failed, Sink, Source};
 ///
 /// Nothing is written before all is made, and writing takes no memory. So `out` gets the whole answer or nothing, except
 /// after a fault of writing, when it has a front of what it was to get.
-#[tactic(auto, using(crate::proofs::Consequences::consequences))]
 pub fn run<S: Source, F: Files, O: Sink, E: Sink>(
     alloc: Global,
     words: &Words,
@@ -107,12 +106,6 @@ pub fn run<S: Source, F: Files, O: Sink, E: Sink>(
     ensures out_calm { result ≢ Status.WriteFault → O.faults out.new ≡ O.faults out.old }
     ensures err_calm { result ≢ Status.WriteFault → E.faults err.new ≡ E.faults err.old }
 {
-    let ending = end_of(alloc, words, input, files);
-    let document = ending.document().as_bytes();
-    let report = ending.report().as_bytes();
     sound_is_not_refused();
-    match deliver(document, report, out, err) {
-        Ok(()) => ending.status(),
-        Err(Failed) => Status::WriteFault,
-    }
+    run_command(alloc, words, task_of(words), input, files, out, err)
 }

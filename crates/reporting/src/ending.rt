@@ -11,7 +11,7 @@ use texts::Text;
 
 /// The end of a run, before it is written.
 #[derive(Drop)]
-pub enum Ending {
+pub(crate) enum Ending {
     /// The run has made this document.
     Done(Text),
     /// What the run was given is refused, for a cause of this kind, and this line tells it.
@@ -28,7 +28,7 @@ pub enum Ending {
 
 impl Ending {
     /// The end of a run that is refused. It is want of memory where there is none for the line.
-    pub fn of_refusal(alloc: Global, refusal: &Diagnostics) -> Ending
+    fn of_refusal(alloc: Global, refusal: &Diagnostics) -> Ending
         ensures { Reports refusal.now result }
     {
         match refusal_line(alloc, refusal) {
@@ -48,7 +48,7 @@ impl Ending {
     }
 
     /// The status of a run that ends so, where nothing fails while that is written.
-    pub fn status(&self) -> Status
+    pub(crate) fn status(&self) -> Status
         ensures { result ≡ status_of self.now }
     {
         match self {
@@ -62,7 +62,7 @@ impl Ending {
     }
 
     /// What the output gets.
-    pub fn document(&self) -> &str
+    pub(crate) fn document(&self) -> &str
         ensures { result.now ≡ document_of self.now }
     {
         match self {
@@ -72,7 +72,7 @@ impl Ending {
     }
 
     /// What the output for reports gets.
-    pub fn report(&self) -> &str
+    pub(crate) fn report(&self) -> &str
         ensures { result.now ≡ report_of self.now }
     {
         match self {

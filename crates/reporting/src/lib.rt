@@ -14,9 +14,8 @@ mod words;
 
 pub use command::Command;
 pub use delivery::deliver;
-pub use ending::Ending;
 pub use law::texts_are_read;
-pub use refusal::{MAX_BYTES, refusal_line, source_text, too_long};
+pub use refusal::{source_text, too_long};
 pub use rest::Rest;
 pub use run::run_command;
 pub use status::Status;

@@ -13,7 +13,7 @@ use std::str::Utf8Error;
 use texts::{Span, Text};
 
 /// The most bytes of a source, and of a configuration's file.
-pub const MAX_BYTES: usize = 1_048_576;
+pub(crate) const MAX_BYTES: usize = 1_048_576;
 
 /// The refusal of a source of too many bytes, or want of memory.
 pub fn too_long(alloc: Global) -> DeriveError
@@ -56,7 +56,7 @@ pub fn source_text(alloc: Global, bytes: &[u8]) -> Result<&str, DeriveError>
 }
 
 /// The line that reports the refusal.
-pub fn refusal_line(alloc: Global, refusal: &Diagnostics) -> Result<Text, AllocError>
+pub(crate) fn refusal_line(alloc: Global, refusal: &Diagnostics) -> Result<Text, AllocError>
     ensures { IfOk result (λ line. line ≡ refusal_line refusal.now) }
 {
     let kind = refusal.kind();

@@ -1,11 +1,9 @@
 -- Refusals of a source have another kind than those of a configuration.
-use Rattle.std.proofs.Common.{◌≡◌, ◌∙◌, ◌⊎◌, ℕ, List, [], ◌∷◌, inl, inr, sym, subst, codes, Option, Some, None, Result, Ok, Err, IsSomeAnd}
-use Rattle.diag.specs.Diagnostics.{HasFirst, diagnostic}
+use Rattle.std.proofs.Common.{◌≡◌, ◌⊎◌, ℕ, List, [], ◌∷◌, inl, inr, subst, codes, Option, Some, None, Result, Ok, Err, IsSomeAnd}
+use Rattle.diag.specs.Diagnostics.{HasFirst}
 use Rattle.diag.specs.Refusal.{IsRefusal, IsHelpRefusal}
-use Rattle.texts.specs.Span.{no_span}
 use Rattle.diag.specs.declared.diagnostics.DiangosticsInner.{DiangosticsInner}
-use Rattle.diag.specs.declared.error.DeriveError.{DeriveError}
-use Rattle.diag.specs.declared.error.DeriveError.TheVariants.{Refused, Memory}
+use Rattle.diag.specs.declared.error.DeriveError.TheVariants.{Refused}
 use Rattle.diag.specs.declared.kind.Kind.{Kind}
 use Rattle.diag.specs.declared.kind.Kind.TheVariants.{BadConfig, TooLong, TooDeep, Syntax, DuplicateName, UnknownType, Arity, BadArgument, TypeSize, TooManyInstances, NameClash, InlineDepth, TooManyCopies, MissingRow, SerdeTag, TaggedTuple, BadValue}
 use Rattle.texts.specs.declared.span.Span.{Span}
@@ -38,18 +36,9 @@ use Rattle.compose.specs.Bounds.{IsRefusalOf, IsUnbounded}
 use Rattle.compose.specs.Faults.{AreFaultyDeclarations, AreAtFault, IsBeyond, IsRefused}
 use Rattle.schema_gen.specs.Refusals.{IsRefusedSource}
 
--- an error that refuses is no want of memory
-pub refuses : (P : DeriveError → Type 0) (e : DeriveError) (ds : List DiangosticsInner) → (e ≡ Memory) ⊎ P e → e ≡ Refused ds → P (Refused ds)
-refuses P e ds (inl memory) is = absurd (let both : ◌≡◌ {A = DeriveError} Memory (Refused ds) = sym memory ∙ is in cc)
-refuses P e ds (inr holds) is = subst P is holds
-
 -- the refusal of a configuration has its kind
 pub config_kind : (kind : Kind) (ds : List DiangosticsInner) → IsBadConfig (Refused ds) → HasFirst ds (λ d. d.kind ≡ kind) → BadConfig ≡ kind
 config_kind kind ds is first = subst (λ es. HasFirst es (λ d. d.kind ≡ kind)) is first
-
--- the refusal of a source that is too long has another kind
-pub long_kind : (ds : List DiangosticsInner) → ds ≡ diagnostic TooLong no_span (codes "the source is longer than 1048576 bytes") ∷ [] → HasFirst ds (λ d. d.kind ≡ BadConfig) → ⊥
-long_kind ds is first = let same : TooLong ≡ BadConfig = subst (λ es. HasFirst es (λ d. d.kind ≡ BadConfig)) is first in cc
 
 module _ (ds : List DiangosticsInner) (first : HasFirst ds (λ d. d.kind ≡ BadConfig)) where
   other : (kind : Kind) (span : Span) (message : List ℕ) → (kind ≡ BadConfig → ⊥) → IsRefusal kind span message (Refused ds) → ⊥

@@ -1,5 +1,5 @@
 -- What a run is given by its words, its files and its input, and what that is resolved to.
-use Rattle.std.specs.Prelude.{◌≡◌, ℕ, List, Bool, IsTrue, IsSome, Option, Some, None}
+use Rattle.std.specs.Prelude.{◌≡◌, ℕ, List, Bool, Option, Some, None}
 use Rattle.streams.specs.Told.{IsAll}
 use Rattle.files.specs.Held.{IsHeld}
 use Rattle.configuration.specs.Configuration.{Configuration, empty_configuration}
@@ -47,9 +47,3 @@ pub record ResolvesTo (given : Given) (resolved : List DeclarationOf) : Type 0 w
   pub declarations : List DeclaredItem
   pub read : Reads given.text declarations
   pub resolves : resolved_declarations given.config.renames declarations ≡ Some resolved
-
--- The run is told what it is given: what the input has left, and where the words name a path, what
--- the files hold.
-pub record IsTold (begun : Beginning) : Type 0 where
-  pub left : IsSome begun.left
-  pub held : (path : List ℕ) → IsDerive begun.words (Some path) → IsTrue begun.tells

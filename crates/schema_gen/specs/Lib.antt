@@ -1,3 +1,4 @@
+pub mod Derived
 pub mod Given
 pub mod Owed
 pub mod Refusals
@@ -33,6 +34,8 @@ pub use Rattle.reporting.specs.Beginning
 pub use Rattle.reporting.specs.Bytes
 pub use Rattle.reporting.specs.Endings
 pub use Rattle.reporting.specs.Numbers
+pub use Rattle.reporting.specs.Owed as RunsOwed
+pub use Rattle.reporting.specs.Program
 pub use Rattle.reporting.specs.Report
 pub use Rattle.schema_core.specs.Document
 pub use Rattle.streams.specs.Faults as StreamFaults

@@ -1,49 +1,41 @@
--- What a run answers and writes.
-use Rattle.std.specs.Prelude.{◌≡◌, ℕ, List, [], Some, codes}
-use Rattle.schema_core.specs.Document.{Entry, document, text_of}
+-- What schema_gen is to its runs: what they are told, report and owe.
+use Rattle.std.specs.Prelude.{ℕ, List, Option, Some, codes}
+use Rattle.diag.specs.declared.kind.Kind.{Kind}
 use Rattle.configuration.specs.Configuration.{Configuration}
-use Rattle.closing.specs.Described.{Describes}
-use Rattle.compose.specs.Bounds.{collects_all}
-use Rattle.compose.specs.Faults.{IsDerived}
+use Rattle.configuration.specs.Form.{IsBadConfig}
 use Rattle.reporting.specs.Beginning.{Beginning}
-use Rattle.reporting.specs.Bytes.{IsText}
-use Rattle.reporting.specs.Endings.{status_of, document_of, report_of}
-use Rattle.reporting.specs.declared.ending.Ending.{Ending}
+use Rattle.reporting.specs.Owed.{Owes}
+use Rattle.reporting.specs.Program.{Program, IsRefusedRun, IsReportOf, IsToldTo}
 use Rattle.reporting.specs.declared.status.Status.{Status}
-use Rattle.reporting.specs.declared.status.Status.TheVariants.{Done, Refused, Usage, ReadFault, WriteFault, Memory, FileFault}
-use Rattle.schema_gen.specs.Given.{Given, IsConfigured, IsGiven}
-use Rattle.schema_gen.specs.Refusals.{IsReported}
-use Rattle.schema_gen.specs.Words.{IsDerive, HaveForm}
+use Rattle.schema_gen.specs.Derived.{IsDocumentOf}
+use Rattle.schema_gen.specs.Given.{Given, IsConfigured, IsMisconfigured, IsGiven}
+use Rattle.schema_gen.specs.Refusals.{IsRefusedSource}
+use Rattle.schema_gen.specs.Words.{IsDerive}
 
--- The text is that of the document of a source's components, which describes the declarations that
--- the source declares.
-pub record IsDocumentOf (c : Configuration) (source text : List ℕ) : Type 0 where
-  pub is_text : IsText source
-  pub components : List Entry
-  pub made : IsDerived c source components
-  pub describes : Describes made.resolved (collects_all c.collect) (document components)
-  pub text_is : text ≡ text_of (document components)
+-- words may name the path of a configuration, which the file there may not say; a source is given
+-- with the configuration, and the text of its document answers
+abbrev pub schema_gen : Program
+schema_gen = record {
+  usage = codes "usage: schema_gen derive [--config PATH]\n";
+  Request = Option (List ℕ);
+  ask_for = IsDerive;
+  name_path = λ words path. IsDerive words (Some path);
+  asks_for_input = λ begun. (c : Configuration) × IsConfigured begun c;
+  Given = Given;
+  is_given = IsGiven;
+  answers = λ given text. IsDocumentOf given.config given.text text;
+  refuses = λ given e. IsRefusedSource given.config given.text e;
+  refuses_file = λ begun e. IsMisconfigured begun × IsBadConfig e;
+}
 
--- the text is that of the document of what is given
-abbrev pub IsDocument : Beginning → List ℕ → Type 0
-IsDocument begun text =
-    (given : Given) × IsGiven begun given × IsDocumentOf given.config given.text text
+-- the run is told what it is given
+abbrev pub IsTold : Beginning → Type 0
+IsTold begun = IsToldTo schema_gen begun
 
--- With this status a run that begins so owes these bytes to `out` and to `err`.
-unfoldable pub Owed : Beginning → Status → List ℕ → List ℕ → Type 0
-Owed begun Done out err = IsDocument begun out × (err ≡ [])
-Owed begun (Refused kind) out err = IsReported begun kind err × (out ≡ [])
-Owed begun Usage out err =
-    ¬ (HaveForm begun.words) × (out ≡ [])
-    × (err ≡ codes "usage: schema_gen derive [--config PATH]\n")
-Owed begun FileFault out err =
-    ((path : List ℕ) × IsDerive begun.words (Some path)) × (out ≡ [])
-    × (err ≡ codes "file fault\n")
-Owed begun ReadFault out err =
-    ((c : Configuration) × IsConfigured begun c) × (out ≡ []) × (err ≡ codes "read fault\n")
-Owed begun Memory out err = HaveForm begun.words × (out ≡ []) × (err ≡ [])
-Owed begun WriteFault out err = ⊥
+-- there is a refusal of the run with this kind, whose report is the line
+abbrev pub IsReported : Beginning → Kind → List ℕ → Type 0
+IsReported begun kind line = IsReportOf (IsRefusedRun schema_gen begun) kind line
 
--- a run that begins so may end so
-abbrev pub IsEnding : Beginning → Ending → Type 0
-IsEnding begun ending = Owed begun (status_of ending) (document_of ending) (report_of ending)
+-- with this status a run that begins so owes these bytes to `out` and to `err`
+abbrev pub Owed : Beginning → Status → List ℕ → List ℕ → Type 0
+Owed begun status out err = Owes schema_gen begun status out err

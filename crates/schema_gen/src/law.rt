@@ -6,6 +6,7 @@ ghost use Rattle.configuration.specs.Configuration.{Configuration};
 ghost use Rattle.schema_gen.specs.Refusals.{IsRefusedSource, IsSound};
 
 use compose::bounded_are_not_refused;
+use reporting::texts_are_read;
 use syntax::one_reading;
 
 /// Nothing refuses a source that is sound with a configuration.
@@ -15,4 +16,5 @@ pub fn sound_is_not_refused()
 {
     one_reading();
     bounded_are_not_refused();
+    texts_are_read();
 }

@@ -3,9 +3,9 @@
 #![tactic(auto)]
 
 mod command;
+mod derivation;
 mod law;
 mod program;
-mod reading;
 
 pub use compose::{Derived, derive_components};
 pub use configuration::Config;

@@ -12,19 +12,20 @@ ghost use Rattle.closing.specs.Described.{Describes};
 ghost use Rattle.compose.specs.Bounds.{collects_all};
 ghost use Rattle.reporting.specs.Beginning.{beginning_of};
 ghost use Rattle.reporting.specs.declared.status.Status.{Status as AnyStatus};
-ghost use Rattle.schema_gen.specs.Given.{Given as AnyGiven, IsGiven, IsTold, IsConfigured, IsMisconfigured, ResolvesTo};
-ghost use Rattle.schema_gen.specs.Owed.{IsDocument, Owed};
-ghost use Rattle.schema_gen.specs.Refusals.{IsSound, IsReported};
+ghost use Rattle.schema_gen.specs.Derived.{IsDocument};
+ghost use Rattle.schema_gen.specs.Given.{Given as AnyGiven, IsGiven, IsConfigured, IsMisconfigured, ResolvesTo};
+ghost use Rattle.schema_gen.specs.Owed.{IsReported, IsTold, Owed};
+ghost use Rattle.schema_gen.specs.Refusals.{IsSound};
 ghost use Rattle.schema_gen.specs.Words.{IsDerive, HaveForm};
 
+use crate::derivation::derivation_of;
 use crate::law::sound_is_not_refused;
-use crate::reading::end_of;
 use configuration::configurations_are_one;
 use diag::Kind;
 use files::Files;
-use reporting::{Status, Words, deliver};
+use reporting::{Status, Words, run_command};
 use std::alloc::Global;
-use streams::{Failed, Sink, Source};
+use streams::{Sink, Source};
 
 /// Runs the program: with the word `derive` it reads the source to its end, and writes the document of its components
 /// to `out`. With `derive --config PATH` it first reads the configuration from the file at the path. What it has to say
@@ -33,7 +34,6 @@ use streams::{Failed, Sink, Source};
 ///
 /// Nothing is written before all is made, and writing takes no memory. So `out` gets the whole document or nothing,
 /// except after a fault of writing, when it has a front of what it was to get.
-#[tactic(auto, using(crate::proofs::Consequences::consequences))]
 pub fn run<S: Source, F: Files, O: Sink, E: Sink>(
     alloc: Global,
     words: &Words,
@@ -137,13 +137,7 @@ pub fn run<S: Source, F: Files, O: Sink, E: Sink>(
     ensures out_calm { result ≢ Status.WriteFault → O.faults out.new ≡ O.faults out.old }
     ensures err_calm { result ≢ Status.WriteFault → E.faults err.new ≡ E.faults err.old }
 {
-    let ending = end_of(alloc, words, input, files);
-    let document = ending.document().as_bytes();
-    let report = ending.report().as_bytes();
     sound_is_not_refused();
     configurations_are_one();
-    match deliver(document, report, out, err) {
-        Ok(()) => ending.status(),
-        Err(Failed) => Status::WriteFault,
-    }
+    run_command(alloc, words, derivation_of(words), input, files, out, err)
 }

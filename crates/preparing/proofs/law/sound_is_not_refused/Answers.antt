@@ -1,9 +1,8 @@
-use Rattle.std.proofs.Common.{◌≡◌, ◌≤◌, ◌<◌, ℕ, List, length, inl, inr, subst, arith}
+use Rattle.std.proofs.Common.{◌≡◌, ℕ, List, inl, inr, subst}
 use Rattle.diag.specs.declared.error.DeriveError.{DeriveError}
 use Rattle.syntax.specs.Items.{DeclaredItem}
 use Rattle.syntax.specs.Source.{Reads}
 use Rattle.renaming.specs.Asked.{HaveNoRows}
-use Rattle.reporting.specs.Bytes.{most_bytes}
 use Rattle.preparing.specs.Answers.{IsRefusedFor, IsSoundFor}
 use Rattle.preparing.specs.Given.{Given}
 use Rattle.preparing.specs.Refusals.{IsRefusedSource, IsSound}
@@ -23,14 +22,11 @@ sound_text one renames source e sound (inr (inl (span, is, within, none))) = non
 sound_text one renames source e sound (inr (inr (ds, read, rowless))) = sound.named e (subst (λ items. HaveNoRows items e) (one source ds sound.items read sound.read) rowless)
 sound_text one (place path span) source e sound refused = refused
 
-long_and_short : (n : ℕ) → most_bytes < n → n ≤ most_bytes → ⊥
-long_and_short n long short = omega arith
-
-not_refused : OneReading → (given : Given) (e : DeriveError) → IsSound given → IsRefusedSource given.request given.bytes e → ⊥
-not_refused one given e sound (inl (long, is)) = long_and_short (length given.bytes) long sound.text.short
-not_refused one given e sound (inr (inl (short, (span, broken, is)))) = broken.no_text sound.text.utf8
-not_refused one given e sound (inr (inr (is_text, refused))) = sound_text one given.request given.bytes e sound.sound refused
-
 pub returns : goal.returns
 unfolding OneReading
-returns c = not_refused c.one_reading.ensures
+returns c = not_refused
+  where
+    not_refused : (given : Given) (e : DeriveError) → IsSound given → IsRefusedSource given.request given.bytes e → ⊥
+    not_refused given e sound (inl long) = c.texts_are_read.ensures.short given.bytes e sound.text long
+    not_refused given e sound (inr (inl broken)) = c.texts_are_read.ensures.utf8 given.bytes e sound.text broken
+    not_refused given e sound (inr (inr (is_text, refused))) = sound_text c.one_reading.ensures given.request given.bytes e sound.sound refused

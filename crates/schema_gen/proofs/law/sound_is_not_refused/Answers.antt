@@ -1,4 +1,4 @@
-use Rattle.std.proofs.Common.{◌≡◌, ◌∙◌, ◌≤◌, ◌<◌, ◌⊎◌, ℕ, List, Some, length, inl, inr, sym, subst, arith}
+use Rattle.std.proofs.Common.{◌≡◌, ◌∙◌, ◌⊎◌, ℕ, List, Some, inl, inr, sym, subst}
 use Rattle.std.proofs.lemmas.Option.{none-some}
 use Rattle.diag.specs.declared.error.DeriveError.{DeriveError}
 use Rattle.syntax.specs.Items.{DeclaredItem}
@@ -9,7 +9,6 @@ use Rattle.shapes.specs.Declarations.{DeclarationOf}
 use Rattle.derive_decl.specs.Whole.{resolved_declarations}
 use Rattle.compose.specs.Bounds.{AreBounded, BoundedAreNotRefused}
 use Rattle.compose.specs.Faults.{AreAtFault, IsBeyond, IsRefused, AreClear}
-use Rattle.reporting.specs.Bytes.{most_bytes}
 use Rattle.schema_gen.specs.Refusals.{IsSound, IsRefusedSource}
 use Rattle.schema_gen.proofs.law.sound_is_not_refused.Goals as goal
 
@@ -31,14 +30,11 @@ clear_text one bounded c source e sound (inr (inr (ds, read, shallow, fault))) =
     by fine (inl (inr (derivable, fault))) = fine.0.faultless e fault
     by fine (inr (clear, (resolved, resolves, unbounded))) = bounded c (declared_idents ds) resolved e (fine.1 resolved resolves) unbounded
 
-long_and_short : (n : ℕ) → most_bytes < n → n ≤ most_bytes → ⊥
-long_and_short n long short = omega arith
-
-not_refused : OneReading → BoundedAreNotRefused → (c : Configuration) (source : List ℕ) (e : DeriveError) → IsSound c source → IsRefusedSource c source e → ⊥
-not_refused one bounded c source e sound (inl (long, is)) = long_and_short (length source) long sound.text.short
-not_refused one bounded c source e sound (inr (inl (short, (span, broken, is)))) = broken.no_text sound.text.utf8
-not_refused one bounded c source e sound (inr (inr (is_text, refused))) = clear_text one bounded c source e sound refused
-
 pub returns : goal.returns
 unfolding OneReading
-returns c = not_refused c.one_reading.ensures c.bounded_are_not_refused.ensures
+returns c = not_refused
+  where
+    not_refused : (config : Configuration) (source : List ℕ) (e : DeriveError) → IsSound config source → IsRefusedSource config source e → ⊥
+    not_refused config source e sound (inl long) = c.texts_are_read.ensures.short source e sound.text long
+    not_refused config source e sound (inr (inl broken)) = c.texts_are_read.ensures.utf8 source e sound.text broken
+    not_refused config source e sound (inr (inr (is_text, refused))) = clear_text c.one_reading.ensures c.bounded_are_not_refused.ensures config source e sound refused

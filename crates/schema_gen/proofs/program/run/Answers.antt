@@ -1,43 +1,43 @@
-use Rattle.std.proofs.Common.{◌≡◌, ◌∙◌, ◌⊎◌, sym, subst}
-use Rattle.std.specs.Io.KnownBytes.{Appends}
-use Rattle.reporting.specs.declared.status.Status.TheVariants.{Done, Refused, Memory, FileFault, WriteFault}
+use Rattle.std.proofs.Common.{◌⊎◌, ℕ, List, Some, inl, inr}
+use Rattle.reporting.specs.Beginning.{Beginning}
+use Rattle.reporting.specs.Program.{IsRefusedGiven, IsReportOf}
 use Rattle.diag.specs.declared.kind.Kind.TheVariants.{BadConfig}
-use Rattle.schema_gen.proofs.Consequences.{described, document_owed, refused_owed, bad_config_owed, only_bad_owed, missing_owed, sound_owed}
+use Rattle.schema_gen.specs.Owed.{schema_gen}
+use Rattle.schema_gen.proofs.Consequences.{described, other_kind, bad_config_cause, only_bad_owed}
+use Rattle.schema_gen.proofs.Told.{sound_run}
 use Rattle.schema_gen.proofs.program.run.Goals as goal
 
-pub returns-in-Ok-clause-done : goal.returns-in-Ok-clause-done
-returns-in-Ok-clause-done g c = λ is.
-    described _ _ _ _ (document_owed _ _ _ _ c.end_of-ending.ensures.owed (sym c.status.ensures ∙ is))
-    (subst (Appends _ _) (c.as_bytes-document.ensures.value ∙ c.document.ensures) c.in-Ok.ensures.out)
+-- what holds where no source is refused, or where one is refused as a configuration
+without_source : (begun : Beginning) (P : Type 0) → P ⊎ ((line : List ℕ) × IsReportOf (IsRefusedGiven schema_gen begun) BadConfig line) → P
+without_source begun P (inl holds) = holds
+without_source begun P (inr (line, reported)) = absurd (other_kind begun line reported)
 
-pub returns-in-Ok-clause-derived : goal.returns-in-Ok-clause-derived
-returns-in-Ok-clause-derived g c = λ is. (
-  _,
-  document_owed _ _ _ _ c.end_of-ending.ensures.owed (sym c.status.ensures ∙ is),
-  subst (Appends _ _) (c.as_bytes-document.ensures.value ∙ c.document.ensures) c.in-Ok.ensures.out,
-)
+pub returns-clause-done : goal.returns-clause-done
+returns-clause-done g c = λ is. let done = c.run_command.ensures.done is in described _ done.0 _ _ done.1 done.2
 
-pub returns-in-Ok-clause-refused : goal.returns-in-Ok-clause-refused
-returns-in-Ok-clause-refused g c = λ kind is. (
-  _,
-  refused_owed _ _ _ _ c.end_of-ending.ensures.owed kind (sym c.status.ensures ∙ is),
-  subst (Appends _ _) (c.as_bytes-report.ensures.value ∙ c.report.ensures) c.in-Ok.ensures.err,
-)
+pub returns-clause-bad_config : goal.returns-clause-bad_config
+returns-clause-bad_config g c = λ is. let refused = c.run_command.ensures.refused BadConfig is in bad_config_cause _ refused.0 refused.1
 
-pub returns-in-Ok-clause-bad_config : goal.returns-in-Ok-clause-bad_config
-returns-in-Ok-clause-bad_config g c = λ is. bad_config_owed _ _ _ _ c.end_of-ending.ensures.owed (sym c.status.ensures ∙ is)
+pub returns-clause-only_bad_config : goal.returns-clause-only_bad_config
+returns-clause-only_bad_config g c = λ told file.
+    only_bad_owed _ told file _ (λ whole. let written = c.run_command.ensures.written whole in (written.0, written.1, written.2))
 
-pub returns-in-Ok-clause-only_bad_config : goal.returns-in-Ok-clause-only_bad_config
-returns-in-Ok-clause-only_bad_config g c = λ told file.
-    subst (λ s. (s ≡ Refused BadConfig) ⊎ (s ≡ FileFault) ⊎ (s ≡ Memory) ⊎ (s ≡ WriteFault)) (sym c.status.ensures)
-    (only_bad_owed _ _ _ _ c.end_of-ending.ensures.owed file told)
+pub returns-clause-missing : goal.returns-clause-missing
+returns-clause-missing g c = λ path form missing. c.run_command.ensures.missing path (Some path, form) form missing
 
-pub returns-in-Ok-clause-missing : goal.returns-in-Ok-clause-missing
-returns-in-Ok-clause-missing g c = λ path form missing.
-    subst (λ s. (s ≡ FileFault) ⊎ (s ≡ Memory) ⊎ (s ≡ WriteFault)) (sym c.status.ensures) (missing_owed _ _ _ _ c.end_of-ending.ensures.owed path form missing)
+pub returns-clause-unread : goal.returns-clause-unread
+returns-clause-unread g c = λ none. c.run_command.ensures.unread (λ configured. none configured.0 configured.1)
 
-pub returns-in-Ok-clause-complete : goal.returns-in-Ok-clause-complete
-returns-in-Ok-clause-complete g c = λ given is told sound input_calm files_calm out_calm err_calm.
-    subst (λ s. (s ≡ Done) ⊎ (s ≡ Memory)) (sym c.status.ensures)
-    (sound_owed _ c.sound_is_not_refused.ensures c.configurations_are_one.ensures.of_text given is told sound _ _ _ c.end_of-ending.ensures.owed
-    (λ failed. input_calm (c.end_of-ending.ensures.failed failed)) (λ failed. files_calm (c.end_of-ending.ensures.files_failed failed).0))
+pub returns-clause-unread_config : goal.returns-clause-unread_config
+returns-clause-unread_config g c = λ why.
+    elim why [
+      | inl bad ↦ without_source _ _ (c.run_command.ensures.unread_refusal BadConfig bad)
+      | inr fault ↦ c.run_command.ensures.unread_fault fault
+    ]
+
+pub returns-clause-complete : goal.returns-clause-complete
+returns-clause-complete g c = λ given is told sound.
+    c.run_command.ensures.complete (is.config.0, is.config.1) (sound_run _ c.sound_is_not_refused.ensures c.configurations_are_one.ensures.of_text given is told sound)
+
+pub returns-clause-end : goal.returns-clause-end
+returns-clause-end g c = λ is. let done = c.run_command.ensures.done is in c.run_command.ensures.end is (done.1.0.config, done.1.1.config)

@@ -1,0 +1,41 @@
+use Rattle.std.proofs.Common.{◌≡◌, ◌⊎◌, ℕ, List, inl, inr, sym, subst}
+use Rattle.std.proofs.lemmas.Result.{err_from_is_err_and}
+use Rattle.diag.specs.declared.error.DeriveError.{DeriveError}
+use Rattle.diag.specs.declared.error.DeriveError.TheVariants.{Memory}
+use Rattle.schema_core.specs.Document.{Entry, document, text_of}
+use Rattle.configuration.specs.Configuration.{Configuration}
+use Rattle.closing.specs.Described.{Describes}
+use Rattle.compose.specs.Bounds.{collects_all}
+use Rattle.compose.specs.Faults.{IsDerived, IsRefused}
+use Rattle.schema_gen.specs.Derived.{IsDocumentOf}
+use Rattle.reporting.specs.Bytes.{IsText}
+use Rattle.schema_gen.specs.Refusals.{IsRefusedSource}
+use Rattle.schema_gen.proofs.derivation.document_text.Goals as goal
+
+-- what refuses the text refuses its bytes
+refused_bytes : (config : Configuration) (source bytes : List ℕ) (e : DeriveError) → source ≡ bytes → IsText bytes → (e ≡ Memory) ⊎ IsRefused config source e → (e ≡ Memory) ⊎ IsRefusedSource config bytes e
+refused_bytes config source bytes e same is_text (inl memory) = inl memory
+refused_bytes config source bytes e same is_text (inr refused) = inr (inr (inr (is_text, subst (λ b. IsRefused config b e) same refused)))
+
+-- the document of the text is that of its bytes
+document_of_bytes : (config : Configuration) (source bytes text : List ℕ) (components : List Entry) → source ≡ bytes → IsText bytes
+    → (made : IsDerived config source components) × Describes made.resolved (collects_all config.collect) (document components) → text ≡ text_of (document components) → IsDocumentOf config bytes text
+document_of_bytes config source bytes text components same is_text made text_is =
+    subst (λ b. IsDocumentOf config b text) same (record {
+      is_text = subst IsText (sym same) is_text;
+      components = components;
+      made = made.0;
+      describes = made.1;
+      text_is = text_is;
+    })
+
+pub returns-in_err-derived-clause-refused : goal.returns-in_err-derived-clause-refused
+returns-in_err-derived-clause-refused c =
+    let source = c.in_ok-source.ensures.text in
+    let p = err_from_is_err_and c.from_residual-in_err-derived.result c.from_residual-in_err-derived.ensures.1 in
+    rw (p.1, p.2) (refused_bytes c.args.config.now _ _ _ source.0 (record { short = c.requires; utf8 = source.1 }) c.in_err-derived.ensures.refused)
+
+pub returns-clause-made : goal.returns-clause-made
+returns-clause-made c =
+    let source = c.in_ok-source.ensures.text in
+    document_of_bytes _ _ _ _ _ source.0 (record { short = c.requires; utf8 = source.1 }) c.in_ok-derived.ensures.describes c.in_ok-to_text.ensures
