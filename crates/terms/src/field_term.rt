@@ -1,6 +1,7 @@
 ghost use Rattle.std.specs.Prelude.{◌≡◌, IfOk};
 ghost use Rattle.open_types.specs.Open.{open_view};
 ghost use Rattle.component.specs.Leaves.{term_view};
+ghost use Rattle.shapes.specs.Declarations.{no_remarks};
 ghost use Rattle.terms.specs.Terms.{field_term};
 
 use component::{Place, Term, place_term};
@@ -21,6 +22,19 @@ pub(crate) fn field_term(
         inline: false,
         deprecated: remarks.deprecated,
         description: &remarks.description,
+    };
+    place_term(alloc, place, ty)
+}
+
+/// The schema of a field of the type, of which nothing is said.
+pub(crate) fn unremarked_term(alloc: Global, ty: &OpenType) -> Result<Term, AllocError>
+    ensures { IfOk result (λ t. term_view t ≡ field_term no_remarks (open_view ty.now)) }
+{
+    let place = Place {
+        nullable: false,
+        inline: false,
+        deprecated: false,
+        description: &None,
     };
     place_term(alloc, place, ty)
 }

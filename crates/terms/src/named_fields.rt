@@ -5,16 +5,27 @@ ghost use Rattle.schema_trees.specs.Schema.{named_views};
 ghost use Rattle.component.specs.Leaves.{leaf_view, term_view};
 ghost use Rattle.shapes.specs.Declarations.{named_fields};
 ghost use Rattle.shapes.specs.Views.{member_view};
-ghost use Rattle.terms.specs.Terms.{properties_of, required_names, form_term, internal_term};
+ghost use Rattle.open_types.specs.Open.{open_view};
+ghost use Rattle.terms.specs.Terms.{field_term, properties_of, required_names, form_term, internal_term, tag_schema, with_property};
 
 use crate::field_term::field_term;
-use crate::object::object_of;
-use crate::tagged::push_tag;
+use crate::object::object_term;
+use crate::tagged::{push_name, push_tag};
 use component::{Term, noted};
-use schema_trees::Tree;
 use shapes::{Member, Remarks};
 use std::alloc::{AllocError, Global};
 use texts::{List, Text};
+
+/// The property of a member.
+fn property_of(alloc: Global, member: &Member) -> Result<(Text, Term), AllocError>
+    ensures name { IfOk result (λ p. p.0 ≡ member.now.name) }
+    ensures term { IfOk result (λ p. term_view p.1
+        ≡ field_term member.now.remarks (open_view member.now.ty)) }
+{
+    let name = member.name.copy(alloc)?;
+    let term = field_term(alloc, &member.remarks, &member.ty)?;
+    Ok((name, term))
+}
 
 /// A property for each member.
 fn properties_of(alloc: Global, members: &[Member]) -> Result<List<(Text, Term)>, AllocError>
@@ -23,8 +34,7 @@ fn properties_of(alloc: Global, members: &[Member]) -> Result<List<(Text, Term)>
 {
     let mut properties = List::new(alloc);
     for member in members {
-        let name = member.name.copy(alloc)?;
-        properties.push((name, field_term(alloc, &member.remarks, &member.ty)?))?;
+        properties.push(property_of(alloc, member)?)?;
     }
     Ok(properties)
 }
@@ -68,8 +78,32 @@ pub(crate) fn named_term(
     let notes = noted(alloc, remarks.deprecated, &remarks.description)?;
     let required = required_of(alloc, members)?;
     let properties = properties_of(alloc, members)?;
-    let object = object_of(alloc, properties, denies, required, notes);
-    Ok(Tree::Object(Box::new(alloc, object)?))
+    object_term(alloc, properties, denies, required, notes)
+}
+
+/// The names of the members that must be there, and the tag behind them.
+fn tagged_required(alloc: Global, members: &[Member], tag: &Text) -> Result<List<Text>, AllocError>
+    ensures { IfOk result
+        (λ names. names ≡ required_names (map member_view members.now) ++ tag.now ∷ []) }
+{
+    let mut required = required_of(alloc, members)?;
+    push_name(alloc, &mut required, tag)?;
+    Ok(required)
+}
+
+/// A property for each member, and the tag behind them, whose text is the name.
+fn tagged_properties(
+    alloc: Global,
+    members: &[Member],
+    tag: &Text,
+    name: &Text,
+) -> Result<List<(Text, Term)>, AllocError>
+    ensures { IfOk result (λ ps. named_views leaf_view ps ≡ with_property
+        (properties_of (map member_view members.now)) tag.now (tag_schema name.now)) }
+{
+    let mut properties = properties_of(alloc, members)?;
+    push_tag(alloc, &mut properties, tag, name)?;
+    Ok(properties)
 }
 
 /// The schema of such fields with a tag behind their members, whose text is the name.
@@ -86,9 +120,7 @@ pub(crate) fn tagged_named_term(
         (named_fields denies (map member_view members.now))) }
 {
     let notes = noted(alloc, remarks.deprecated, &remarks.description)?;
-    let mut required = required_of(alloc, members)?;
-    let mut properties = properties_of(alloc, members)?;
-    push_tag(alloc, &mut properties, &mut required, tag, name)?;
-    let told = object_of(alloc, properties, denies, required, notes);
-    Ok(Tree::Object(Box::new(alloc, told)?))
+    let required = tagged_required(alloc, members, tag)?;
+    let properties = tagged_properties(alloc, members, tag, name)?;
+    object_term(alloc, properties, denies, required, notes)
 }

@@ -1,13 +1,13 @@
 //! Objects with properties.
 
-ghost use Rattle.std.specs.Prelude.{◌≡◌};
+ghost use Rattle.std.specs.Prelude.{◌≡◌, IfOk};
 ghost use Rattle.schema_trees.specs.Schema.{object_view, named_views, additional_view};
-ghost use Rattle.component.specs.Leaves.{leaf_view};
+ghost use Rattle.component.specs.Leaves.{leaf_view, term_view};
 ghost use Rattle.terms.specs.Terms.{others_of, object_of};
 
 use component::{Term, TermLeaf};
-use schema_trees::{Additional, Notes, Object, SchemaTypeInner, TypeWord};
-use std::alloc::Global;
+use schema_trees::{Additional, Notes, Object, SchemaTypeInner, Tree, TypeWord};
+use std::alloc::{AllocError, Global};
 use texts::{List, Text};
 
 /// What members other than the properties may be.
@@ -22,7 +22,7 @@ fn others_of(denies: bool) -> Additional<TermLeaf>
 }
 
 /// An object with these properties, which denies others or does not.
-pub(crate) fn object_of(
+fn object_of(
     alloc: Global,
     properties: List<(Text, Term)>,
     denies: bool,
@@ -38,4 +38,25 @@ pub(crate) fn object_of(
         additional: others_of(denies),
         ..Object::new(alloc, TypeWord::One(SchemaTypeInner::Object), notes)
     }
+}
+
+/// The object as a schema.
+pub(crate) fn boxed(alloc: Global, object: Object<TermLeaf>) -> Result<Term, AllocError>
+    ensures { IfOk result (λ t. term_view t ≡ object_view leaf_view object) }
+{
+    Ok(Tree::Object(Box::new(alloc, object)?))
+}
+
+/// The schema of such an object.
+pub(crate) fn object_term(
+    alloc: Global,
+    properties: List<(Text, Term)>,
+    denies: bool,
+    required: List<Text>,
+    notes: Notes,
+) -> Result<Term, AllocError>
+    ensures { IfOk result (λ t. term_view t
+        ≡ object_of notes denies required (named_views leaf_view properties)) }
+{
+    boxed(alloc, object_of(alloc, properties, denies, required, notes))
 }

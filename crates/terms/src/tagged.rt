@@ -2,16 +2,19 @@
 
 ghost use Rattle.std.specs.Prelude.{◌≡◌, ◌∷◌, ◌++◌, [], map, IfOk, OnOk};
 ghost use Rattle.acceptance.specs.Json.{text as json_text};
-ghost use Rattle.schema_trees.specs.Schema.{object, object_view, named_views, no_part, no_properties, property};
+ghost use Rattle.schema_trees.specs.Notes.{no_notes};
+ghost use Rattle.schema_trees.specs.Schema.{object, object_view, named_views, no_part, no_properties, property, schema, no_schemas, tree_views};
+ghost use Rattle.leaves.specs.Leaves.{format_of};
 ghost use Rattle.component.specs.Leaves.{leaf_view, term_view};
 ghost use Rattle.terms.specs.Terms.{texts_facts, texts_schema, requiring, tag_schema, tag_alone, null_term, with_property, beside_tag, tagged_leaf, adjacent_term};
 
-use crate::object::object_of;
+use crate::object::{boxed, object_term};
 use component::{Term, TermLeaf, bounds_of, noted_null};
 use leaves::Leaf;
 use schema_trees::{AllOfSchema, Json, Notes, Object, SchemaTypeInner, Tree, TypeWord};
 use shapes::Remarks;
 use std::alloc::{AllocError, Global};
+use std::slice;
 use texts::{List, Text};
 
 /// The text as a JSON value.
@@ -48,18 +51,67 @@ pub(crate) fn texts_schema(alloc: Global, notes: Notes, names: &[Text]) -> Resul
     ensures { IfOk result (λ t. term_view t ≡ texts_schema notes names.now) }
 {
     let values = text_values(alloc, names)?;
-    let object = texts_object(alloc, notes, values);
-    Ok(Tree::Object(Box::new(alloc, object)?))
+    boxed(alloc, texts_object(alloc, notes, values))
 }
 
 /// The name alone.
 pub(crate) fn name_schema(alloc: Global, notes: Notes, name: &Text) -> Result<Term, AllocError>
     ensures { IfOk result (λ t. term_view t ≡ texts_schema notes (name.now ∷ [])) }
 {
-    let mut values = List::new(alloc);
-    values.push(text_value(alloc, name)?)?;
-    let object = texts_object(alloc, notes, values);
-    Ok(Tree::Object(Box::new(alloc, object)?))
+    texts_schema(alloc, notes, slice::from_ref(name))
+}
+
+/// Adds the name.
+pub(crate) fn push_name(
+    alloc: Global,
+    names: &mut List<Text>,
+    name: &Text,
+) -> Result<(), AllocError>
+    ensures { OnOk result (names.new ≡ names.old ++ name.now ∷ []) }
+{
+    names.push(name.copy(alloc)?)
+}
+
+/// A list of the name alone.
+fn one_name(alloc: Global, name: &Text) -> Result<List<Text>, AllocError>
+    ensures { IfOk result (λ names. names ≡ name.now ∷ []) }
+{
+    let mut names = List::new(alloc);
+    push_name(alloc, &mut names, name)?;
+    Ok(names)
+}
+
+/// A list of the two names.
+fn two_names(alloc: Global, first: &Text, second: &Text) -> Result<List<Text>, AllocError>
+    ensures { IfOk result (λ names. names ≡ first.now ∷ second.now ∷ []) }
+{
+    let mut names = one_name(alloc, first)?;
+    push_name(alloc, &mut names, second)?;
+    Ok(names)
+}
+
+/// Adds the property.
+fn push_property(
+    alloc: Global,
+    properties: &mut List<(Text, Term)>,
+    name: &Text,
+    schema: Term,
+) -> Result<(), AllocError>
+    ensures { OnOk result (named_views leaf_view properties.new
+        ≡ with_property (named_views leaf_view properties.old) name.now (term_view schema)) }
+{
+    let name = name.copy(alloc)?;
+    properties.push((name, schema))
+}
+
+/// A list of the property alone.
+fn one_property(alloc: Global, name: &Text, schema: Term) -> Result<List<(Text, Term)>, AllocError>
+    ensures { IfOk result (λ properties. named_views leaf_view properties
+        ≡ property name.now (term_view schema) no_properties) }
+{
+    let mut properties = List::new(alloc);
+    push_property(alloc, &mut properties, name, schema)?;
+    Ok(properties)
 }
 
 /// An object that has this member, and perhaps others.
@@ -71,12 +123,9 @@ pub(crate) fn requiring(
 ) -> Result<Term, AllocError>
     ensures { IfOk result (λ t. term_view t ≡ requiring notes name.now (term_view schema)) }
 {
-    let mut properties = List::new(alloc);
-    properties.push((name.copy(alloc)?, schema))?;
-    let mut required = List::new(alloc);
-    required.push(name.copy(alloc)?)?;
-    let object = object_of(alloc, properties, false, required, notes);
-    Ok(Tree::Object(Box::new(alloc, object)?))
+    let properties = one_property(alloc, name, schema)?;
+    let required = one_name(alloc, name)?;
+    object_term(alloc, properties, false, required, notes)
 }
 
 /// An object that has a tag with the name as its text, and perhaps other members.
@@ -92,22 +141,18 @@ pub(crate) fn tag_alone(
     requiring(alloc, notes, tag, schema)
 }
 
-/// Adds the tag as a property, whose text is the name, and as one that must be there.
+/// Adds the tag as a property, whose text is the name.
 pub(crate) fn push_tag(
     alloc: Global,
     properties: &mut List<(Text, Term)>,
-    required: &mut List<Text>,
     tag: &Text,
     name: &Text,
 ) -> Result<(), AllocError>
-    ensures properties { OnOk result (named_views leaf_view properties.new
+    ensures { OnOk result (named_views leaf_view properties.new
         ≡ with_property (named_views leaf_view properties.old) tag.now (tag_schema name.now)) }
-    ensures required { OnOk result (required.new ≡ required.old ++ tag.now ∷ []) }
 {
     let schema = name_schema(alloc, Notes::new(), name)?;
-    properties.push((tag.copy(alloc)?, schema))?;
-    required.push(tag.copy(alloc)?)?;
-    Ok(())
+    push_property(alloc, properties, tag, schema)
 }
 
 /// An object that has a content, and a tag with the name as its text.
@@ -122,13 +167,22 @@ pub(crate) fn adjacent_term(
     ensures { IfOk result (λ t. term_view t
         ≡ adjacent_term notes tag.now content.now name.now (term_view schema)) }
 {
-    let mut properties = List::new(alloc);
-    properties.push((content.copy(alloc)?, schema))?;
-    let mut required = List::new(alloc);
-    required.push(content.copy(alloc)?)?;
-    push_tag(alloc, &mut properties, &mut required, tag, name)?;
-    let told = object_of(alloc, properties, false, required, notes);
-    Ok(Tree::Object(Box::new(alloc, told)?))
+    let mut properties = one_property(alloc, content, schema)?;
+    push_tag(alloc, &mut properties, tag, name)?;
+    let required = two_names(alloc, content, tag)?;
+    object_term(alloc, properties, false, required, notes)
+}
+
+/// The content, and an object that has the tag.
+fn with_tag(alloc: Global, tag: &Text, name: &Text, content: Term) -> Result<List<Term>, AllocError>
+    ensures { IfOk result (λ items. tree_views leaf_view items
+        ≡ schema (term_view content) (schema (tag_alone no_notes tag.now name.now) no_schemas)) }
+{
+    let object = tag_alone(alloc, Notes::new(), tag, name)?;
+    let mut items = List::new(alloc);
+    items.push(content)?;
+    items.push(object)?;
+    Ok(items)
 }
 
 /// A schema beside an object that has the tag.
@@ -142,10 +196,18 @@ pub(crate) fn beside_tag(
     ensures { IfOk result
         (λ t. term_view t ≡ beside_tag notes tag.now name.now (term_view schema)) }
 {
-    let mut items = List::new(alloc);
-    items.push(schema)?;
-    items.push(tag_alone(alloc, Notes::new(), tag, name)?)?;
+    let items = with_tag(alloc, tag, name, schema)?;
     Ok(Tree::AllOf(Box::new(alloc, AllOfSchema { items, notes })?))
+}
+
+/// The printed name of the format of the built-in name.
+fn format_of(alloc: Global, leaf: Leaf) -> Result<Option<Text>, AllocError>
+    ensures { IfOk result (λ format. format ≡ format_of leaf) }
+{
+    match leaf.format() {
+        Some(format) => Ok(Some(Text::new(alloc, format)?)),
+        None => Ok(None),
+    }
 }
 
 /// An object that has the tag, with the format and the bounds of the built-in name.
@@ -159,13 +221,10 @@ pub(crate) fn tagged_leaf(
     ensures { IfOk result (λ t. term_view t ≡ object (tagged_leaf notes tag.now leaf)
         (property tag.now (tag_schema name.now) no_properties) no_part no_part) }
 {
+    let required = one_name(alloc, tag)?;
+    let format = format_of(alloc, leaf)?;
     let mut properties = List::new(alloc);
-    let mut required = List::new(alloc);
-    push_tag(alloc, &mut properties, &mut required, tag, name)?;
-    let format = match leaf.format() {
-        Some(format) => Some(Text::new(alloc, format)?),
-        None => None,
-    };
+    push_tag(alloc, &mut properties, tag, name)?;
     let object = Object {
         properties,
         required,
@@ -173,7 +232,7 @@ pub(crate) fn tagged_leaf(
         bounds: bounds_of(leaf.kind()),
         ..Object::new(alloc, TypeWord::One(SchemaTypeInner::Object), notes)
     };
-    Ok(Tree::Object(Box::new(alloc, object)?))
+    boxed(alloc, object)
 }
 
 /// Null, which is the default too.
@@ -181,6 +240,6 @@ pub(crate) fn null_term(alloc: Global, remarks: &Remarks) -> Result<Term, AllocE
     ensures { IfOk result (λ t. term_view t ≡ null_term remarks.now) }
 {
     let notes = noted_null(alloc, remarks.deprecated, &remarks.description)?;
-    let object = Object::new(alloc, TypeWord::One(SchemaTypeInner::Null), notes);
-    Ok(Tree::Object(Box::new(alloc, object)?))
+    let null = Object::new(alloc, TypeWord::One(SchemaTypeInner::Null), notes);
+    boxed(alloc, null)
 }

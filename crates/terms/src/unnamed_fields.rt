@@ -6,7 +6,7 @@ ghost use Rattle.schema_trees.specs.Schema.{tree_views, array_items_view};
 ghost use Rattle.component.specs.Leaves.{leaf_view, term_view};
 ghost use Rattle.terms.specs.Terms.{are_all, list_of_length, alike_term, field_terms, mixed_term, unnamed_term};
 
-use crate::field_term::field_term;
+use crate::field_term::{field_term, unremarked_term};
 use component::{Term, TermLeaf, noted};
 use open_types::OpenType;
 use schema_trees::{Array, ArrayItems, Bound, Notes, Tree};
@@ -70,13 +70,9 @@ fn field_terms(alloc: Global, types: &[OpenType]) -> Result<List<Term>, AllocErr
     ensures { IfOk result
         (λ ss. tree_views leaf_view ss ≡ field_terms (map open_view types.now)) }
 {
-    let nothing = Remarks {
-        deprecated: false,
-        description: None,
-    };
     let mut terms = List::new(alloc);
     for ty in types {
-        terms.push(field_term(alloc, &nothing, ty)?)?;
+        terms.push(unremarked_term(alloc, ty)?)?;
     }
     Ok(terms)
 }
