@@ -31,7 +31,7 @@ fn of_schemas() {
     scopes::names_repeat_or_not();
     open_types::closed_types_stay();
     open_types::same_types_are_equal();
-    resolving::resolved_have_no_fault();
+    resolving::resolution_is_exact();
     resolving::resolved_are_over();
     type_tree::trees_are_equal_by_text();
     type_tree::formats_are_equal();

@@ -8,7 +8,7 @@ use anyhow::ensure;
 use configuration::Config;
 use diag::DeriveError;
 use open_types::{ClosedType, OpenType, closed_types_stay, substitute};
-use resolving::{KnownNames, resolve_type, resolved_have_no_fault};
+use resolving::{KnownNames, resolution_is_exact, resolve_type};
 use rows::given::{count_of, pair_of, text_of};
 use rows::refusal_text;
 use scopes::{Places, Scope, declared_places, resolve};
@@ -71,7 +71,7 @@ pub(crate) fn by_places(alloc: Global, given: &Value) -> anyhow::Result<String> 
         constants: &none,
     };
     let ty = parse_type(alloc, text_of(written)?)?;
-    resolved_have_no_fault();
+    resolution_is_exact();
     Ok(told(alloc, resolve_type(alloc, &names, &ty))?)
 }
 
