@@ -1,7 +1,7 @@
 //! Schemas put at the leaves of a schema.
 
 use filling::{CopyLeaf, Fill};
-use schema_core::{Notes, Object, RefLeaf, Schema, SchemaTypeInner, Tree, TypeWord};
+use schema_core::{Annotations, Object, RefLeaf, Schema, SchemaTypeInner, Tree, TypeWord};
 use std::alloc::{AllocError, Global};
 use texts::List;
 
@@ -10,7 +10,7 @@ pub(crate) struct Objects;
 
 impl Fill for Objects {
     ghost use Rattle.std.specs.Prelude.{None, []};
-    ghost use Rattle.schema_core.specs.Notes.{no_notes};
+    ghost use Rattle.schema_trees.specs.Annotations.{no_annotations};
     ghost use Rattle.schema_core.specs.Objects.{word_facts};
     ghost use Rattle.schema_core.specs.Schema as tree;
     ghost use Rattle.schema_core.specs.declared.tree.RefLeaf.{RefLeaf as Reference};
@@ -29,7 +29,7 @@ impl Fill for Objects {
 
     ghost meaning = { λ l. l };
 
-    ghost put = { λ _ l. tree.object (word_facts (One words.Object) no_notes) (tree.property l.name (tree.leaf l) tree.no_properties) tree.no_part tree.no_part };
+    ghost put = { λ _ l. tree.object (word_facts (One words.Object) no_annotations) (tree.property l.name (tree.leaf l) tree.no_properties) tree.no_part tree.no_part };
 
     fn fill(&self, alloc: Global, leaf: &RefLeaf) -> Result<Schema, AllocError> {
         let name = leaf.name.copy(alloc)?;
@@ -39,7 +39,7 @@ impl Fill for Objects {
         let word = TypeWord::One(SchemaTypeInner::Object);
         let object = Object {
             properties,
-            ..Object::new(alloc, word, Notes::new())
+            ..Object::new(alloc, word, Annotations::new())
         };
         Ok(Tree::Object(Box::new(alloc, object)?))
     }

@@ -6,9 +6,9 @@ mod declared;
 mod filled;
 mod forms;
 mod judged;
-mod notes;
+mod annotations;
 mod places;
-mod remarks;
+mod place_annotations;
 mod resolved;
 mod sources;
 mod targets;
@@ -47,10 +47,10 @@ fn told(alloc: Global, call: &str, given: &Value) -> anyhow::Result<String> {
         "document_accepts" => of_components(alloc, Some(OfComponents::Accepted), given),
         "inline_order" => targets::order(alloc, given),
         "are_more_copies" => targets::copies(alloc, given),
-        "place_term" => Ok(remarks::argument_form(alloc, given)?),
-        "description" => Ok(remarks::description(alloc, given)?),
-        "noted" => Ok(remarks::noted_form(alloc, given)?),
-        "null_default" => Ok(remarks::null_form(alloc, given)?),
+        "place_term" => Ok(place_annotations::argument_form(alloc, given)?),
+        "description" => Ok(place_annotations::description(alloc, given)?),
+        "annotated" => Ok(place_annotations::annotated_form(alloc, given)?),
+        "null_default" => Ok(place_annotations::null_form(alloc, given)?),
         "resolved_declarations" => of_source(alloc, None, given),
         _ => of_source(alloc, Some(question(call)?), given),
     }

@@ -1,6 +1,6 @@
 //! The schemas of places, by what rows say of them.
 
-use crate::remarks::comments;
+use crate::place_annotations::comments;
 use crate::term_rows::{named, term_text};
 use component::{SchemaReference, copy_term};
 use diag::DeriveError;

@@ -1,6 +1,6 @@
 //! What declarations are resolved to.
 
-use shapes::{Body, Declaration, Form, Member, Remarks, Tagging, Variant};
+use shapes::{Annotations, Body, Declaration, Form, Member, Tagging, Variant};
 use std::alloc::{AllocError, Global};
 use texts::Text;
 
@@ -17,11 +17,11 @@ fn push_members(text: &mut String, members: &[Member]) -> Result<(), AllocError>
 }
 
 /// Adds what is said of a declaration or a variant.
-fn push_remarks(text: &mut String, remarks: &Remarks) -> Result<(), AllocError> {
-    if remarks.deprecated {
+fn push_annotations(text: &mut String, annotations: &Annotations) -> Result<(), AllocError> {
+    if annotations.deprecated {
         text.push_str(", deprecated")?;
     }
-    if let Some(description) = &remarks.description {
+    if let Some(description) = &annotations.description {
         text.push_str(", described as ")?;
         text.push_str(description.as_str())?;
     }
@@ -85,7 +85,7 @@ fn push_variants(text: &mut String, variants: &[Variant]) -> Result<(), AllocErr
         text.push_str(" (")?;
         text.push_str(variant.name.as_str())?;
         push_form(text, &variant.form)?;
-        push_remarks(text, &variant.remarks)?;
+        push_annotations(text, &variant.annotations)?;
         text.push(')')?;
     }
     Ok(())
@@ -120,7 +120,7 @@ fn push_declaration(text: &mut String, of: &Declaration) -> Result<(), AllocErro
         Body::Units { tagging, names } => push_units(text, tagging, names.as_slice())?,
         Body::Variants { tagging, variants } => push_mixed(text, tagging, variants.as_slice())?,
     }
-    push_remarks(text, &of.remarks)
+    push_annotations(text, &of.annotations)
 }
 
 /// The form of a struct with its members, or the variants of an enum, and what is said of it.

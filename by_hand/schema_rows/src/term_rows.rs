@@ -4,7 +4,7 @@ use crate::forms::form_text;
 use component::{Term, TermLeaf};
 use filling::{Fill, filled};
 use open_types::OpenType;
-use schema_core::{Notes, RefLeaf, Schema, Tree};
+use schema_core::{Annotations, RefLeaf, Schema, Tree};
 use std::alloc::{AllocError, Global};
 use texts::Text;
 
@@ -37,15 +37,17 @@ impl Fill for References {
 }
 
 fn reference(alloc: Global, leaf: &TermLeaf) -> Result<RefLeaf, AllocError> {
-    let (name, notes) = match leaf {
-        TermLeaf::Param(place) => (format!(in alloc; "Param{place}")?, Notes::new()),
-        TermLeaf::Named { of, inline, notes } => {
-            (named(alloc, of, *inline)?, notes.copy(alloc)?)
-        }
+    let (name, annotations) = match leaf {
+        TermLeaf::Param(place) => (format!(in alloc; "Param{place}")?, Annotations::new()),
+        TermLeaf::Named {
+            of,
+            inline,
+            annotations,
+        } => (named(alloc, of, *inline)?, annotations.copy(alloc)?),
     };
     Ok(RefLeaf {
         name: Text::from(name),
-        notes,
+        annotations,
     })
 }
 

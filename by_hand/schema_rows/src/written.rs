@@ -4,13 +4,13 @@
 //! `oneOf`, `allOf` or `reference`), and its other members are those of the schema's JSON, where each schema in it is a
 //! text. A list has schemas of which each may have `@` for the one before; it stands for the last.
 
-use crate::notes::{jsons, notes, text};
+use crate::annotations::{annotations, jsons, text};
 use anyhow::{Context, bail};
 use filling::copy_schema;
 use rows::given::{is_said, items_at, text_at, text_of};
 use schema_core::{
-    Additional, AllOfSchema, Array, ArrayItems, Bound, Notes, Object, OneOfSchema, RefLeaf, Schema,
-    SchemaTypeInner, Tree, TypeWord,
+    Additional, AllOfSchema, Annotations, Array, ArrayItems, Bound, Object, OneOfSchema, RefLeaf,
+    Schema, SchemaTypeInner, Tree, TypeWord,
 };
 use serde_json::Value;
 use std::alloc::Global;
@@ -54,7 +54,7 @@ fn part(alloc: Global, before: &Option<Schema>, given: &Value) -> anyhow::Result
         }
         name => Ok(Tree::Leaf(RefLeaf {
             name: Text::new(alloc, name)?,
-            notes: Notes::new(),
+            annotations: Annotations::new(),
         })),
     }
 }
@@ -120,7 +120,7 @@ fn property_names(
 
 /// An object that says nothing.
 fn plain(alloc: Global) -> Object<RefLeaf> {
-    Object::new(alloc, TypeWord::Any, Notes::new())
+    Object::new(alloc, TypeWord::Any, Annotations::new())
 }
 
 /// Sets what an object says of itself.
@@ -129,7 +129,7 @@ fn set_values(alloc: Global, object: &mut Object<RefLeaf>, given: &Value) -> any
     object.bounds.minimum = bound(given, "minimum");
     object.format = text(alloc, given, "format")?;
     object.enum_values = jsons(alloc, given, "enum")?;
-    object.notes = notes(alloc, given)?;
+    object.annotations = annotations(alloc, given)?;
     Ok(())
 }
 
@@ -167,7 +167,7 @@ fn items(
 
 fn array(alloc: Global, before: &Option<Schema>, given: &Value) -> anyhow::Result<Schema> {
     let nullable = matches!(type_word(given)?, TypeWord::Nullable(_));
-    let notes = notes(alloc, given)?;
+    let annotations = annotations(alloc, given)?;
     let prefix_items = parts(alloc, before, given, "prefixItems")?;
     let array = Array {
         nullable,
@@ -176,27 +176,27 @@ fn array(alloc: Global, before: &Option<Schema>, given: &Value) -> anyhow::Resul
         unique: is_said(given, "uniqueItems"),
         max_items: bound(given, "maxItems"),
         min_items: bound(given, "minItems"),
-        notes,
+        annotations,
     };
     Ok(Tree::Array(Box::new(alloc, array)?))
 }
 
 fn one_of(alloc: Global, before: &Option<Schema>, given: &Value) -> anyhow::Result<Schema> {
     let items = parts(alloc, before, given, "oneOf")?;
-    let notes = notes(alloc, given)?;
-    Ok(Tree::OneOf(Box::new(alloc, OneOfSchema { items, notes })?))
+    let annotations = annotations(alloc, given)?;
+    Ok(Tree::OneOf(Box::new(alloc, OneOfSchema { items, annotations })?))
 }
 
 fn all_of(alloc: Global, before: &Option<Schema>, given: &Value) -> anyhow::Result<Schema> {
     let items = parts(alloc, before, given, "allOf")?;
-    let notes = notes(alloc, given)?;
-    Ok(Tree::AllOf(Box::new(alloc, AllOfSchema { items, notes })?))
+    let annotations = annotations(alloc, given)?;
+    Ok(Tree::AllOf(Box::new(alloc, AllOfSchema { items, annotations })?))
 }
 
 fn reference(alloc: Global, given: &Value) -> anyhow::Result<Schema> {
     let name = Text::new(alloc, text_at(given, "name")?)?;
-    let notes = notes(alloc, given)?;
-    Ok(Tree::Leaf(RefLeaf { name, notes }))
+    let annotations = annotations(alloc, given)?;
+    Ok(Tree::Leaf(RefLeaf { name, annotations }))
 }
 
 /// One schema, where `@` stands for the one before.

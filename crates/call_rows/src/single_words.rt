@@ -7,7 +7,7 @@ use diag::DeriveError;
 use lexing::lex;
 use rows::given::text_of;
 use schema_core::Components;
-use schema_trees::{Notes, RefLeaf, Tree};
+use schema_trees::{Annotations, RefLeaf, Tree};
 use serde_json::Value;
 use serde_rules::SerdeEnumRepr;
 use std::alloc::{AllocError, Global};
@@ -95,7 +95,7 @@ fn self_reference(alloc: Global, name: &str) -> Result<Components, AllocError> {
     let key = Text::new(alloc, name)?;
     let reference = RefLeaf {
         name: Text::new(alloc, name)?,
-        notes: Notes::new(),
+        annotations: Annotations::new(),
     };
     let mut components = Components::new(alloc);
     components.insert(key, Tree::Leaf(reference))?;

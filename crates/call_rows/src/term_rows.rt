@@ -106,7 +106,7 @@ fn push_resolved(
 ) -> Result<(), DeriveError> {
     push_made(alloc, text, made)?;
     if let Resolved::Fields(form) = &made.body {
-        let term = form_term(alloc, &made.remarks, form)?;
+        let term = form_term(alloc, &made.annotations, form)?;
         push_form(text, &term)?;
     }
     Ok(())

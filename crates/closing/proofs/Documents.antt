@@ -10,7 +10,7 @@ use Rattle.acceptance.specs.Acceptance.{accepts_with, component_schema, componen
 use Rattle.acceptance.specs.References.{EachReference}
 use Rattle.texts.specs.Names.{is_in, IsDistinct}
 use Rattle.schema_trees.specs.declared.tree.RefLeaf.{RefLeaf}
-use Rattle.schema_trees.specs.declared.notes.Annotations.{Annotations as Notes}
+use Rattle.schema_trees.specs.declared.annotations.AnnotationKeywords.{AnnotationKeywords}
 use Rattle.schema_trees.specs.Schema.{SchemaOf, leaf, EachLeaf}
 use Rattle.schema_core.specs.Form.{form}
 use Rattle.schema_core.specs.Document.{Entry, document}
@@ -35,11 +35,11 @@ schema_under holds cs order = holds cs (distinct (entry_names cs) order)
 -- ---- references
 
 -- a reference is followed with one step more than what it leads to
-pub reference-accepts : FormsAccept → (doc : Json) (name : List ℕ) (notes : Notes) (s v : Json) → component_schema doc name ≡ Some s → Accepts doc (form (leaf (record { name = name; notes = notes }))) v ↔ Accepts doc s v
-reference-accepts forms doc name notes s v e = (there, back)
+pub reference-accepts : FormsAccept → (doc : Json) (name : List ℕ) (annotations : AnnotationKeywords) (s v : Json) → component_schema doc name ≡ Some s → Accepts doc (form (leaf (record { name = name; annotations = annotations }))) v ↔ Accepts doc s v
+reference-accepts forms doc name annotations s v e = (there, back)
   where
     reference : SchemaOf RefLeaf
-    reference = leaf (record { name = name; notes = notes })
+    reference = leaf (record { name = name; annotations = annotations })
 
     at : (depth : ℕ) → accepts doc (form reference) v depth ≡ component_accepts doc depth name v
     at depth = forms (component_accepts doc depth) reference tt v

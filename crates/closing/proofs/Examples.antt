@@ -2,12 +2,12 @@
 use Rattle.std.proofs.Common.{ℕ, List, [], ◌∷◌, true, false, None, codes, ◌≡◌, refl, inl, arith}
 use Rattle.schema_trees.specs.declared.tree.TypeWord.TheVariants.{Any}
 use Rattle.schema_trees.specs.declared.tree.RefLeaf.{RefLeaf}
-use Rattle.schema_trees.specs.Notes.{no_notes}
+use Rattle.schema_trees.specs.Annotations.{no_annotations}
 use Rattle.schema_trees.specs.Objects.{only_word}
 use Rattle.schema_trees.specs.Schema.{SchemaOf, leaf, no_properties, property}
 use Rattle.open_types.specs.Open.{Open, any_value, tuple, param, named, no_types, more_types}
 use Rattle.component.specs.Places.{place}
-use Rattle.shapes.specs.Declarations.{named_fields, unnamed_fields, fields, FormOf, DeclarationOf, no_remarks}
+use Rattle.shapes.specs.Declarations.{named_fields, unnamed_fields, fields, FormOf, DeclarationOf, unannotated}
 use Rattle.terms.specs.Terms.{object_of}
 use Rattle.shapes.specs.InstanceNames.{instance_name}
 use Rattle.closing.specs.Closed as closed
@@ -16,16 +16,16 @@ use Rattle.closing.specs.Closed.{closed, instance_schema}
 use Rattle.closing.specs.Described.{IsInlinePath, HasInline, here, through_target, closed_place}
 
 abbrev pub declares : List ℕ → ℕ → FormOf → DeclarationOf
-declares name parameters form = record { name = name; parameters = parameters; remarks = no_remarks; body = fields form }
+declares name parameters form = record { name = name; parameters = parameters; annotations = unannotated; body = fields form }
 
 abbrev pub with_v : Open → FormOf
-with_v t = named_fields false (record { name = codes "v"; required = true; remarks = no_remarks; of = t } ∷ [])
+with_v t = named_fields false (record { name = codes "v"; required = true; annotations = unannotated; of = t } ∷ [])
 
 abbrev an_object : SchemaOf RefLeaf → SchemaOf RefLeaf
-an_object s = object_of no_notes false (codes "v" ∷ []) (property (codes "v") s no_properties)
+an_object s = object_of no_annotations false (codes "v" ∷ []) (property (codes "v") s no_properties)
 
 abbrev a_reference : List ℕ → SchemaOf RefLeaf
-a_reference name = leaf (record { name = name; notes = no_notes })
+a_reference name = leaf (record { name = name; annotations = no_annotations })
 
 abbrev pub at : ℕ → Open → Open
 at d t = named d (more_types t no_types)
@@ -55,7 +55,7 @@ page_component = referred_component r page (shown_root 2 (omega arith, refl)) (i
 r_schema : instance_schema pages r ≡ an_object (a_reference (codes "Page_Item_Value"))
 r_schema = refl
 
-page_schema : instance_schema pages page ≡ an_object (an_object (only_word Any no_notes))
+page_schema : instance_schema pages page ≡ an_object (an_object (only_word Any no_annotations))
 page_schema = refl
 
 -- a place of Item<Value>: of a field, and of an argument

@@ -1,6 +1,6 @@
 -- The schema of a place where all is inline, from that where names are references.
 use Rattle.std.proofs.Common.{ℕ, Bool, true, false, None, ◌≡◌, refl, ap}
-use Rattle.schema_trees.specs.Notes.{no_notes, noted}
+use Rattle.schema_trees.specs.Annotations.{no_annotations, annotated}
 use Rattle.schema_trees.specs.Schema.{SchemaOf, bind, bind_schemas}
 use Rattle.schema_trees.specs.Schema as tree
 use Rattle.open_types.specs.Open.{Open, Opens, leaf, any_value, free_object, unit, tuple, items, set, map_of, option, through, no_types, more_types}
@@ -11,7 +11,7 @@ use Rattle.component.specs.Places.{declared, argument, list_of, tuple_of, map_ob
 -- the leaf as it is where its place is inline
 abbrev pub made_inline : LeafOf → SchemaOf LeafOf
 made_inline (param i) = tree.leaf (param i)
-made_inline (named t inline notes) = tree.leaf (named t true no_notes)
+made_inline (named t inline annotations) = tree.leaf (named t true no_annotations)
 
 argument-inline : (nullable inline : Bool) (i : ℕ) → bind made_inline (argument nullable inline None i) ≡ argument nullable true None i
 argument-inline false false i = refl
@@ -31,10 +31,10 @@ mutual
   place-inline nullable inline deprecated any_value = refl
   place-inline nullable inline deprecated free_object = refl
   place-inline nullable inline deprecated unit = refl
-  place-inline nullable inline deprecated (tuple ts) = ap (tuple_of nullable (noted deprecated None)) (places-inline ts)
-  place-inline nullable inline deprecated (items x t) = ap (list_of false nullable (noted deprecated None)) (place-inline false inline false t)
-  place-inline nullable inline deprecated (set x t) = ap (list_of true nullable (noted deprecated None)) (place-inline false inline false t)
-  place-inline nullable inline deprecated (map_of x k t) = λ i. map_object nullable (noted deprecated None) (place-inline false true false k i) (place-inline false inline false t i)
+  place-inline nullable inline deprecated (tuple ts) = ap (tuple_of nullable (annotated deprecated None)) (places-inline ts)
+  place-inline nullable inline deprecated (items x t) = ap (list_of false nullable (annotated deprecated None)) (place-inline false inline false t)
+  place-inline nullable inline deprecated (set x t) = ap (list_of true nullable (annotated deprecated None)) (place-inline false inline false t)
+  place-inline nullable inline deprecated (map_of x k t) = λ i. map_object nullable (annotated deprecated None) (place-inline false true false k i) (place-inline false inline false t i)
   place-inline nullable inline deprecated (option t) = place-inline true inline deprecated t
   place-inline nullable inline deprecated (through x t) = place-inline nullable inline deprecated t
   place-inline nullable inline deprecated (types.param j) = argument-inline nullable inline j

@@ -19,8 +19,8 @@ module _ (Q : List ReferenceOf → Type 0) where
             (at-part additional (back (part_leaves names) (part_leaves additional) rest), at-part names (front (part_leaves names) (part_leaves additional) rest)),
           )
       at-leaves (array facts ss rest) h = (at-schemas ss (front (schema_leaves ss) (part_leaves rest) h), at-part rest (back (schema_leaves ss) (part_leaves rest) h))
-      at-leaves (one_of notes ss) h = at-schemas ss h
-      at-leaves (all_of notes ss) h = at-schemas ss h
+      at-leaves (one_of annotations ss) h = at-schemas ss h
+      at-leaves (all_of annotations ss) h = at-schemas ss h
 
       at-schemas : (ss : SchemasOf LeafOf) → Q (schema_leaves ss) → EachSchemaLeaf AtLeaf ss
       at-schemas no_schemas h = tt
@@ -43,8 +43,8 @@ module _ (Q : List ReferenceOf → Type 0) where
       from-leaves (object facts ps additional names) h =
           both (property_leaves ps) (part_leaves names ++ part_leaves additional) (from-properties ps h.0) (both (part_leaves names) (part_leaves additional) (from-part names h.1.1) (from-part additional h.1.0))
       from-leaves (array facts ss rest) h = both (schema_leaves ss) (part_leaves rest) (from-schemas ss h.0) (from-part rest h.1)
-      from-leaves (one_of notes ss) h = from-schemas ss h
-      from-leaves (all_of notes ss) h = from-schemas ss h
+      from-leaves (one_of annotations ss) h = from-schemas ss h
+      from-leaves (all_of annotations ss) h = from-schemas ss h
 
       from-schemas : (ss : SchemasOf LeafOf) → EachSchemaLeaf AtLeaf ss → Q (schema_leaves ss)
       from-schemas no_schemas h = none

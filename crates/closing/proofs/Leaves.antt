@@ -11,8 +11,8 @@ module _ {X : Type 0} (Q R S : X → Type 0) (f : (x : X) → Q x → R x → S 
     each-both (leaf x) a b = f x a b
     each-both (object facts ps additional names) a b = (properties-both ps a.0 b.0, (part-both additional a.1.0 b.1.0, part-both names a.1.1 b.1.1))
     each-both (array facts front rest) a b = (schemas-both front a.0 b.0, part-both rest a.1 b.1)
-    each-both (one_of notes ss) a b = schemas-both ss a b
-    each-both (all_of notes ss) a b = schemas-both ss a b
+    each-both (one_of annotations ss) a b = schemas-both ss a b
+    each-both (all_of annotations ss) a b = schemas-both ss a b
 
     schemas-both : (ss : SchemasOf X) → EachSchemaLeaf Q ss → EachSchemaLeaf R ss → EachSchemaLeaf S ss
     schemas-both no_schemas a b = tt
@@ -35,8 +35,8 @@ module _ {X Y : Type 0} (f g : X → SchemaOf Y) where
     bind-same (leaf x) h = h
     bind-same (object facts ps additional names) h = λ i. object facts (properties-same ps h.0 i) (part-same additional h.1.0 i) (part-same names h.1.1 i)
     bind-same (array facts front rest) h = λ i. array facts (schemas-same front h.0 i) (part-same rest h.1 i)
-    bind-same (one_of notes ss) h = λ i. one_of notes (schemas-same ss h i)
-    bind-same (all_of notes ss) h = λ i. all_of notes (schemas-same ss h i)
+    bind-same (one_of annotations ss) h = λ i. one_of annotations (schemas-same ss h i)
+    bind-same (all_of annotations ss) h = λ i. all_of annotations (schemas-same ss h i)
 
     schemas-same : (ss : SchemasOf X) → EachSchemaLeaf (λ x. f x ≡ g x) ss → bind_schemas f ss ≡ bind_schemas g ss
     schemas-same no_schemas h = refl

@@ -20,7 +20,7 @@ object_view-is o = search (rules, the_lemmas)
 
 -- an array by its fields
 abbrev array_facts_of : Array TermLeaf → ArrayFacts
-array_facts_of a = record { nullable = a.nullable; unique = a.unique; max_items = a.max_items; min_items = a.min_items; notes = a.notes }
+array_facts_of a = record { nullable = a.nullable; unique = a.unique; max_items = a.max_items; min_items = a.min_items; annotations = a.annotations }
 
 array_view-is : (a : Array TermLeaf) → array_view leaf_view a ≡ array (array_facts_of a) (tree_views leaf_view a.prefix_items) (array_items_view leaf_view a.items)
 array_view-is a = search (rules, the_lemmas)

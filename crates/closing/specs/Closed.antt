@@ -2,7 +2,7 @@
 use Rattle.std.specs.Prelude.{ℕ, zero, suc, List, [], ◌∷◌, true, false, Option, Some, None}
 use Rattle.schema_trees.specs.declared.tree.RefLeaf.{RefLeaf}
 use Rattle.schema_trees.specs.declared.tree.TypeWord.TheVariants.{Any}
-use Rattle.schema_trees.specs.Notes.{no_notes}
+use Rattle.schema_trees.specs.Annotations.{no_annotations}
 use Rattle.schema_trees.specs.Objects.{only_word}
 use Rattle.schema_trees.specs.Schema.{SchemaOf, leaf, bind}
 use Rattle.open_types.specs.Open.{Open}
@@ -18,7 +18,7 @@ most_inlined = 32
 
 -- nothing is said
 abbrev pub any_value : SchemaOf RefLeaf
-any_value = only_word Any no_notes
+any_value = only_word Any no_annotations
 
 -- the schema at a place of the list; past the end, one that says nothing
 abbrev pub schema_in : List (SchemaOf RefLeaf) → ℕ → SchemaOf RefLeaf
@@ -29,8 +29,8 @@ schema_in (s ∷ made) (suc n) = schema_in made n
 -- What stands at a leaf of an instance's term: the schema of the instance that it names where that is inline, else a reference to its component. A parameter that is left is any value.
 abbrev pub put : List DeclarationOf → (Open → SchemaOf RefLeaf) → LeafOf → SchemaOf RefLeaf
 put ss inner (param i) = any_value
-put ss inner (named t true notes) = inner t
-put ss inner (named t false notes) = leaf (record { name = instance_name ss t; notes = notes })
+put ss inner (named t true annotations) = inner t
+put ss inner (named t false annotations) = leaf (record { name = instance_name ss t; annotations = annotations })
 
 -- the schema of an instance, where schemas stand in it no deeper than the number
 abbrev pub closed : List DeclarationOf → ℕ → Open → SchemaOf RefLeaf

@@ -3,7 +3,7 @@ use Rattle.std.specs.Prelude.{◌≡◌, ◌<◌, ◌↔◌, ℕ, List, [], ◌�
 use Rattle.acceptance.specs.Json.{Json}
 use Rattle.acceptance.specs.Acceptance.{component_schema, Accepts}
 use Rattle.acceptance.specs.References.{EachReference}
-use Rattle.schema_trees.specs.declared.notes.Annotations.{Annotations as Notes}
+use Rattle.schema_trees.specs.declared.annotations.AnnotationKeywords.{AnnotationKeywords}
 use Rattle.schema_trees.specs.declared.tree.RefLeaf.{RefLeaf}
 use Rattle.schema_trees.specs.Schema.{SchemaOf, leaf, bind}
 use Rattle.schema_core.specs.Form.{form}
@@ -77,10 +77,10 @@ abbrev pub SchemasDescribe : Type 0
 SchemasDescribe = (ss : List DeclarationOf) (all : Bool) (components : List Entry) → AreApartBodies ss → AreShallow ss → AreComponents ss all components →
     (t : Open) → IsReachable ss t → IsPlain ss t → LeadsToComponents ss all t → (v : Json) → Accepts (document components) (form (instance_schema ss t)) v ↔ HasShape ss t v
 
--- The law: a reference to the component of an instance accepts what the schema of that component accepts, whatever its notes are.
+-- The law: a reference to the component of an instance accepts what the schema of that component accepts, whatever its annotations are.
 abbrev pub ReferencesAccept : Type 0
-ReferencesAccept = (ss : List DeclarationOf) (components : List Entry) (t : Open) (notes : Notes) (s v : Json) →
-    component_schema (document components) (instance_name ss t) ≡ Some s → Accepts (document components) (form (leaf (record { name = instance_name ss t; notes = notes }))) v ↔ Accepts (document components) s v
+ReferencesAccept = (ss : List DeclarationOf) (components : List Entry) (t : Open) (annotations : AnnotationKeywords) (s v : Json) →
+    component_schema (document components) (instance_name ss t) ≡ Some s → Accepts (document components) (form (leaf (record { name = instance_name ss t; annotations = annotations }))) v ↔ Accepts (document components) s v
 
 -- The law: where the paths of numbers are not longer than they may be, neither are those of reachable instances.
 abbrev pub ShallowByNumbers : Type 0

@@ -19,7 +19,7 @@ use component::{Term, TermLeaf};
 use filling::{Fill, copy_schema, filled};
 use instances::{Reach, instance_name};
 use open_types::OpenType;
-use schema_trees::{Notes, Object, RefLeaf, Schema, Tree, TypeWord};
+use schema_trees::{Annotations, Object, RefLeaf, Schema, Tree, TypeWord};
 use shapes::Declaration;
 use std::alloc::{AllocError, Global};
 
@@ -36,7 +36,7 @@ struct Closing<'s> {
 pub(crate) fn any_value(alloc: Global) -> Result<Schema, AllocError>
     ensures { IfOk result (λ s. schema_view s ≡ any_value) }
 {
-    let object = Object::new(alloc, TypeWord::Any, Notes::new());
+    let object = Object::new(alloc, TypeWord::Any, Annotations::new());
     Ok(Tree::Object(Box::new(alloc, object)?))
 }
 
@@ -67,24 +67,24 @@ fn made_at(
     }
 }
 
-/// A reference with the notes to the component of the instance.
+/// A reference with the annotations to the component of the instance.
 fn reference_to(
     alloc: Global,
     declared: &[Declaration],
     ty: &OpenType,
-    notes: &Notes,
+    annotations: &Annotations,
 ) -> Result<Schema, AllocError>
     ensures { IfOk result
         (λ s. schema_view s
         ≡ leaf (record {
           name = instance_name (map declaration_view declared.now) (open_view ty.now);
-          notes =
-              notes.now;
+          annotations =
+              annotations.now;
         })) }
 {
     Ok(Tree::Leaf(RefLeaf {
         name: instance_name(alloc, declared, ty)?,
-        notes: notes.copy(alloc)?,
+        annotations: annotations.copy(alloc)?,
     }))
 }
 
@@ -113,11 +113,15 @@ impl Fill for Closing<'_> {
     fn fill(&self, alloc: Global, leaf: &TermLeaf) -> Result<Schema, AllocError> {
         match leaf {
             TermLeaf::Param(_) => any_value(alloc),
-            TermLeaf::Named { of, inline, notes } => {
+            TermLeaf::Named {
+                of,
+                inline,
+                annotations,
+            } => {
                 if *inline {
                     made_at(alloc, self.reach, self.made, of)
                 } else {
-                    reference_to(alloc, self.declared, of, notes)
+                    reference_to(alloc, self.declared, of, annotations)
                 }
             }
         }

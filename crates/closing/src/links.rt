@@ -71,10 +71,14 @@ impl Fill for WithArguments<'_> {
                 };
                 place_term(alloc, at, &of)
             }
-            TermLeaf::Named { of, inline, notes } => Ok(Tree::Leaf(TermLeaf::Named {
+            TermLeaf::Named {
+                of,
+                inline,
+                annotations,
+            } => Ok(Tree::Leaf(TermLeaf::Named {
                 of: substitute_first(alloc, of, self.arguments)?,
                 inline: *inline,
-                notes: notes.copy(alloc)?,
+                annotations: annotations.copy(alloc)?,
             })),
         }
     }

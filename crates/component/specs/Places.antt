@@ -4,10 +4,10 @@ use Rattle.schema_trees.specs.declared.tree.SchemaTypeInner.{SchemaTypeInner}
 use Rattle.schema_trees.specs.declared.tree.SchemaTypeInner.TheVariants as word
 use Rattle.schema_trees.specs.declared.tree.TypeWord.{TypeWord}
 use Rattle.schema_trees.specs.declared.tree.TypeWord.TheVariants.{Any, One, Nullable}
-use Rattle.schema_trees.specs.declared.notes.Annotations.{Annotations as Notes}
+use Rattle.schema_trees.specs.declared.annotations.AnnotationKeywords.{AnnotationKeywords as Annotations}
 use Rattle.schema_trees.specs.declared.bounds.Bounds.{Bounds}
 use Rattle.schema_trees.specs.Bounds.{at_least}
-use Rattle.schema_trees.specs.Notes.{no_notes, noted, described, null_default}
+use Rattle.schema_trees.specs.Annotations.{no_annotations, annotated, described, null_default}
 use Rattle.schema_trees.specs.Objects.{word_facts, with_format, with_bounds, only_word}
 use Rattle.schema_trees.specs.Schema.{SchemaOf, object, array, one_of, all_of, SchemasOf, no_schemas, schema, no_properties, no_part, truth, part}
 use Rattle.schema_trees.specs.Schema as tree
@@ -44,51 +44,51 @@ type_word true w = Nullable w
 -- ---- schemas
 
 abbrev pub null_alone : {X : Type 0} → SchemaOf X
-null_alone = only_word (One word.Null) no_notes
+null_alone = only_word (One word.Null) no_annotations
 
 -- the schema or null
-abbrev pub one_of_null : {X : Type 0} → Notes → SchemaOf X → SchemaOf X
-one_of_null notes s = one_of notes (schema s (schema null_alone no_schemas))
+abbrev pub one_of_null : {X : Type 0} → Annotations → SchemaOf X → SchemaOf X
+one_of_null annotations s = one_of annotations (schema s (schema null_alone no_schemas))
 
 -- the schema, or null where it may be
 abbrev pub or_null : {X : Type 0} → Bool → SchemaOf X → SchemaOf X
 or_null false s = s
-or_null true s = one_of_null no_notes s
+or_null true s = one_of_null no_annotations s
 
 -- the schema beside a description, where there is one
 abbrev pub beside : {X : Type 0} → Option (List ℕ) → SchemaOf X → SchemaOf X
 beside None s = s
-beside (Some text) s = all_of no_notes (schema s (schema (only_word Any (described (Some text))) no_schemas))
+beside (Some text) s = all_of no_annotations (schema s (schema (only_word Any (described (Some text))) no_schemas))
 
 -- a schema that stands there itself: with null, or beside its description
 abbrev pub in_place : {X : Type 0} → Bool → Option (List ℕ) → SchemaOf X → SchemaOf X
 in_place false description s = beside description s
 in_place true description s = one_of_null (described description) s
 
-abbrev pub leaf_object : {X : Type 0} → Bool → Notes → Leaf → SchemaOf X
-leaf_object nullable notes x =
-    object (with_bounds (bounds_of (kind_of x)) (with_format (format_of x) (word_facts (type_word nullable (word_of (kind_of x))) notes)))
+abbrev pub leaf_object : {X : Type 0} → Bool → Annotations → Leaf → SchemaOf X
+leaf_object nullable annotations x =
+    object (with_bounds (bounds_of (kind_of x)) (with_format (format_of x) (word_facts (type_word nullable (word_of (kind_of x))) annotations)))
     no_properties no_part no_part
 
 -- a list of what the schema accepts, whose elements are distinct where it is `unique`
-abbrev pub list_of : {X : Type 0} → Bool → Bool → Notes → SchemaOf X → SchemaOf X
-list_of unique nullable notes s = array (record { nullable = nullable; unique = unique; max_items = None; min_items = None; notes = notes }) no_schemas (part s)
+abbrev pub list_of : {X : Type 0} → Bool → Bool → Annotations → SchemaOf X → SchemaOf X
+list_of unique nullable annotations s = array (record { nullable = nullable; unique = unique; max_items = None; min_items = None; annotations = annotations }) no_schemas (part s)
 
 -- a list of no more elements than the schemas, which accept them by position
-abbrev pub tuple_of : {X : Type 0} → Bool → Notes → SchemasOf X → SchemaOf X
-tuple_of nullable notes ss = array (record { nullable = nullable; unique = false; max_items = None; min_items = None; notes = notes }) ss (truth false)
+abbrev pub tuple_of : {X : Type 0} → Bool → Annotations → SchemasOf X → SchemaOf X
+tuple_of nullable annotations ss = array (record { nullable = nullable; unique = false; max_items = None; min_items = None; annotations = annotations }) ss (truth false)
 
 -- a map whose names and values the schemas accept
-abbrev pub map_object : {X : Type 0} → Bool → Notes → (names values : SchemaOf X) → SchemaOf X
-map_object nullable notes names values =
-    object (word_facts (type_word nullable word.Object) notes) no_properties (part values) (part names)
+abbrev pub map_object : {X : Type 0} → Bool → Annotations → (names values : SchemaOf X) → SchemaOf X
+map_object nullable annotations names values =
+    object (word_facts (type_word nullable word.Object) annotations) no_properties (part values) (part names)
 
 -- ---- places
 
 -- a declaration: a reference, or its schema in place
 abbrev pub declared : Bool → Bool → Option (List ℕ) → Open → SchemaOf LeafOf
 declared nullable false description t = or_null nullable (tree.leaf (named t false (described description)))
-declared nullable true description t = in_place nullable description (tree.leaf (named t true no_notes))
+declared nullable true description t = in_place nullable description (tree.leaf (named t true no_annotations))
 
 -- the schema of an argument, which has no description but where it is inline
 abbrev pub argument : Bool → Bool → Option (List ℕ) → ℕ → SchemaOf LeafOf
@@ -98,14 +98,14 @@ argument nullable true description i = in_place nullable description (tree.leaf 
 -- The schema of a place of the type: whether null may stand there, whether declarations are inline, whether it is deprecated, and its description.
 abbrev mutual
   pub place : (nullable inline deprecated : Bool) → Option (List ℕ) → Open → SchemaOf LeafOf
-  place nullable inline deprecated description (leaf x) = leaf_object nullable (noted deprecated description) x
-  place nullable inline deprecated description any_value = only_word Any (noted deprecated description)
-  place nullable inline deprecated description free_object = only_word (type_word nullable word.Object) (noted deprecated description)
+  place nullable inline deprecated description (leaf x) = leaf_object nullable (annotated deprecated description) x
+  place nullable inline deprecated description any_value = only_word Any (annotated deprecated description)
+  place nullable inline deprecated description free_object = only_word (type_word nullable word.Object) (annotated deprecated description)
   place nullable inline deprecated description unit = only_word Any (null_default None)
-  place nullable inline deprecated description (tuple ts) = tuple_of nullable (noted deprecated description) (inline_places ts)
-  place nullable inline deprecated description (items h t) = list_of false nullable (noted deprecated description) (place false inline false None t)
-  place nullable inline deprecated description (set h t) = list_of true nullable (noted deprecated description) (place false inline false None t)
-  place nullable inline deprecated description (map_of h k t) = map_object nullable (noted deprecated description) (place false true false None k) (place false inline false None t)
+  place nullable inline deprecated description (tuple ts) = tuple_of nullable (annotated deprecated description) (inline_places ts)
+  place nullable inline deprecated description (items h t) = list_of false nullable (annotated deprecated description) (place false inline false None t)
+  place nullable inline deprecated description (set h t) = list_of true nullable (annotated deprecated description) (place false inline false None t)
+  place nullable inline deprecated description (map_of h k t) = map_object nullable (annotated deprecated description) (place false true false None k) (place false inline false None t)
   place nullable inline deprecated description (option t) = place true inline deprecated description t
   place nullable inline deprecated description (through h t) = place nullable inline deprecated description t
   place nullable inline deprecated description (types.param i) = argument nullable inline description i

@@ -41,7 +41,7 @@ abbrev mutual
 
 abbrev pub leaf_references : LeafOf → List ReferenceOf
 leaf_references (leaves.param i) = []
-leaf_references (leaves.named t inline notes) = record { of = t; is_inline = inline; no_recursion = false } ∷ []
+leaf_references (leaves.named t inline annotations) = record { of = t; is_inline = inline; no_recursion = false } ∷ []
 
 -- the declarations at the leaves, those of a map's names before those of its values
 abbrev mutual
@@ -49,8 +49,8 @@ abbrev mutual
   named_leaves (tree.leaf x) = leaf_references x
   named_leaves (tree.object facts ps additional names) = property_leaves ps ++ (part_leaves names ++ part_leaves additional)
   named_leaves (tree.array facts front rest) = schema_leaves front ++ part_leaves rest
-  named_leaves (tree.one_of notes ss) = schema_leaves ss
-  named_leaves (tree.all_of notes ss) = schema_leaves ss
+  named_leaves (tree.one_of annotations ss) = schema_leaves ss
+  named_leaves (tree.all_of annotations ss) = schema_leaves ss
 
   pub schema_leaves : SchemasOf LeafOf → List ReferenceOf
   schema_leaves tree.no_schemas = []

@@ -10,5 +10,5 @@ mod term;
 pub use law::references_are_leaves;
 pub use place::{Place, place_term};
 pub use references::{SchemaReference, references_of};
-pub use schemas::{bounds_of, noted, noted_null, null_default};
+pub use schemas::{annotated, annotated_null, bounds_of, null_default};
 pub use term::{Term, TermLeaf, copy_term};

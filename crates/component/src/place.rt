@@ -4,18 +4,18 @@ ghost use Rattle.std.specs.Prelude.{◌≡◌, IfOk, None, false};
 ghost use Rattle.schema_trees.specs.Schema.{tree_views};
 ghost use Rattle.open_types.specs.Open.{open_view, opens_view};
 ghost use Rattle.component.specs.Leaves.{leaf_view, term_view};
-ghost use Rattle.schema_trees.specs.Notes.{noted};
+ghost use Rattle.schema_trees.specs.Annotations.{annotated};
 ghost use Rattle.schema_trees.specs.Objects.{only_word};
 ghost use Rattle.component.specs.Places.{type_word, leaf_object, tuple_of, list_of, map_object, place, inline_places, declared, argument};
 
 use crate::schemas::{
-    any_object, in_place, leaf_object, list_of, map_object, noted, null_default, only_word,
+    annotated, any_object, in_place, leaf_object, list_of, map_object, null_default, only_word,
     or_null, tuple_of,
 };
 use crate::term::{Term, TermLeaf};
 use leaves::Leaf;
 use open_types::OpenType;
-use schema_trees::{Notes, SchemaTypeInner, Tree, TypeWord};
+use schema_trees::{Annotations, SchemaTypeInner, Tree, TypeWord};
 use std::alloc::{AllocError, Global};
 use texts::{List, Text};
 
@@ -38,19 +38,19 @@ fn declared(alloc: Global, at: Place<'_>, ty: &OpenType) -> Result<Term, AllocEr
 {
     let of = ty.copy(alloc)?;
     if at.inline {
-        let notes = Notes::new();
+        let annotations = Annotations::new();
         let leaf = TermLeaf::Named {
             of,
             inline: true,
-            notes,
+            annotations,
         };
         in_place(alloc, at.nullable, at.description, Tree::Leaf(leaf))
     } else {
-        let notes = noted(alloc, false, at.description)?;
+        let annotations = annotated(alloc, false, at.description)?;
         let leaf = TermLeaf::Named {
             of,
             inline: false,
-            notes,
+            annotations,
         };
         or_null(alloc, at.nullable, Tree::Leaf(leaf))
     }
@@ -70,62 +70,70 @@ fn argument(alloc: Global, at: Place<'_>, parameter: usize) -> Result<Term, Allo
     }
 }
 
-/// Notes of what is said of the place.
-fn notes_of(alloc: Global, at: Place<'_>) -> Result<Notes, AllocError>
-    ensures { IfOk result (λ notes. notes ≡ noted at.entry.deprecated at.entry.description.now) }
+/// Annotations of what is said of the place.
+fn annotations_of(alloc: Global, at: Place<'_>) -> Result<Annotations, AllocError>
+    ensures { IfOk result
+        (λ annotations. annotations ≡ annotated at.entry.deprecated at.entry.description.now) }
 {
-    noted(alloc, at.deprecated, at.description)
+    annotated(alloc, at.deprecated, at.description)
 }
 
 fn leaf_place(alloc: Global, at: Place<'_>, leaf: Leaf) -> Result<Term, AllocError>
     ensures { IfOk result
         (λ s. term_view s
-        ≡ leaf_object at.entry.nullable (noted at.entry.deprecated at.entry.description.now) leaf) }
+        ≡ leaf_object at.entry.nullable
+        (annotated at.entry.deprecated at.entry.description.now) leaf) }
 {
-    leaf_object(alloc, at.nullable, notes_of(alloc, at)?, leaf)
+    leaf_object(alloc, at.nullable, annotations_of(alloc, at)?, leaf)
 }
 
 fn any_place(alloc: Global, at: Place<'_>) -> Result<Term, AllocError>
     ensures { IfOk result
         (λ s. term_view s
-        ≡ only_word TypeWord.Any (noted at.entry.deprecated at.entry.description.now)) }
+        ≡ only_word TypeWord.Any (annotated at.entry.deprecated at.entry.description.now)) }
 {
-    only_word(alloc, TypeWord::Any, notes_of(alloc, at)?)
+    only_word(alloc, TypeWord::Any, annotations_of(alloc, at)?)
 }
 
 fn object_place(alloc: Global, at: Place<'_>) -> Result<Term, AllocError>
     ensures { IfOk result
         (λ s. term_view s ≡ only_word (type_word at.entry.nullable SchemaTypeInner.Object)
-        (noted at.entry.deprecated at.entry.description.now)) }
+        (annotated at.entry.deprecated at.entry.description.now)) }
 {
-    any_object(alloc, at.nullable, notes_of(alloc, at)?)
+    any_object(alloc, at.nullable, annotations_of(alloc, at)?)
 }
 
 fn tuple_place(alloc: Global, at: Place<'_>, items: List<Term>) -> Result<Term, AllocError>
     ensures { IfOk result
         (λ s. term_view s
-        ≡ tuple_of at.entry.nullable (noted at.entry.deprecated at.entry.description.now)
+        ≡ tuple_of at.entry.nullable (annotated at.entry.deprecated at.entry.description.now)
         (tree_views leaf_view items)) }
 {
-    tuple_of(alloc, at.nullable, notes_of(alloc, at)?, items)
+    tuple_of(alloc, at.nullable, annotations_of(alloc, at)?, items)
 }
 
 fn list_place(alloc: Global, at: Place<'_>, unique: bool, item: Term) -> Result<Term, AllocError>
     ensures { IfOk result
         (λ s. term_view s
-        ≡ list_of unique at.entry.nullable (noted at.entry.deprecated at.entry.description.now)
+        ≡ list_of unique at.entry.nullable (annotated at.entry.deprecated at.entry.description.now)
         (term_view item)) }
 {
-    list_of(alloc, unique, at.nullable, notes_of(alloc, at)?, item)
+    list_of(alloc, unique, at.nullable, annotations_of(alloc, at)?, item)
 }
 
 fn map_place(alloc: Global, at: Place<'_>, names: Term, values: Term) -> Result<Term, AllocError>
     ensures { IfOk result
         (λ s. term_view s
-        ≡ map_object at.entry.nullable (noted at.entry.deprecated at.entry.description.now)
+        ≡ map_object at.entry.nullable (annotated at.entry.deprecated at.entry.description.now)
         (term_view names) (term_view values)) }
 {
-    map_object(alloc, at.nullable, notes_of(alloc, at)?, names, values)
+    map_object(
+        alloc,
+        at.nullable,
+        annotations_of(alloc, at)?,
+        names,
+        values,
+    )
 }
 
 /// The schema of a place of the type.

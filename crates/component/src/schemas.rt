@@ -4,15 +4,15 @@ ghost use Rattle.std.specs.Prelude.{◌≡◌, IfOk, Some};
 ghost use Rattle.acceptance.specs.Json.{null};
 ghost use Rattle.schema_trees.specs.Schema.{SchemaOf, tree_view, object_view, tree_views, named_views, no_schemas, schema};
 ghost use Rattle.component.specs.Leaves.{leaf_view, term_view};
-ghost use Rattle.schema_trees.specs.Notes.{notes_of, where_true, noted, null_default};
+ghost use Rattle.schema_trees.specs.Annotations.{annotations_of, where_true, annotated, null_default};
 ghost use Rattle.schema_trees.specs.Objects.{only_word};
 ghost use Rattle.component.specs.Places.{word_of, minimum_of, bounds_of, type_word, one_of_null, or_null, beside, in_place, leaf_object, list_of, tuple_of, map_object};
 
 use crate::term::{Term, TermLeaf};
 use leaves::{Leaf, LeafKind};
 use schema_trees::{
-    Additional, AllOfSchema, Annotations, Array, ArrayItems, Bound, Bounds, Json, Notes, Object,
-    OneOfSchema, SchemaTypeInner, Tree, TypeWord,
+    Additional, AllOfSchema, AnnotationKeywords, Annotations, Array, ArrayItems, Bound, Bounds,
+    Json, Object, OneOfSchema, SchemaTypeInner, Tree, TypeWord,
 };
 use std::alloc::{AllocError, Global};
 use texts::{List, Text};
@@ -58,15 +58,15 @@ pub fn bounds_of(kind: LeafKind) -> Bounds
     }
 }
 
-/// Annotations that a place is deprecated, and of its description.
+/// Keywords of a place: that it is deprecated, and its description.
 fn said(
     alloc: Global,
     deprecated: bool,
     description: &Option<Text>,
-) -> Result<Annotations, AllocError>
-    ensures { IfOk result (λ said. said ≡ noted deprecated description.now) }
+) -> Result<AnnotationKeywords, AllocError>
+    ensures { IfOk result (λ said. said ≡ annotated deprecated description.now) }
 {
-    let mut said = Annotations::none();
+    let mut said = AnnotationKeywords::none();
     if deprecated {
         said.deprecated = Some(true);
     }
@@ -76,18 +76,18 @@ fn said(
     Ok(said)
 }
 
-/// Notes that a place is deprecated, and of its description.
-pub fn noted(
+/// Annotations of a place: that it is deprecated, and its description.
+pub fn annotated(
     alloc: Global,
     deprecated: bool,
     description: &Option<Text>,
-) -> Result<Notes, AllocError>
-    ensures { IfOk result (λ notes. notes ≡ noted deprecated description.now) }
+) -> Result<Annotations, AllocError>
+    ensures { IfOk result (λ annotations. annotations ≡ annotated deprecated description.now) }
 {
     if !deprecated && description.is_none() {
-        return Ok(Notes::new());
+        return Ok(Annotations::new());
     }
-    Notes::of(alloc, said(alloc, deprecated, description)?)
+    Annotations::of(alloc, said(alloc, deprecated, description)?)
 }
 
 pub(crate) fn boxed(alloc: Global, object: Object<TermLeaf>) -> Result<Term, AllocError>
@@ -96,33 +96,45 @@ pub(crate) fn boxed(alloc: Global, object: Object<TermLeaf>) -> Result<Term, All
     Ok(Tree::Object(Box::new(alloc, object)?))
 }
 
-/// A word of `type` and notes alone.
-pub(crate) fn only_word(alloc: Global, ty: TypeWord, notes: Notes) -> Result<Term, AllocError>
-    ensures { IfOk result (λ s. term_view s ≡ only_word ty notes) }
+/// A word of `type` and annotations alone.
+pub(crate) fn only_word(
+    alloc: Global,
+    ty: TypeWord,
+    annotations: Annotations,
+) -> Result<Term, AllocError>
+    ensures { IfOk result (λ s. term_view s ≡ only_word ty annotations) }
 {
-    boxed(alloc, Object::new(alloc, ty, notes))
+    boxed(alloc, Object::new(alloc, ty, annotations))
 }
 
 /// Any object, or null where it may be.
-pub(crate) fn any_object(alloc: Global, nullable: bool, notes: Notes) -> Result<Term, AllocError>
+pub(crate) fn any_object(
+    alloc: Global,
+    nullable: bool,
+    annotations: Annotations,
+) -> Result<Term, AllocError>
     ensures { IfOk result
-        (λ s. term_view s ≡ only_word (type_word nullable SchemaTypeInner.Object) notes) }
+        (λ s. term_view s ≡ only_word (type_word nullable SchemaTypeInner.Object) annotations) }
 {
-    only_word(alloc, type_word(nullable, SchemaTypeInner::Object), notes)
+    only_word(
+        alloc,
+        type_word(nullable, SchemaTypeInner::Object),
+        annotations,
+    )
 }
 
-/// Notes that a place is deprecated, of its description, and that null is its default.
-pub fn noted_null(
+/// Annotations of a place: that it is deprecated, its description, and that null is its default.
+pub fn annotated_null(
     alloc: Global,
     deprecated: bool,
     description: &Option<Text>,
-) -> Result<Notes, AllocError>
-    ensures { IfOk result (λ notes. notes
-        ≡ notes_of description.now (Some null) (where_true deprecated)) }
+) -> Result<Annotations, AllocError>
+    ensures { IfOk result (λ annotations. annotations
+        ≡ annotations_of description.now (Some null) (where_true deprecated)) }
 {
     let mut said = said(alloc, deprecated, description)?;
     said.default = Some(Json::null());
-    Notes::of(alloc, said)
+    Annotations::of(alloc, said)
 }
 
 /// Null as the default of any value, with a description.
@@ -130,17 +142,21 @@ pub fn null_default(alloc: Global, description: &Option<Text>) -> Result<Term, A
     ensures { IfOk result
         (λ s. term_view s ≡ only_word TypeWord.Any (null_default description.now)) }
 {
-    only_word(alloc, TypeWord::Any, noted_null(alloc, false, description)?)
+    only_word(
+        alloc,
+        TypeWord::Any,
+        annotated_null(alloc, false, description)?,
+    )
 }
 
 /// The schema of a built-in name.
 pub(crate) fn leaf_object(
     alloc: Global,
     nullable: bool,
-    notes: Notes,
+    annotations: Annotations,
     leaf: Leaf,
 ) -> Result<Term, AllocError>
-    ensures { IfOk result (λ s. term_view s ≡ leaf_object nullable notes leaf) }
+    ensures { IfOk result (λ s. term_view s ≡ leaf_object nullable annotations leaf) }
 {
     let format = match leaf.format() {
         Some(name) => Some(Text::new(alloc, name)?),
@@ -150,7 +166,7 @@ pub(crate) fn leaf_object(
     let object = Object {
         format,
         bounds: bounds_of(leaf.kind()),
-        ..Object::new(alloc, word, notes)
+        ..Object::new(alloc, word, annotations)
     };
     boxed(alloc, object)
 }
@@ -167,12 +183,16 @@ fn both(alloc: Global, first: Term, second: Term) -> Result<List<Term>, AllocErr
 }
 
 /// One of the schema and null.
-fn one_of_null(alloc: Global, schema: Term, notes: Notes) -> Result<Term, AllocError>
-    ensures { IfOk result (λ s. term_view s ≡ one_of_null notes (term_view schema)) }
+fn one_of_null(alloc: Global, schema: Term, annotations: Annotations) -> Result<Term, AllocError>
+    ensures { IfOk result (λ s. term_view s ≡ one_of_null annotations (term_view schema)) }
 {
-    let null = only_word(alloc, TypeWord::One(SchemaTypeInner::Null), Notes::new())?;
+    let null = only_word(
+        alloc,
+        TypeWord::One(SchemaTypeInner::Null),
+        Annotations::new(),
+    )?;
     let items = both(alloc, schema, null)?;
-    Ok(Tree::OneOf(Box::new(alloc, OneOfSchema { items, notes })?))
+    Ok(Tree::OneOf(Box::new(alloc, OneOfSchema { items, annotations })?))
 }
 
 /// The schema, or null where it may be.
@@ -180,7 +200,7 @@ pub(crate) fn or_null(alloc: Global, nullable: bool, schema: Term) -> Result<Ter
     ensures { IfOk result (λ s. term_view s ≡ or_null nullable (term_view schema)) }
 {
     if nullable {
-        one_of_null(alloc, schema, Notes::new())
+        one_of_null(alloc, schema, Annotations::new())
     } else {
         Ok(schema)
     }
@@ -193,10 +213,10 @@ fn beside(alloc: Global, description: &Option<Text>, schema: Term) -> Result<Ter
     if description.is_none() {
         return Ok(schema);
     }
-    let said = only_word(alloc, TypeWord::Any, noted(alloc, false, description)?)?;
+    let said = only_word(alloc, TypeWord::Any, annotated(alloc, false, description)?)?;
     let items = both(alloc, schema, said)?;
-    let notes = Notes::new();
-    Ok(Tree::AllOf(Box::new(alloc, AllOfSchema { items, notes })?))
+    let annotations = Annotations::new();
+    Ok(Tree::AllOf(Box::new(alloc, AllOfSchema { items, annotations })?))
 }
 
 /// A schema that stands there itself, with null where it may be, and with its description.
@@ -210,7 +230,7 @@ pub(crate) fn in_place(
         (λ s. term_view s ≡ in_place nullable description.now (term_view schema)) }
 {
     if nullable {
-        one_of_null(alloc, schema, noted(alloc, false, description)?)
+        one_of_null(alloc, schema, annotated(alloc, false, description)?)
     } else {
         beside(alloc, description, schema)
     }
@@ -221,10 +241,11 @@ pub(crate) fn list_of(
     alloc: Global,
     unique: bool,
     nullable: bool,
-    notes: Notes,
+    annotations: Annotations,
     items: Term,
 ) -> Result<Term, AllocError>
-    ensures { IfOk result (λ s. term_view s ≡ list_of unique nullable notes (term_view items)) }
+    ensures { IfOk result
+        (λ s. term_view s ≡ list_of unique nullable annotations (term_view items)) }
 {
     let array = Array {
         nullable,
@@ -233,7 +254,7 @@ pub(crate) fn list_of(
         unique,
         max_items: None,
         min_items: None,
-        notes,
+        annotations,
     };
     Ok(Tree::Array(Box::new(alloc, array)?))
 }
@@ -242,11 +263,11 @@ pub(crate) fn list_of(
 pub(crate) fn tuple_of(
     alloc: Global,
     nullable: bool,
-    notes: Notes,
+    annotations: Annotations,
     items: List<Term>,
 ) -> Result<Term, AllocError>
     ensures { IfOk result
-        (λ s. term_view s ≡ tuple_of nullable notes (tree_views leaf_view items)) }
+        (λ s. term_view s ≡ tuple_of nullable annotations (tree_views leaf_view items)) }
 {
     let array = Array {
         nullable,
@@ -255,7 +276,7 @@ pub(crate) fn tuple_of(
         unique: false,
         max_items: None,
         min_items: None,
-        notes,
+        annotations,
     };
     Ok(Tree::Array(Box::new(alloc, array)?))
 }
@@ -264,14 +285,18 @@ pub(crate) fn tuple_of(
 pub(crate) fn map_object(
     alloc: Global,
     nullable: bool,
-    notes: Notes,
+    annotations: Annotations,
     names: Term,
     values: Term,
 ) -> Result<Term, AllocError>
     ensures { IfOk result
-        (λ s. term_view s ≡ map_object nullable notes (term_view names) (term_view values)) }
+        (λ s. term_view s ≡ map_object nullable annotations (term_view names) (term_view values)) }
 {
-    let mut object = Object::new(alloc, type_word(nullable, SchemaTypeInner::Object), notes);
+    let mut object = Object::new(
+        alloc,
+        type_word(nullable, SchemaTypeInner::Object),
+        annotations,
+    );
     object.property_names = Some(names);
     object.additional = Additional::Of(values);
     boxed(alloc, object)

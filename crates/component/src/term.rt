@@ -3,7 +3,7 @@ ghost use Rattle.component.specs.Leaves.{term_view};
 
 use filling::{CopyLeaf, copied};
 use open_types::OpenType;
-use schema_trees::{Notes, Tree};
+use schema_trees::{Annotations, Tree};
 use std::alloc::{AllocError, Global};
 
 /// What a term leaves open.
@@ -11,12 +11,12 @@ use std::alloc::{AllocError, Global};
 pub enum TermLeaf {
     /// The schema of the argument for the parameter at this place, from 0 on.
     Param(usize),
-    /// A declaration with its arguments: a reference to its component with these notes, or, where it is inline, the
-    /// schema of its component, which carries no notes.
+    /// A declaration with its arguments: a reference to its component with these annotations, or, where it is inline,
+    /// the schema of its component, which carries none.
     Named {
         of: OpenType,
         inline: bool,
-        notes: Notes,
+        annotations: Annotations,
     },
 }
 
@@ -33,10 +33,14 @@ impl CopyLeaf for TermLeaf {
     fn copy_leaf(&self, alloc: Global) -> Result<TermLeaf, AllocError> {
         Ok(match self {
             TermLeaf::Param(place) => TermLeaf::Param(*place),
-            TermLeaf::Named { of, inline, notes } => TermLeaf::Named {
+            TermLeaf::Named {
+                of,
+                inline,
+                annotations,
+            } => TermLeaf::Named {
                 of: of.copy(alloc)?,
                 inline: *inline,
-                notes: notes.copy(alloc)?,
+                annotations: annotations.copy(alloc)?,
             },
         })
     }

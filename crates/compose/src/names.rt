@@ -12,7 +12,7 @@ ghost use Rattle.shapes.specs.Views.{declaration_view};
 use diag::DeriveError;
 use instances::instance_name;
 use open_types::ClosedType;
-use shapes::{Body, Declaration, Form, Remarks};
+use shapes::{Annotations, Body, Declaration, Form};
 use std::alloc::{AllocError, Global};
 use syntax::Declarations;
 use texts::{List, Text};
@@ -25,7 +25,7 @@ fn named(alloc: Global, ident: &Ident) -> Result<Declaration, AllocError>
     Ok(Declaration {
         name: ident.text.copy(alloc)?,
         parameters: 0,
-        remarks: Remarks {
+        annotations: Annotations {
             deprecated: false,
             description: None,
         },

@@ -1,2 +1,2 @@
-pub mod Remarks
+pub mod Annotations
 pub mod Schemas

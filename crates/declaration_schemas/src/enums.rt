@@ -9,13 +9,13 @@ ghost use Rattle.shapes.specs.Views.{body_view};
 ghost use Rattle.derive_decl.specs.Resolved.{plain_body, mixed_body, body_of};
 ghost use Rattle.derive_decl.specs.Faults.{IsFaultyPlain, IsFaultyEnum};
 ghost use Rattle.derive_decl.specs.Views.{attributes_of, items_of, known};
-ghost use Rattle.declaration_schemas.specs.Remarks.{with_remarks};
+ghost use Rattle.declaration_schemas.specs.Annotations.{with_annotations};
 
 use component::Term;
-use derive_decl::{Root, enum_body, enum_rules, remarks_of, units_body, variants_body};
+use derive_decl::{Root, annotations_of, enum_body, enum_rules, units_body, variants_body};
 use diag::DeriveError;
 use place_schemas::ToTerm;
-use shapes::{Body, Remarks};
+use shapes::{Annotations, Body};
 use std::alloc::Global;
 use syntax::Variant;
 use terms::body_term;
@@ -23,21 +23,21 @@ use terms::body_term;
 /// An enum.
 #[derive(Debug, Drop)]
 pub struct EnumSchema {
-    pub remarks: Remarks,
+    pub annotations: Annotations,
     pub body: Body,
 }
 
 /// An enum of variants without fields.
 #[derive(Debug, Drop)]
 pub struct PlainEnum {
-    pub remarks: Remarks,
+    pub annotations: Annotations,
     pub body: Body,
 }
 
 /// An enum of which a variant has fields. Its schema is one of those of its variants.
 #[derive(Debug, Drop)]
 pub struct MixedEnum {
-    pub remarks: Remarks,
+    pub annotations: Annotations,
     pub body: Body,
 }
 
@@ -57,16 +57,16 @@ impl EnumSchema {
     ) -> Result<EnumSchema, DeriveError>
         requires { AllByRecursion (λ v. HaveNames v.fields) (map variant_view variants.now) }
         ensures body { IfOk result
-            (λ e. with_remarks (attributes_of root.now)
+            (λ e. with_annotations (attributes_of root.now)
             (body_of (known root.now.container.now) (items_of root.now)
-            (enum_body (map variant_view variants.now))) ≡ Some (e.remarks, body_view e.body)) }
+            (enum_body (map variant_view variants.now))) ≡ Some (e.annotations, body_view e.body)) }
         ensures refused { Refuses result
             (IsFaultyEnum (known root.now.container.now) (items_of root.now) root.now.ident.now
             (map variant_view variants.now)) }
     {
         let body = enum_body(alloc, root, variants)?;
         Ok(EnumSchema {
-            remarks: remarks_of(alloc, root.attributes)?,
+            annotations: annotations_of(alloc, root.attributes)?,
             body,
         })
     }
@@ -81,9 +81,9 @@ impl PlainEnum {
         variants: &[Variant],
     ) -> Result<PlainEnum, DeriveError>
         ensures body { IfOk result
-            (λ e. with_remarks (attributes_of root.now)
+            (λ e. with_annotations (attributes_of root.now)
             (plain_body (known root.now.container.now) (items_of root.now)
-            (map variant_view variants.now)) ≡ Some (e.remarks, body_view e.body)) }
+            (map variant_view variants.now)) ≡ Some (e.annotations, body_view e.body)) }
         ensures refused { Refuses result
             (IsFaultyPlain (known root.now.container.now) (items_of root.now) root.now.ident.now
             (map variant_view variants.now)) }
@@ -91,7 +91,7 @@ impl PlainEnum {
         let rules = enum_rules(alloc, root)?;
         let body = units_body(alloc, root, rules.rule, rules.tagging, variants)?;
         Ok(PlainEnum {
-            remarks: remarks_of(alloc, root.attributes)?,
+            annotations: annotations_of(alloc, root.attributes)?,
             body,
         })
     }
@@ -107,9 +107,9 @@ impl MixedEnum {
     ) -> Result<MixedEnum, DeriveError>
         requires { AllByRecursion (λ v. HaveNames v.fields) (map variant_view variants.now) }
         ensures body { IfOk result
-            (λ e. with_remarks (attributes_of root.now)
+            (λ e. with_annotations (attributes_of root.now)
             (mixed_body (known root.now.container.now) (items_of root.now)
-            (map variant_view variants.now)) ≡ Some (e.remarks, body_view e.body)) }
+            (map variant_view variants.now)) ≡ Some (e.annotations, body_view e.body)) }
         ensures refused { Refuses result
             (IsFaultyEnum (known root.now.container.now) (items_of root.now) root.now.ident.now
             (map variant_view variants.now)) }
@@ -117,7 +117,7 @@ impl MixedEnum {
         let rules = enum_rules(alloc, root)?;
         let body = variants_body(alloc, root, rules.rule, rules.tagging, variants)?;
         Ok(MixedEnum {
-            remarks: remarks_of(alloc, root.attributes)?,
+            annotations: annotations_of(alloc, root.attributes)?,
             body,
         })
     }
@@ -130,12 +130,12 @@ impl ToTerm for EnumSchema {
 
     ghost is_ready = { λ _. Unit {0} };
 
-    ghost has_term = { λ e t. t ≡ body_term e.remarks (body_view e.body) };
+    ghost has_term = { λ e t. t ≡ body_term e.annotations (body_view e.body) };
 
     ghost is_refused = { λ _ _. ⊥ };
 
     fn to_term(&self, alloc: Global) -> Result<Term, DeriveError> {
-        Ok(body_term(alloc, &self.remarks, &self.body)?)
+        Ok(body_term(alloc, &self.annotations, &self.body)?)
     }
 }
 
@@ -146,12 +146,12 @@ impl ToTerm for PlainEnum {
 
     ghost is_ready = { λ _. Unit {0} };
 
-    ghost has_term = { λ e t. t ≡ body_term e.remarks (body_view e.body) };
+    ghost has_term = { λ e t. t ≡ body_term e.annotations (body_view e.body) };
 
     ghost is_refused = { λ _ _. ⊥ };
 
     fn to_term(&self, alloc: Global) -> Result<Term, DeriveError> {
-        Ok(body_term(alloc, &self.remarks, &self.body)?)
+        Ok(body_term(alloc, &self.annotations, &self.body)?)
     }
 }
 
@@ -162,11 +162,11 @@ impl ToTerm for MixedEnum {
 
     ghost is_ready = { λ _. Unit {0} };
 
-    ghost has_term = { λ e t. t ≡ body_term e.remarks (body_view e.body) };
+    ghost has_term = { λ e t. t ≡ body_term e.annotations (body_view e.body) };
 
     ghost is_refused = { λ _ _. ⊥ };
 
     fn to_term(&self, alloc: Global) -> Result<Term, DeriveError> {
-        Ok(body_term(alloc, &self.remarks, &self.body)?)
+        Ok(body_term(alloc, &self.annotations, &self.body)?)
     }
 }

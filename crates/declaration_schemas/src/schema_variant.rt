@@ -8,13 +8,13 @@ ghost use Rattle.shapes.specs.Views.{body_view as resolved_view};
 ghost use Rattle.derive_decl.specs.Resolved.{derived_body};
 ghost use Rattle.derive_decl.specs.Faults.{IsFaultyDeclaration};
 ghost use Rattle.derive_decl.specs.Views.{attributes_of, known};
-ghost use Rattle.declaration_schemas.specs.Remarks.{with_remarks};
+ghost use Rattle.declaration_schemas.specs.Annotations.{with_annotations};
 
 use component::Term;
-use derive_decl::{Root, remarks_of, resolve_body};
+use derive_decl::{Root, annotations_of, resolve_body};
 use diag::DeriveError;
 use place_schemas::ToTerm;
-use shapes::{Body as Resolved, Remarks};
+use shapes::{Annotations, Body as Resolved};
 use std::alloc::Global;
 use syntax::Body;
 use terms::body_term;
@@ -22,7 +22,7 @@ use terms::body_term;
 /// The body of a declaration, and what is said of the declaration.
 #[derive(Debug, Drop)]
 pub struct SchemaVariant {
-    pub remarks: Remarks,
+    pub annotations: Annotations,
     pub body: Resolved,
 }
 
@@ -32,16 +32,16 @@ impl SchemaVariant {
     pub fn new(alloc: Global, body: &Body, root: &Root<'_>) -> Result<SchemaVariant, DeriveError>
         requires { IsNamedBody (body_view body.now) }
         ensures body { IfOk result
-            (λ s. with_remarks (attributes_of root.now)
+            (λ s. with_annotations (attributes_of root.now)
             (derived_body (known root.now.container.now) (attributes_of root.now)
-            (body_view body.now)) ≡ Some (s.remarks, resolved_view s.body)) }
+            (body_view body.now)) ≡ Some (s.annotations, resolved_view s.body)) }
         ensures refused { Refuses result
             (IsFaultyDeclaration (known root.now.container.now) (attributes_of root.now)
             root.now.ident.now (body_view body.now)) }
     {
         let body = resolve_body(alloc, root, body)?;
         Ok(SchemaVariant {
-            remarks: remarks_of(alloc, root.attributes)?,
+            annotations: annotations_of(alloc, root.attributes)?,
             body,
         })
     }
@@ -54,11 +54,11 @@ impl ToTerm for SchemaVariant {
 
     ghost is_ready = { λ _. Unit {0} };
 
-    ghost has_term = { λ s t. t ≡ body_term s.remarks (resolved_view s.body) };
+    ghost has_term = { λ s t. t ≡ body_term s.annotations (resolved_view s.body) };
 
     ghost is_refused = { λ _ _. ⊥ };
 
     fn to_term(&self, alloc: Global) -> Result<Term, DeriveError> {
-        Ok(body_term(alloc, &self.remarks, &self.body)?)
+        Ok(body_term(alloc, &self.annotations, &self.body)?)
     }
 }

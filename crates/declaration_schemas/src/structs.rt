@@ -6,16 +6,16 @@ ghost use Rattle.diag.specs.Refusal.{Refuses};
 ghost use Rattle.syntax.specs.Items.{field_view, named, unnamed};
 ghost use Rattle.syntax.specs.Named.{HasName};
 ghost use Rattle.shapes.specs.Views.{form_view};
-ghost use Rattle.derive_decl.specs.Resolved.{form_of, remarks_of};
+ghost use Rattle.derive_decl.specs.Resolved.{form_of, annotations_of};
 ghost use Rattle.derive_decl.specs.Faults.{AreFaultyNamed, AreFaultyTypes};
 ghost use Rattle.derive_decl.specs.Views.{attributes_of, items_of, known};
-ghost use Rattle.declaration_schemas.specs.Remarks.{with_remarks};
+ghost use Rattle.declaration_schemas.specs.Annotations.{with_annotations};
 
 use component::Term;
-use derive_decl::{Root, named_form, remarks_of, unnamed_form};
+use derive_decl::{Root, annotations_of, named_form, unnamed_form};
 use diag::DeriveError;
 use place_schemas::ToTerm;
-use shapes::{Form, Remarks};
+use shapes::{Annotations, Form};
 use std::alloc::Global;
 use syntax::Field;
 use terms::form_term;
@@ -24,31 +24,32 @@ use terms::form_term;
 #[derive(Debug, Drop)]
 pub struct UnitStructVariant {
     /// What is said of the struct. Null as the default does not say that it is deprecated.
-    pub remarks: Remarks,
+    pub annotations: Annotations,
 }
 
 /// A struct with named fields. Its schema is an object with a property for each field that serde does not skip.
 #[derive(Debug, Drop)]
 pub struct NamedStructSchema {
-    pub remarks: Remarks,
+    pub annotations: Annotations,
     pub form: Form,
 }
 
 /// A struct with unnamed fields. One field is read as its content, several as a list.
 #[derive(Debug, Drop)]
 pub struct UnnamedStructSchema {
-    pub remarks: Remarks,
+    pub annotations: Annotations,
     pub form: Form,
 }
 
 impl UnitStructVariant {
     /// The struct of the root. Only memory can be wanted.
     pub fn new(alloc: Global, root: &Root<'_>) -> Result<UnitStructVariant, DeriveError>
-        ensures remarks { IfOk result (λ s. s.remarks ≡ remarks_of (attributes_of root.now)) }
+        ensures annotations { IfOk result
+            (λ s. s.annotations ≡ annotations_of (attributes_of root.now)) }
         ensures refused { IfErr result (λ e. e ≡ DeriveError.Memory) }
     {
         Ok(UnitStructVariant {
-            remarks: remarks_of(alloc, root.attributes)?,
+            annotations: annotations_of(alloc, root.attributes)?,
         })
     }
 }
@@ -66,16 +67,16 @@ impl NamedStructSchema {
     ) -> Result<NamedStructSchema, DeriveError>
         requires { AllByRecursion HasName (map field_view fields.now) }
         ensures form { IfOk result
-            (λ s. with_remarks (attributes_of root.now)
+            (λ s. with_annotations (attributes_of root.now)
             (form_of (known root.now.container.now) (items_of root.now)
-            (named (map field_view fields.now))) ≡ Some (s.remarks, form_view s.form)) }
+            (named (map field_view fields.now))) ≡ Some (s.annotations, form_view s.form)) }
         ensures refused { Refuses result
             (AreFaultyNamed (known root.now.container.now) (items_of root.now)
             (map field_view fields.now)) }
     {
         let form = named_form(alloc, root, fields)?;
         Ok(NamedStructSchema {
-            remarks: remarks_of(alloc, root.attributes)?,
+            annotations: annotations_of(alloc, root.attributes)?,
             form,
         })
     }
@@ -92,16 +93,16 @@ impl UnnamedStructSchema {
         fields: &[Field],
     ) -> Result<UnnamedStructSchema, DeriveError>
         ensures form { IfOk result
-            (λ s. with_remarks (attributes_of root.now)
+            (λ s. with_annotations (attributes_of root.now)
             (form_of (known root.now.container.now) (items_of root.now)
-            (unnamed (map field_view fields.now))) ≡ Some (s.remarks, form_view s.form)) }
+            (unnamed (map field_view fields.now))) ≡ Some (s.annotations, form_view s.form)) }
         ensures refused { Refuses result
             (AreFaultyTypes (known root.now.container.now) root.now.ident.now
             (map field_view fields.now)) }
     {
         let form = unnamed_form(alloc, root, fields)?;
         Ok(UnnamedStructSchema {
-            remarks: remarks_of(alloc, root.attributes)?,
+            annotations: annotations_of(alloc, root.attributes)?,
             form,
         })
     }
@@ -114,12 +115,12 @@ impl ToTerm for UnitStructVariant {
 
     ghost is_ready = { λ _. Unit {0} };
 
-    ghost has_term = { λ s t. t ≡ form_term s.remarks no_fields };
+    ghost has_term = { λ s t. t ≡ form_term s.annotations no_fields };
 
     ghost is_refused = { λ _ _. ⊥ };
 
     fn to_term(&self, alloc: Global) -> Result<Term, DeriveError> {
-        Ok(form_term(alloc, &self.remarks, &Form::Unit)?)
+        Ok(form_term(alloc, &self.annotations, &Form::Unit)?)
     }
 }
 
@@ -130,12 +131,12 @@ impl ToTerm for NamedStructSchema {
 
     ghost is_ready = { λ _. Unit {0} };
 
-    ghost has_term = { λ s t. t ≡ form_term s.remarks (form_view s.form) };
+    ghost has_term = { λ s t. t ≡ form_term s.annotations (form_view s.form) };
 
     ghost is_refused = { λ _ _. ⊥ };
 
     fn to_term(&self, alloc: Global) -> Result<Term, DeriveError> {
-        Ok(form_term(alloc, &self.remarks, &self.form)?)
+        Ok(form_term(alloc, &self.annotations, &self.form)?)
     }
 }
 
@@ -146,11 +147,11 @@ impl ToTerm for UnnamedStructSchema {
 
     ghost is_ready = { λ _. Unit {0} };
 
-    ghost has_term = { λ s t. t ≡ form_term s.remarks (form_view s.form) };
+    ghost has_term = { λ s t. t ≡ form_term s.annotations (form_view s.form) };
 
     ghost is_refused = { λ _ _. ⊥ };
 
     fn to_term(&self, alloc: Global) -> Result<Term, DeriveError> {
-        Ok(form_term(alloc, &self.remarks, &self.form)?)
+        Ok(form_term(alloc, &self.annotations, &self.form)?)
     }
 }

@@ -1,6 +1,7 @@
 //! What written declarations are resolved to, by their attributes and the names around them, and why they may be refused.
 #![tactic(auto)]
 
+mod annotations;
 mod attributed;
 mod bodies;
 mod enums;
@@ -11,7 +12,6 @@ mod named_fields;
 mod names;
 mod parameters;
 mod push_some;
-mod remarks;
 mod root;
 mod tags;
 mod units;
@@ -21,6 +21,7 @@ mod whole;
 mod written_member;
 mod written_variant;
 
+pub use annotations::annotations_of;
 pub use attributed::only_derivable;
 pub use bodies::resolve_body;
 pub use enums::{EnumRules, enum_body, enum_rules};
@@ -28,7 +29,6 @@ pub use law::{resolution_is_exact, resolved_are_apart};
 pub use mixed::variants_body;
 pub use named_fields::named_form;
 pub use parameters::distinct_parameters;
-pub use remarks::remarks_of;
 pub use root::Root;
 pub use units::units_body;
 pub use unnamed_fields::unnamed_form;

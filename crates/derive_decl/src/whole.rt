@@ -13,9 +13,9 @@ ghost use Rattle.derive_decl.specs.Faults.{AreDerivable, IsFaultyDeclaration, Is
 ghost use Rattle.derive_decl.specs.Views.{attributes_of, known};
 ghost use Rattle.derive_decl.specs.Whole.{resolved_declarations};
 
+use crate::annotations::annotations_of;
 use crate::bodies::{body_of, resolve_body};
 use crate::parameters::distinct_parameters;
-use crate::remarks::remarks_of;
 use crate::root::Root;
 use configuration::Config;
 use diag::DeriveError;
@@ -34,7 +34,7 @@ fn with_body(alloc: Global, root: &Root<'_>, body: Body) -> Result<Resolved, All
     Ok(Resolved {
         name: root.ident.text.copy(alloc)?,
         parameters: root.container.scope.count,
-        remarks: remarks_of(alloc, root.attributes)?,
+        annotations: annotations_of(alloc, root.attributes)?,
         body,
     })
 }

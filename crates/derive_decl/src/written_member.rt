@@ -13,13 +13,13 @@ ghost use Rattle.derive_decl.specs.Resolved.{all_of, is_option, member_of, membe
 ghost use Rattle.derive_decl.specs.Faults.{IsFaultyMember};
 ghost use Rattle.derive_decl.specs.Views.{known, written_member_view};
 
+use crate::annotations::annotations_of;
 use crate::names::written_ident;
-use crate::remarks::remarks_of;
 use diag::DeriveError;
 use open_types::OpenType;
 use scopes::{Container, Named, resolve};
 use serde_rules::{FieldRename, SerdeContainer, SerdeValue, is_required, parse_value};
-use shapes::{Member, Remarks};
+use shapes::{Annotations, Member};
 use std::alloc::{AllocError, Global};
 use syntax::{Field, Ident};
 use texts::List;
@@ -30,7 +30,7 @@ pub(crate) struct WrittenMember {
     /// The name in JSON, where the field's identifier stands.
     ident: Ident,
     required: bool,
-    remarks: Remarks,
+    annotations: Annotations,
     ty: OpenType,
 }
 
@@ -49,7 +49,7 @@ fn moved(member: WrittenMember) -> Member
     Member {
         name: member.ident.text,
         required: member.required,
-        remarks: member.remarks,
+        annotations: member.annotations,
         ty: member.ty,
     }
 }
@@ -97,7 +97,7 @@ fn member_with(
 {
     Ok(WrittenMember {
         required: !is_option(&ty) && is_required(value, rules),
-        remarks: remarks_of(alloc, field.attrs.as_slice())?,
+        annotations: annotations_of(alloc, field.attrs.as_slice())?,
         ident,
         ty,
     })

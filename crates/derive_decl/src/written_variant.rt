@@ -12,16 +12,16 @@ ghost use Rattle.derive_decl.specs.Resolved.{all_of, tagged_form, variant_of};
 ghost use Rattle.derive_decl.specs.Faults.{IsFaultyContent, IsFaultyVariant};
 ghost use Rattle.derive_decl.specs.Views.{attributes_of, known, written_variant_view};
 
+use crate::annotations::annotations_of;
 use crate::fields::form_of;
 use crate::push_some::push_some;
-use crate::remarks::remarks_of;
 use crate::root::Root;
 use crate::tags::tag_stands;
 use crate::variant_names::kept_name;
 use diag::{DeriveError, RenameRule};
 use scopes::Named;
 use serde_rules::{SerdeValue, parse_value};
-use shapes::{Form, Remarks, Tagging, Variant as Resolved};
+use shapes::{Annotations, Form, Tagging, Variant as Resolved};
 use std::alloc::{AllocError, Global};
 use syntax::{Ident, Variant};
 use texts::List;
@@ -31,7 +31,7 @@ use texts::List;
 pub(crate) struct WrittenVariant {
     /// The name in JSON, where the variant's identifier stands.
     ident: Ident,
-    remarks: Remarks,
+    annotations: Annotations,
     form: Form,
 }
 
@@ -49,7 +49,7 @@ fn moved(variant: WrittenVariant) -> Resolved
 {
     Resolved {
         name: variant.ident.text,
-        remarks: variant.remarks,
+        annotations: variant.annotations,
         form: variant.form,
     }
 }
@@ -120,7 +120,7 @@ fn kept_variant(
     let form = tagged_form(alloc, &own, tagging, variant)?;
     Ok(WrittenVariant {
         ident,
-        remarks: remarks_of(alloc, own.attributes)?,
+        annotations: annotations_of(alloc, own.attributes)?,
         form,
     })
 }

@@ -8,8 +8,8 @@ module _ {X : Type 0} where
     bind-leaf (leaf x) = refl
     bind-leaf (object facts ps additional names) = λ i. object facts (bind-properties ps i) (bind-part additional i) (bind-part names i)
     bind-leaf (array facts front rest) = λ i. array facts (bind-schemas front i) (bind-part rest i)
-    bind-leaf (one_of notes ss) = λ i. one_of notes (bind-schemas ss i)
-    bind-leaf (all_of notes ss) = λ i. all_of notes (bind-schemas ss i)
+    bind-leaf (one_of annotations ss) = λ i. one_of annotations (bind-schemas ss i)
+    bind-leaf (all_of annotations ss) = λ i. all_of annotations (bind-schemas ss i)
 
     bind-schemas : (ss : SchemasOf X) → bind_schemas (λ x. leaf x) ss ≡ ss
     bind-schemas no_schemas = refl

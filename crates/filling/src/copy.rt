@@ -65,7 +65,7 @@ impl CopyLeaf for RefLeaf {
     fn copy_leaf(&self, alloc: Global) -> Result<RefLeaf, AllocError> {
         Ok(RefLeaf {
             name: self.name.copy(alloc)?,
-            notes: self.notes.copy(alloc)?,
+            annotations: self.annotations.copy(alloc)?,
         })
     }
 }

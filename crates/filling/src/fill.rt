@@ -164,7 +164,7 @@ fn filled_array<F: Fill>(
         unique: array.unique,
         max_items: array.max_items,
         min_items: array.min_items,
-        notes: array.notes.copy(alloc)?,
+        annotations: array.annotations.copy(alloc)?,
     })
 }
 
@@ -194,7 +194,7 @@ fn filled_one_of<F: Fill>(
 {
     Ok(OneOfSchema {
         items: filled_trees(alloc, one_of.items.as_slice(), fill)?,
-        notes: one_of.notes.copy(alloc)?,
+        annotations: one_of.annotations.copy(alloc)?,
     })
 }
 
@@ -209,7 +209,7 @@ fn filled_all_of<F: Fill>(
 {
     Ok(AllOfSchema {
         items: filled_trees(alloc, all_of.items.as_slice(), fill)?,
-        notes: all_of.notes.copy(alloc)?,
+        annotations: all_of.annotations.copy(alloc)?,
     })
 }
 

@@ -2,7 +2,7 @@
 use Rattle.std.proofs.Common.{ℕ, zero, suc, ◌<◌, List, [], ◌∷◌, Some, None, true, false, codes, ◌≡◌, refl, sym, subst, inl, inr, arith}
 use Rattle.open_types.specs.Open.{Open, Opens, any_value, free_object, param, named, no_types, more_types}
 use Rattle.open_types.specs.Instances.{StandsInOne}
-use Rattle.shapes.specs.Declarations.{named_fields, fields, DeclarationOf, no_remarks, AreFitting}
+use Rattle.shapes.specs.Declarations.{named_fields, fields, DeclarationOf, unannotated, AreFitting}
 use Rattle.shapes.specs.Instances.{places_at}
 use Rattle.shapes.specs.InstanceShape.{IsRoot, IsReachable, root, stands}
 use Rattle.instances.specs.Lists.{IsOneOf, number_in, AreDifferent, AreInstances}
@@ -13,8 +13,8 @@ abbrev a_struct : List ℕ → ℕ → Open → DeclarationOf
 a_struct name parameters t = record {
   name = name;
   parameters = parameters;
-  remarks = no_remarks;
-  body = fields (named_fields false (record { name = codes "v"; required = true; remarks = no_remarks; of = t } ∷ []));
+  annotations = unannotated;
+  body = fields (named_fields false (record { name = codes "v"; required = true; annotations = unannotated; of = t } ∷ []));
 }
 
 abbrev one : Open → Opens

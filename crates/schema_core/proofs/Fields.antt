@@ -10,8 +10,8 @@ use Rattle.acceptance.specs.Json.{Json, Members, no_members, member, put, put_gi
 use Rattle.texts.specs.Names.{is_in}
 use Rattle.acceptance.specs.Keyword.{keyword_of, other}
 use Rattle.acceptance.specs.Acceptance.{keyword_holds, accepts_with, members_hold, properties_accept, prefix_accepts, all_accept, one_accepts, reference_holds, each_property}
-use Rattle.schema_trees.specs.declared.notes.Annotations.{Annotations as Notes}
-use Rattle.schema_core.specs.Form.{put_fields, note_fields}
+use Rattle.schema_trees.specs.declared.annotations.AnnotationKeywords.{AnnotationKeywords as Annotations}
+use Rattle.schema_core.specs.Form.{put_fields, annotation_fields}
 
 or-swap : (a b c : Bool) → (a || (b || c)) ≡ (b || (a || c))
 or-swap true true c = refl
@@ -150,8 +150,8 @@ abbrev pub AreOthers : List (List ℕ × Option Json) → Type 0
 AreOthers [] = Unit {0}
 AreOthers (f ∷ fs) = (keyword_of f.0 ≡ other) × AreOthers fs
 
-pub others-notes : (notes : Notes) → AreOthers (note_fields notes)
-others-notes notes = (refl, (refl, (refl, (refl, (refl, (refl, (refl, (refl, (refl, (refl, tt))))))))))
+pub others-annotations : (annotations : Annotations) → AreOthers (annotation_fields annotations)
+others-annotations annotations = (refl, (refl, (refl, (refl, (refl, (refl, (refl, (refl, (refl, (refl, tt))))))))))
 
 and-last : (a b c : Bool) → (a && (b && c)) ≡ ((b && a) && c)
 and-last true true c = refl

@@ -8,15 +8,15 @@ use Rattle.texts.specs.Names.{is_in, IsDistinct}
 use Rattle.acceptance.specs.Acceptance.{kinds_of, texts_of, if_texts, keyword_holds, names_of, named, count_of, prefix_count, others_pass, names_pass, in_order, each_accepts, accepts_with, readings_of}
 use Rattle.acceptance.specs.Keyword.{keyword_of, other}
 use Rattle.acceptance.specs.Acceptance.{some_accepts as some_json_accepts}
-use Rattle.schema_trees.specs.declared.notes.Annotations.{Annotations as Notes}
+use Rattle.schema_trees.specs.declared.annotations.AnnotationKeywords.{AnnotationKeywords as Annotations}
 use Rattle.schema_trees.specs.declared.tree.TypeWord.{TypeWord}
 use Rattle.schema_trees.specs.declared.tree.TypeWord.TheVariants.{Any, One, Nullable}
 use Rattle.schema_trees.specs.declared.tree.RefLeaf.{RefLeaf}
 use Rattle.schema_trees.specs.Schema.{SchemaOf, leaf, object, array, one_of, all_of, SchemasOf, no_schemas, schema, schema_count, PropertiesOf, no_properties, property, property_names, PartOf, no_part, truth, part}
-use Rattle.schema_core.specs.Form.{word_text, type_form, texts_form, required_form, entries_form, value_items, values_form, true_form, schemas_form, array_word, put_fields, note_fields, object_fields, array_fields, one_of_fields, all_of_fields, reference_fields, form, part_form, schema_forms, property_forms}
+use Rattle.schema_core.specs.Form.{word_text, type_form, texts_form, required_form, entries_form, value_items, values_form, true_form, schemas_form, array_word, put_fields, annotation_fields, object_fields, array_fields, one_of_fields, all_of_fields, reference_fields, form, part_form, schema_forms, property_forms}
 use Rattle.schema_core.specs.Meaning.{word_accepts, enum_accepts, unique_accepts, max_items_accepts, min_items_accepts, minimum_accepts, bounds_accept, required_accepts, tree_accepts, where_given, each_in_order, all_accept, some_accepts, properties_accept, IsProper, IsPartProper, AreProper, ArePropertiesProper}
 use Rattle.std.proofs.lemmas.Slice.Eq.{bytes_eq-Decides}
-use Rattle.schema_core.proofs.Fields.{AreOthers, others-notes, given_at, names-put_all, field_holds, fields_hold, look-fields, map-of-fields, entries_accept, map-of-entries, AreNew, same_name}
+use Rattle.schema_core.proofs.Fields.{AreOthers, others-annotations, given_at, names-put_all, field_holds, fields_hold, look-fields, map-of-fields, entries_accept, map-of-entries, AreNew, same_name}
 
 always : (v : Json) → true ≡ on_map v (λ es. true)
 always null = refl
@@ -52,8 +52,8 @@ module _ (R : List ℕ → Json → Bool) (w : Members) where
   other-fields [] v h = refl
   other-fields (f ∷ fs) v h = λ i. other-field f.0 f.1 v h.0 i && other-fields fs v h.1 i
 
-  note-fields : (notes : Notes) (v : Json) → fields_hold R w (note_fields notes) v ≡ true
-  note-fields notes v = other-fields (note_fields notes) v (others-notes notes)
+  annotation-fields : (annotations : Annotations) (v : Json) → fields_hold R w (annotation_fields annotations) v ≡ true
+  annotation-fields annotations v = other-fields (annotation_fields annotations) v (others-annotations annotations)
 
   required-field : (ks : List (List ℕ)) (v : Json) → field_holds R w (codes "required", required_form ks) v ≡ required_accepts ks v
   required-field [] v = always v
@@ -142,7 +142,7 @@ module _ (R : List ℕ → Json → Bool) where
     form-accepts (leaf r) p v =
         let fs = reference_fields r in
         let w = put_fields fs no_members in
-        map-of-fields R w fs v (refl, (refl, (refl, (refl, (refl, (refl, (refl, (refl, (refl, (refl, (refl, tt))))))))))) ∙ (λ i. R r.name v && note-fields R w r.notes v i) ∙ and-true _
+        map-of-fields R w fs v (refl, (refl, (refl, (refl, (refl, (refl, (refl, (refl, (refl, (refl, (refl, tt))))))))))) ∙ (λ i. R r.name v && annotation-fields R w r.annotations v i) ∙ and-true _
     form-accepts (object facts ps additional others) p v =
         let fs = object_fields facts (property_forms ps) (part_form additional) (part_form others) in
         let w = put_fields fs no_members in
@@ -155,7 +155,7 @@ module _ (R : List ℕ → Json → Bool) where
         && (part-accepts additional p.1.1.0 (λ accepts. on_map v (others_pass (named w) accepts)) i
         && (part-accepts others p.1.1.1 (λ accepts. on_map v (names_pass accepts)) i
         && (required-field R w facts.required v i
-        && (minimum-field R w facts.bounds.minimum v i && note-fields R w facts.notes v i))))))))
+        && (minimum-field R w facts.bounds.minimum v i && annotation-fields R w facts.annotations v i))))))))
         ∙ (λ i. word_accepts facts.type_word v
         && (enum_accepts facts.enum_values v
         && (on_map v (properties_accept at_leaf ps)
@@ -176,7 +176,7 @@ module _ (R : List ℕ → Json → Bool) where
         && (max_items-field R w facts.max_items v i
         && (min_items-field R w facts.min_items v i
         && (front-field w front v (in-order-accepts front p.0) i
-        && (part-accepts rest p.1 (λ accepts. on_list v (λ xs. list_all accepts (drop (prefix_count w) xs))) i && note-fields R w facts.notes v i))))))
+        && (part-accepts rest p.1 (λ accepts. on_list v (λ xs. list_all accepts (drop (prefix_count w) xs))) i && annotation-fields R w facts.annotations v i))))))
         ∙ (λ i. word_accepts (array_word facts.nullable) v
         && (unique_accepts facts.unique v
         && (max_items_accepts facts.max_items v
@@ -185,14 +185,14 @@ module _ (R : List ℕ → Json → Bool) where
         && (where_given at_leaf rest (λ accepts. on_list v (λ xs. list_all accepts (drop (counted i) xs))) && true))))))
         ∙ last-of-six (word_accepts (array_word facts.nullable) v) (unique_accepts facts.unique v) (max_items_accepts facts.max_items v) (min_items_accepts facts.min_items v)
         (on_list v (each_in_order at_leaf front)) (where_given at_leaf rest (λ accepts. on_list v (λ xs. list_all accepts (drop (schema_count front) xs))))
-    form-accepts (one_of notes ss) p v =
-        let fs = one_of_fields notes (schema_forms ss) in
+    form-accepts (one_of annotations ss) p v =
+        let fs = one_of_fields annotations (schema_forms ss) in
         let w = put_fields fs no_members in
-        map-of-fields R w fs v (refl, (refl, (refl, (refl, (refl, (refl, (refl, (refl, (refl, (refl, (refl, tt))))))))))) ∙ (λ i. some-accepts ss p v i && note-fields R w notes v i) ∙ and-true _
-    form-accepts (all_of notes ss) p v =
-        let fs = all_of_fields notes (schema_forms ss) in
+        map-of-fields R w fs v (refl, (refl, (refl, (refl, (refl, (refl, (refl, (refl, (refl, (refl, (refl, tt))))))))))) ∙ (λ i. some-accepts ss p v i && annotation-fields R w annotations v i) ∙ and-true _
+    form-accepts (all_of annotations ss) p v =
+        let fs = all_of_fields annotations (schema_forms ss) in
         let w = put_fields fs no_members in
-        map-of-fields R w fs v (refl, (refl, (refl, (refl, (refl, (refl, (refl, (refl, (refl, (refl, (refl, tt))))))))))) ∙ (λ i. all-accept ss p v i && note-fields R w notes v i) ∙ and-true _
+        map-of-fields R w fs v (refl, (refl, (refl, (refl, (refl, (refl, (refl, (refl, (refl, (refl, (refl, tt))))))))))) ∙ (λ i. all-accept ss p v i && annotation-fields R w annotations v i) ∙ and-true _
 
     part-accepts : (t : PartOf RefLeaf) → IsPartProper t → (asked : (Json → Bool) → Bool) → if_there (part_form t) (λ x. asked (accepts_with R x)) ≡ where_given at_leaf t asked
     part-accepts no_part p asked = refl

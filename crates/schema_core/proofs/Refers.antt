@@ -5,13 +5,13 @@ use Rattle.std.specs.Ordering.{match_ordering}
 use Rattle.acceptance.specs.Json.{Json, Items, no_items, item, number, text, Members, no_members, member, put, put_given, put_all}
 use Rattle.acceptance.specs.Keyword.{Keyword, keyword_of, other}
 use Rattle.acceptance.specs.References.{EachReference, InMembers, InProperties, InSchemas, InItems, InEach, ReferenceHas, AtKeyword}
-use Rattle.schema_trees.specs.declared.notes.Annotations.{Annotations as Notes}
+use Rattle.schema_trees.specs.declared.annotations.AnnotationKeywords.{AnnotationKeywords as Annotations}
 use Rattle.schema_trees.specs.declared.tree.TypeWord.{TypeWord}
 use Rattle.schema_trees.specs.declared.tree.TypeWord.TheVariants.{Any, One, Nullable}
 use Rattle.schema_trees.specs.declared.tree.RefLeaf.{RefLeaf}
 use Rattle.schema_trees.specs.Schema.{SchemaOf, leaf, object, array, one_of, all_of, SchemasOf, no_schemas, schema, PropertiesOf, no_properties, property, PartOf, no_part, truth, part, EachLeaf, EachSchemaLeaf, EachPropertyLeaf, EachPartLeaf}
-use Rattle.schema_core.specs.Form.{type_form, required_form, entries_form, values_form, true_form, schemas_form, array_word, put_fields, note_fields, object_fields, array_fields, one_of_fields, all_of_fields, reference_fields, form, part_form, schema_forms, property_forms}
-use Rattle.schema_core.proofs.Fields.{equal_names, AreOthers, others-notes}
+use Rattle.schema_core.specs.Form.{type_form, required_form, entries_form, values_form, true_form, schemas_form, array_word, put_fields, annotation_fields, object_fields, array_fields, one_of_fields, all_of_fields, reference_fields, form, part_form, schema_forms, property_forms}
+use Rattle.schema_core.proofs.Fields.{equal_names, AreOthers, others-annotations}
 
 module _ (Q : List ℕ → Type 0) where
   -- what is asked of a member, and of a field that may be left out
@@ -76,8 +76,8 @@ module _ (Q : List ℕ → Type 0) where
   at-others [] h = tt
   at-others (f ∷ fs) h = (at-other f.0 f.1 h.0, at-others fs h.1)
 
-  at-notes : (notes : Notes) → AtFields (note_fields notes)
-  at-notes notes = at-others (note_fields notes) (others-notes notes)
+  at-annotations : (annotations : Annotations) → AtFields (annotation_fields annotations)
+  at-annotations annotations = at-others (annotation_fields annotations) (others-annotations annotations)
 
   at-required : (ks : List (List ℕ)) → AtField (codes "required") (required_form ks)
   at-required [] = tt
@@ -98,7 +98,7 @@ module _ (Q : List ℕ → Type 0) where
 
   mutual
     pub form-refers : (s : SchemaOf RefLeaf) → EachLeaf (λ r. Q r.name) s → EachReference Q (form s)
-    form-refers (leaf r) h = in-fields (reference_fields r) no_members (h, at-notes r.notes) tt
+    form-refers (leaf r) h = in-fields (reference_fields r) no_members (h, at-annotations r.annotations) tt
     form-refers (object facts ps additional names) h =
         in-fields (object_fields facts (property_forms ps) (part_form additional) (part_form names)) no_members (
           at-type facts.type_word,
@@ -112,7 +112,7 @@ module _ (Q : List ℕ → Type 0) where
                   part-refers additional h.1.0,
                   (
                     part-refers names h.1.1,
-                    (at-required facts.required, (at-plain (codes "minimum") (option_map number facts.bounds.minimum) (λ x. tt), at-notes facts.notes)),
+                    (at-required facts.required, (at-plain (codes "minimum") (option_map number facts.bounds.minimum) (λ x. tt), at-annotations facts.annotations)),
                   ),
                 ),
               ),
@@ -128,13 +128,13 @@ module _ (Q : List ℕ → Type 0) where
               at-plain (codes "maxItems") (option_map number facts.max_items) (λ x. tt),
               (
                 at-plain (codes "minItems") (option_map number facts.min_items) (λ x. tt),
-                (at-front (schema_forms front) (schemas-refer front h.0), (part-refers rest h.1, at-notes facts.notes)),
+                (at-front (schema_forms front) (schemas-refer front h.0), (part-refers rest h.1, at-annotations facts.annotations)),
               ),
             ),
           ),
         ) tt
-    form-refers (one_of notes ss) h = in-fields (one_of_fields notes (schema_forms ss)) no_members (schemas-refer ss h, at-notes notes) tt
-    form-refers (all_of notes ss) h = in-fields (all_of_fields notes (schema_forms ss)) no_members (schemas-refer ss h, at-notes notes) tt
+    form-refers (one_of annotations ss) h = in-fields (one_of_fields annotations (schema_forms ss)) no_members (schemas-refer ss h, at-annotations annotations) tt
+    form-refers (all_of annotations ss) h = in-fields (all_of_fields annotations (schema_forms ss)) no_members (schemas-refer ss h, at-annotations annotations) tt
 
     pub part-refers : (p : PartOf RefLeaf) → EachPartLeaf (λ r. Q r.name) p → AtField (codes "items") (part_form p)
     part-refers no_part h = tt

@@ -59,7 +59,7 @@ pub object_view-is : (o : Object RefLeaf) →
 object_view-is o = search (rules, the_lemmas)
 
 abbrev pub array_facts_of : Array RefLeaf → ArrayFacts
-array_facts_of a = record { nullable = a.nullable; unique = a.unique; max_items = a.max_items; min_items = a.min_items; notes = a.notes }
+array_facts_of a = record { nullable = a.nullable; unique = a.unique; max_items = a.max_items; min_items = a.min_items; annotations = a.annotations }
 
 pub array_view-is : (a : Array RefLeaf) → array_view (λ l. l) a ≡ array (array_facts_of a) (tree_views (λ l. l) a.prefix_items) (array_items_view (λ l. l) a.items)
 array_view-is a = search (rules, the_lemmas)
@@ -100,8 +100,8 @@ items-false = search (rules, the_lemmas)
 pub items-each : (s : Tree RefLeaf) → array_items_view (λ l. l) (Each s) ≡ part (schema_view s)
 items-each s = search (rules, the_lemmas)
 
-pub one_of_view-is : (o : OneOfSchema RefLeaf) → one_of_view (λ l. l) o ≡ one_of o.notes (tree_views (λ l. l) o.items)
+pub one_of_view-is : (o : OneOfSchema RefLeaf) → one_of_view (λ l. l) o ≡ one_of o.annotations (tree_views (λ l. l) o.items)
 one_of_view-is o = search (rules, the_lemmas)
 
-pub all_of_view-is : (a : AllOfSchema RefLeaf) → all_of_view (λ l. l) a ≡ all_of a.notes (tree_views (λ l. l) a.items)
+pub all_of_view-is : (a : AllOfSchema RefLeaf) → all_of_view (λ l. l) a ≡ all_of a.annotations (tree_views (λ l. l) a.items)
 all_of_view-is a = search (rules, the_lemmas)

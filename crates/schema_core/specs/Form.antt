@@ -2,7 +2,7 @@
 use Rattle.std.specs.Prelude.{ℕ, Bool, true, false, List, [], ◌∷◌, ◌++◌, Option, Some, None, option_map, codes}
 use Rattle.acceptance.specs.Json.{Json, boolean, number, text, list, map, Items, no_items, item, Members, no_members, put_given, map_of}
 use Rattle.schema_trees.specs.declared.bounds.Bounds.{Bounds}
-use Rattle.schema_trees.specs.declared.notes.Annotations.{Annotations as Notes}
+use Rattle.schema_trees.specs.declared.annotations.AnnotationKeywords.{AnnotationKeywords as Annotations}
 use Rattle.schema_trees.specs.declared.tree.SchemaTypeInner.{SchemaTypeInner}
 use Rattle.schema_trees.specs.declared.tree.SchemaTypeInner.TheVariants as word
 use Rattle.schema_trees.specs.declared.tree.TypeWord.{TypeWord}
@@ -71,12 +71,12 @@ put_fields (f ∷ fs) ms = put_fields fs (put_given f.0 f.1 ms)
 abbrev pub fields_form : List (List ℕ × Option Json) → Json
 fields_form fs = map (put_fields fs no_members)
 
-abbrev pub note_fields : Notes → List (List ℕ × Option Json)
-note_fields notes =
-    (codes "title", option_map text notes.title) ∷ (codes "description", option_map text notes.description)
-    ∷ (codes "default", notes.default) ∷ (codes "example", notes.example) ∷ (codes "examples", values_form notes.examples)
-    ∷ (codes "deprecated", option_map boolean notes.deprecated) ∷ (codes "readOnly", option_map boolean notes.read_only) ∷ (codes "writeOnly", option_map boolean notes.write_only)
-    ∷ (codes "contentEncoding", option_map text notes.content_encoding) ∷ (codes "contentMediaType", option_map text notes.content_media_type) ∷ []
+abbrev pub annotation_fields : Annotations → List (List ℕ × Option Json)
+annotation_fields annotations =
+    (codes "title", option_map text annotations.title) ∷ (codes "description", option_map text annotations.description)
+    ∷ (codes "default", annotations.default) ∷ (codes "example", annotations.example) ∷ (codes "examples", values_form annotations.examples)
+    ∷ (codes "deprecated", option_map boolean annotations.deprecated) ∷ (codes "readOnly", option_map boolean annotations.read_only) ∷ (codes "writeOnly", option_map boolean annotations.write_only)
+    ∷ (codes "contentEncoding", option_map text annotations.content_encoding) ∷ (codes "contentMediaType", option_map text annotations.content_media_type) ∷ []
 
 abbrev pub bound_fields : Bounds → List (List ℕ × Option Json)
 bound_fields bounds = (codes "minimum", option_map number bounds.minimum) ∷ []
@@ -85,25 +85,25 @@ abbrev pub object_fields : Facts → List (List ℕ × Json) → (additional nam
 object_fields facts properties additional names =
     (codes "type", type_form facts.type_word) ∷ (codes "format", option_map text facts.format) ∷ (codes "enum", values_form facts.enum_values)
     ∷ (codes "properties", entries_form properties) ∷ (codes "additionalProperties", additional) ∷ (codes "propertyNames", names)
-    ∷ (codes "required", required_form facts.required) ∷ (bound_fields facts.bounds ++ note_fields facts.notes)
+    ∷ (codes "required", required_form facts.required) ∷ (bound_fields facts.bounds ++ annotation_fields facts.annotations)
 
 abbrev pub array_fields : ArrayFacts → Items → Option Json → List (List ℕ × Option Json)
 array_fields facts front rest =
     (codes "type", type_form (array_word facts.nullable)) ∷ (codes "uniqueItems", true_form facts.unique)
     ∷ (codes "maxItems", option_map number facts.max_items) ∷ (codes "minItems", option_map number facts.min_items)
-    ∷ (codes "prefixItems", schemas_form front) ∷ (codes "items", rest) ∷ note_fields facts.notes
+    ∷ (codes "prefixItems", schemas_form front) ∷ (codes "items", rest) ∷ annotation_fields facts.annotations
 
-abbrev pub one_of_fields : Notes → Items → List (List ℕ × Option Json)
-one_of_fields notes schemas = (codes "oneOf", Some (list schemas)) ∷ note_fields notes
+abbrev pub one_of_fields : Annotations → Items → List (List ℕ × Option Json)
+one_of_fields annotations schemas = (codes "oneOf", Some (list schemas)) ∷ annotation_fields annotations
 
-abbrev pub all_of_fields : Notes → Items → List (List ℕ × Option Json)
-all_of_fields notes schemas = (codes "allOf", Some (list schemas)) ∷ note_fields notes
+abbrev pub all_of_fields : Annotations → Items → List (List ℕ × Option Json)
+all_of_fields annotations schemas = (codes "allOf", Some (list schemas)) ∷ annotation_fields annotations
 
 abbrev pub reference_text : List ℕ → List ℕ
 reference_text name = codes "#/components/schemas/" ++ name
 
 abbrev pub reference_fields : RefLeaf → List (List ℕ × Option Json)
-reference_fields r = (codes "$ref", Some (text (reference_text r.name))) ∷ note_fields r.notes
+reference_fields r = (codes "$ref", Some (text (reference_text r.name))) ∷ annotation_fields r.annotations
 
 -- The JSON of a schema: the members that are given, in byte order of their names.
 abbrev mutual
@@ -111,8 +111,8 @@ abbrev mutual
   form (leaf r) = fields_form (reference_fields r)
   form (object facts ps additional names) = fields_form (object_fields facts (property_forms ps) (part_form additional) (part_form names))
   form (array facts front rest) = fields_form (array_fields facts (schema_forms front) (part_form rest))
-  form (one_of notes ss) = fields_form (one_of_fields notes (schema_forms ss))
-  form (all_of notes ss) = fields_form (all_of_fields notes (schema_forms ss))
+  form (one_of annotations ss) = fields_form (one_of_fields annotations (schema_forms ss))
+  form (all_of annotations ss) = fields_form (all_of_fields annotations (schema_forms ss))
 
   pub part_form : PartOf RefLeaf → Option Json
   part_form no_part = None

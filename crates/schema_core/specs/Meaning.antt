@@ -64,8 +64,8 @@ abbrev mutual
   tree_accepts leaf_accepts (array facts front rest) v =
       word_accepts (array_word facts.nullable) v && (unique_accepts facts.unique v && (max_items_accepts facts.max_items v && (min_items_accepts facts.min_items v
       && (on_list v (each_in_order leaf_accepts front) && where_given leaf_accepts rest (λ accepts. on_list v (λ xs. list_all accepts (drop (schema_count front) xs)))))))
-  tree_accepts leaf_accepts (one_of notes ss) v = some_accepts leaf_accepts ss v
-  tree_accepts leaf_accepts (all_of notes ss) v = all_accept leaf_accepts ss v
+  tree_accepts leaf_accepts (one_of annotations ss) v = some_accepts leaf_accepts ss v
+  tree_accepts leaf_accepts (all_of annotations ss) v = all_accept leaf_accepts ss v
 
   -- what is asked of the values that a part accepts, where it is given
   pub where_given : {X : Type 0} → (X → Json → Bool) → PartOf X → ((Json → Bool) → Bool) → Bool
@@ -100,8 +100,8 @@ abbrev mutual
   IsProper (leaf x) = Unit {0}
   IsProper (object facts ps additional names) = IsDistinct (property_names ps) × (ArePropertiesProper ps × (IsPartProper additional × IsPartProper names))
   IsProper (array facts front rest) = AreProper front × IsPartProper rest
-  IsProper (one_of notes ss) = AreProper ss
-  IsProper (all_of notes ss) = AreProper ss
+  IsProper (one_of annotations ss) = AreProper ss
+  IsProper (all_of annotations ss) = AreProper ss
 
   pub IsPartProper : {X : Type 0} → PartOf X → Type 0
   IsPartProper no_part = Unit {0}

@@ -7,7 +7,7 @@ use Rattle.json.specs.Print.{quoted}
 use Rattle.serde_json.specs.Written.{compact_text, comma_if}
 use Rattle.acceptance.specs.Json.{Json, boolean, text}
 use Rattle.acceptance.specs.Data.{data_of}
-use Rattle.schema_trees.specs.declared.notes.Annotations.{Annotations as Notes}
+use Rattle.schema_trees.specs.declared.annotations.AnnotationKeywords.{AnnotationKeywords as Annotations}
 use Rattle.schema_core.specs.Form.{values_form}
 
 -- the byte stands in a JSON string as it is: it is no quote, no backslash and no control character
@@ -45,14 +45,14 @@ pub record Writes (fs : List (List ℕ × Option Json)) (later : Bool) (old : Li
 abbrev pub WritesAt : List ℕ → Option Json → Bool → List ℕ → Bool → List ℕ → Type 0
 WritesAt key given later old went new = (k : List ℕ) → key ≡ key_text k → Writes ((k, given) ∷ []) later old went new
 
--- notes whose keys stand together in byte order
-abbrev pub first_notes : Notes → List (List ℕ × Option Json)
-first_notes notes =
-    (codes "contentEncoding", option_map text notes.content_encoding) ∷ (codes "contentMediaType", option_map text notes.content_media_type) ∷ (codes "default", notes.default)
-    ∷ (codes "deprecated", option_map boolean notes.deprecated) ∷ (codes "description", option_map text notes.description) ∷ []
+-- annotations whose keys stand together in byte order
+abbrev pub first_annotations : Annotations → List (List ℕ × Option Json)
+first_annotations annotations =
+    (codes "contentEncoding", option_map text annotations.content_encoding) ∷ (codes "contentMediaType", option_map text annotations.content_media_type) ∷ (codes "default", annotations.default)
+    ∷ (codes "deprecated", option_map boolean annotations.deprecated) ∷ (codes "description", option_map text annotations.description) ∷ []
 
-abbrev pub example_notes : Notes → List (List ℕ × Option Json)
-example_notes notes = (codes "example", notes.example) ∷ (codes "examples", values_form notes.examples) ∷ []
+abbrev pub example_annotations : Annotations → List (List ℕ × Option Json)
+example_annotations annotations = (codes "example", annotations.example) ∷ (codes "examples", values_form annotations.examples) ∷ []
 
 -- the names with their places, counted from i, are put among others in byte order; of equal names the last place counts
 abbrev pub places_from : ℕ → List (List ℕ) → List (List ℕ × ℕ) → List (List ℕ × ℕ)

@@ -6,15 +6,15 @@ ghost use Rattle.serde_json.specs.Data.{put as put_data};
 ghost use Rattle.acceptance.specs.Json.{Json, text as json_text, number, list as json_list, put_given, put_all, no_members, map_of};
 ghost use Rattle.acceptance.specs.Data.{data_of, members_data, items_data};
 ghost use Rattle.schema_trees.specs.Schema.{leaf, schema_view, object_view, array_view, one_of_view, all_of_view, additional_view, array_items_view, optional_view, tree_views, named_views};
-ghost use Rattle.schema_core.specs.Form.{form, note_fields, bound_fields, schema_forms, part_form, value_items, values_form, schemas_form, property_forms, word_text, type_form, texts_form, required_form, entries_form, reference_text, array_word};
+ghost use Rattle.schema_core.specs.Form.{form, annotation_fields, bound_fields, schema_forms, part_form, value_items, values_form, schemas_form, property_forms, word_text, type_form, texts_form, required_form, entries_form, reference_text, array_word};
 ghost use Rattle.schema_core.specs.Members.{Puts};
 
 use crate::members::{
     put, put_bound, put_given, put_json, put_text, put_true, put_truth, text_value,
 };
 use schema_trees::{
-    Additional, AllOfSchema, Annotations, Array, ArrayItems, Bounds, Json, Notes, Object,
-    OneOfSchema, RefLeaf, Schema, SchemaTypeInner, Tree, TypeWord,
+    Additional, AllOfSchema, AnnotationKeywords, Annotations, Array, ArrayItems, Bounds, Json,
+    Object, OneOfSchema, RefLeaf, Schema, SchemaTypeInner, Tree, TypeWord,
 };
 use serde_json::{Map, Value};
 use std::alloc::{AllocError, Global};
@@ -106,47 +106,52 @@ pub(crate) fn array_word(nullable: bool) -> TypeWord
     }
 }
 
-/// Puts each annotation that is given at its name.
-fn put_annotations(
+/// Puts each keyword that is given at its name.
+fn put_keywords(
     alloc: Global,
     members: &mut Map<String, Value>,
-    notes: &Annotations,
+    keywords: &AnnotationKeywords,
 ) -> Result<(), AllocError>
     ensures { OnOk result
-        (Puts (note_fields notes.now) (members_view members.old.entries)
+        (Puts (annotation_fields keywords.now) (members_view members.old.entries)
         (members_view members.new.entries)) }
 {
-    put_text(alloc, members, "title", &notes.title)?;
-    put_text(alloc, members, "description", &notes.description)?;
-    put_json(alloc, members, "default", &notes.default)?;
-    put_json(alloc, members, "example", &notes.example)?;
-    let examples = jsons_value(alloc, &notes.examples)?;
+    put_text(alloc, members, "title", &keywords.title)?;
+    put_text(alloc, members, "description", &keywords.description)?;
+    put_json(alloc, members, "default", &keywords.default)?;
+    put_json(alloc, members, "example", &keywords.example)?;
+    let examples = jsons_value(alloc, &keywords.examples)?;
     put_given(alloc, members, "examples", examples)?;
-    put_truth(alloc, members, "deprecated", notes.deprecated)?;
-    put_truth(alloc, members, "readOnly", notes.read_only)?;
-    put_truth(alloc, members, "writeOnly", notes.write_only)?;
-    put_text(alloc, members, "contentEncoding", &notes.content_encoding)?;
+    put_truth(alloc, members, "deprecated", keywords.deprecated)?;
+    put_truth(alloc, members, "readOnly", keywords.read_only)?;
+    put_truth(alloc, members, "writeOnly", keywords.write_only)?;
+    put_text(
+        alloc,
+        members,
+        "contentEncoding",
+        &keywords.content_encoding,
+    )?;
     put_text(
         alloc,
         members,
         "contentMediaType",
-        &notes.content_media_type,
+        &keywords.content_media_type,
     )?;
     Ok(())
 }
 
-/// Puts each note that is given at its name.
-fn put_notes(
+/// Puts each annotation that is given at its name.
+fn put_annotations(
     alloc: Global,
     members: &mut Map<String, Value>,
-    notes: &Notes,
+    annotations: &Annotations,
 ) -> Result<(), AllocError>
     ensures { OnOk result
-        (Puts (note_fields notes.now) (members_view members.old.entries)
+        (Puts (annotation_fields annotations.now) (members_view members.old.entries)
         (members_view members.new.entries)) }
 {
-    match notes.said() {
-        Some(said) => put_annotations(alloc, members, said),
+    match annotations.said() {
+        Some(said) => put_keywords(alloc, members, said),
         None => Ok(()),
     }
 }
@@ -172,7 +177,7 @@ fn reference_value(alloc: Global, reference: &RefLeaf) -> Result<Value, AllocErr
     target.push_str(reference.name.as_str())?;
     let mut members = Map::new(alloc);
     put(alloc, &mut members, "$ref", Value::String(target))?;
-    put_notes(alloc, &mut members, &reference.notes)?;
+    put_annotations(alloc, &mut members, &reference.annotations)?;
     Ok(Value::Object(members))
 }
 
@@ -208,7 +213,7 @@ fn object_value(alloc: Global, object: &Object<RefLeaf>) -> Result<Value, AllocE
     let required = required_value(alloc, object.required.as_slice())?;
     put_given(alloc, &mut members, "required", required)?;
     put_bounds(alloc, &mut members, &object.bounds)?;
-    put_notes(alloc, &mut members, &object.notes)?;
+    put_annotations(alloc, &mut members, &object.annotations)?;
     Ok(Value::Object(members))
 }
 
@@ -317,7 +322,7 @@ fn array_value(alloc: Global, array: &Array<RefLeaf>) -> Result<Value, AllocErro
     put_given(alloc, &mut members, "prefixItems", front)?;
     let rest = items_value(alloc, &array.items)?;
     put_given(alloc, &mut members, "items", Some(rest))?;
-    put_notes(alloc, &mut members, &array.notes)?;
+    put_annotations(alloc, &mut members, &array.annotations)?;
     Ok(Value::Object(members))
 }
 
@@ -328,7 +333,7 @@ fn one_of_value(alloc: Global, one_of: &OneOfSchema<RefLeaf>) -> Result<Value, A
     let mut members = Map::new(alloc);
     let items = schema_values(alloc, one_of.items.as_slice())?;
     put(alloc, &mut members, "oneOf", Value::Array(items))?;
-    put_notes(alloc, &mut members, &one_of.notes)?;
+    put_annotations(alloc, &mut members, &one_of.annotations)?;
     Ok(Value::Object(members))
 }
 
@@ -339,7 +344,7 @@ fn all_of_value(alloc: Global, all_of: &AllOfSchema<RefLeaf>) -> Result<Value, A
     let mut members = Map::new(alloc);
     let items = schema_values(alloc, all_of.items.as_slice())?;
     put(alloc, &mut members, "allOf", Value::Array(items))?;
-    put_notes(alloc, &mut members, &all_of.notes)?;
+    put_annotations(alloc, &mut members, &all_of.annotations)?;
     Ok(Value::Object(members))
 }
 

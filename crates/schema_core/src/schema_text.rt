@@ -8,10 +8,10 @@ ghost use Rattle.schema_core.specs.Form.{entries_form, form, part_form, property
 ghost use Rattle.schema_trees.specs.Schema.{leaf, schema_view, object_view, array_view, one_of_view, all_of_view, additional_view, array_items_view, optional_view, tree_views, named_views};
 ghost use Rattle.schema_core.specs.Writes.{Writes, places_from};
 
-use crate::form::{array_word, word_of};
-use crate::note_text::{
-    push_examples, push_first_notes, push_read_only, push_title, push_write_only,
+use crate::annotation_text::{
+    push_examples, push_first_annotations, push_read_only, push_title, push_write_only,
 };
+use crate::form::{array_word, word_of};
 use crate::pushes::{
     push_bound, push_comma, push_jsons, push_key, push_text, push_texts, push_true, push_truth,
     push_words,
@@ -91,11 +91,11 @@ fn push_reference(alloc: Global, text: &mut String, reference: &RefLeaf) -> Resu
     target.push_str(reference.name.as_str())?;
     text.push_str("{\"$ref\":")?;
     push_words(alloc, text, target.as_str())?;
-    let later = push_first_notes(alloc, text, true, &reference.notes)?;
-    let later = push_examples(alloc, text, later, &reference.notes)?;
-    let later = push_read_only(text, later, &reference.notes)?;
-    let later = push_title(alloc, text, later, &reference.notes)?;
-    push_write_only(text, later, &reference.notes)?;
+    let later = push_first_annotations(alloc, text, true, &reference.annotations)?;
+    let later = push_examples(alloc, text, later, &reference.annotations)?;
+    let later = push_read_only(text, later, &reference.annotations)?;
+    let later = push_title(alloc, text, later, &reference.annotations)?;
+    push_write_only(text, later, &reference.annotations)?;
     text.push_str("}")?;
     Ok(())
 }
@@ -127,21 +127,21 @@ fn push_object(alloc: Global, text: &mut String, object: &Object<RefLeaf>) -> Re
         ≡ string_bytes text.old
         ++ compact_text (data_of (form (object_view (λ l. l) object.now)))) }
 {
-    let notes = &object.notes;
+    let annotations = &object.annotations;
     text.push_str("{")?;
     let later = push_additional(alloc, text, &object.additional)?;
-    let later = push_first_notes(alloc, text, later, notes)?;
+    let later = push_first_annotations(alloc, text, later, annotations)?;
     let later = push_jsons(alloc, text, later, "\"enum\":", &object.enum_values)?;
-    let later = push_examples(alloc, text, later, notes)?;
+    let later = push_examples(alloc, text, later, annotations)?;
     let later = push_text(alloc, text, later, "\"format\":", &object.format)?;
     let later = push_bound(alloc, text, later, "\"minimum\":", &object.bounds.minimum)?;
     let later = push_properties(alloc, text, later, object.properties.as_slice())?;
     let later = push_names(alloc, text, later, &object.property_names)?;
-    let later = push_read_only(text, later, notes)?;
+    let later = push_read_only(text, later, annotations)?;
     let later = push_required(alloc, text, later, object.required.as_slice())?;
-    let later = push_title(alloc, text, later, notes)?;
+    let later = push_title(alloc, text, later, annotations)?;
     let later = push_type(text, later, object.ty)?;
-    push_write_only(text, later, notes)?;
+    push_write_only(text, later, annotations)?;
     text.push_str("}")?;
     Ok(())
 }
@@ -286,19 +286,19 @@ fn push_array(alloc: Global, text: &mut String, array: &Array<RefLeaf>) -> Resul
         ≡ string_bytes text.old
         ++ compact_text (data_of (form (array_view (λ l. l) array.now)))) }
 {
-    let notes = &array.notes;
+    let annotations = &array.annotations;
     text.push_str("{")?;
-    let later = push_first_notes(alloc, text, false, notes)?;
-    let later = push_examples(alloc, text, later, notes)?;
+    let later = push_first_annotations(alloc, text, false, annotations)?;
+    let later = push_examples(alloc, text, later, annotations)?;
     push_items(alloc, text, later, &array.items)?;
     let later = push_bound(alloc, text, true, "\"maxItems\":", &array.max_items)?;
     let later = push_bound(alloc, text, later, "\"minItems\":", &array.min_items)?;
     let later = push_front(alloc, text, later, array.prefix_items.as_slice())?;
-    let later = push_read_only(text, later, notes)?;
-    let later = push_title(alloc, text, later, notes)?;
+    let later = push_read_only(text, later, annotations)?;
+    let later = push_title(alloc, text, later, annotations)?;
     let later = push_type(text, later, array_word(array.nullable))?;
     let later = push_true(text, later, "\"uniqueItems\":", array.unique)?;
-    push_write_only(text, later, notes)?;
+    push_write_only(text, later, annotations)?;
     text.push_str("}")?;
     Ok(())
 }
@@ -314,16 +314,16 @@ fn push_one_of(
         ≡ string_bytes text.old
         ++ compact_text (data_of (form (one_of_view (λ l. l) one_of.now)))) }
 {
-    let notes = &one_of.notes;
+    let annotations = &one_of.annotations;
     text.push_str("{")?;
-    let later = push_first_notes(alloc, text, false, notes)?;
-    let later = push_examples(alloc, text, later, notes)?;
+    let later = push_first_annotations(alloc, text, false, annotations)?;
+    let later = push_examples(alloc, text, later, annotations)?;
     push_key(text, later, "\"oneOf\":[")?;
     push_schemas(alloc, text, one_of.items.as_slice())?;
     text.push_str("]")?;
-    let later = push_read_only(text, true, notes)?;
-    let later = push_title(alloc, text, later, notes)?;
-    push_write_only(text, later, notes)?;
+    let later = push_read_only(text, true, annotations)?;
+    let later = push_title(alloc, text, later, annotations)?;
+    push_write_only(text, later, annotations)?;
     text.push_str("}")?;
     Ok(())
 }
@@ -339,15 +339,15 @@ fn push_all_of(
         ≡ string_bytes text.old
         ++ compact_text (data_of (form (all_of_view (λ l. l) all_of.now)))) }
 {
-    let notes = &all_of.notes;
+    let annotations = &all_of.annotations;
     text.push_str("{\"allOf\":[")?;
     push_schemas(alloc, text, all_of.items.as_slice())?;
     text.push_str("]")?;
-    let later = push_first_notes(alloc, text, true, notes)?;
-    let later = push_examples(alloc, text, later, notes)?;
-    let later = push_read_only(text, later, notes)?;
-    let later = push_title(alloc, text, later, notes)?;
-    push_write_only(text, later, notes)?;
+    let later = push_first_annotations(alloc, text, true, annotations)?;
+    let later = push_examples(alloc, text, later, annotations)?;
+    let later = push_read_only(text, later, annotations)?;
+    let later = push_title(alloc, text, later, annotations)?;
+    push_write_only(text, later, annotations)?;
     text.push_str("}")?;
     Ok(())
 }

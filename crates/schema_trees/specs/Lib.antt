@@ -1,6 +1,6 @@
+pub mod Annotations
 pub mod Bound
 pub mod Bounds
-pub mod Notes
 pub mod Objects
 pub mod Schema
 pub mod Whole

@@ -2,7 +2,7 @@
 use Rattle.std.specs.Prelude.{ℕ, zero, suc, ℤ, Bool, false, List, [], ◌∷◌, map, Option, Some, None, option_map}
 use Rattle.acceptance.specs.Json.{Json}
 use Rattle.schema_trees.specs.declared.bounds.Bounds.{Bounds}
-use Rattle.schema_trees.specs.declared.notes.Annotations.{Annotations as Notes}
+use Rattle.schema_trees.specs.declared.annotations.AnnotationKeywords.{AnnotationKeywords as Annotations}
 use Rattle.schema_trees.specs.declared.tree.TypeWord.{TypeWord}
 use Rattle.schema_trees.specs.declared.tree.RefLeaf.{RefLeaf}
 use Rattle.schema_trees.specs.declared.tree.Tree.{Tree, fold-Tree}
@@ -21,7 +21,7 @@ pub record Facts : Type 0 where
   pub enum_values : Option (List Json)
   pub required : List (List ℕ)
   pub bounds : Bounds
-  pub notes : Notes
+  pub annotations : Annotations
 
 -- what an array says without a schema
 pub record ArrayFacts : Type 0 where
@@ -29,15 +29,15 @@ pub record ArrayFacts : Type 0 where
   pub unique : Bool
   pub max_items : Option ℤ
   pub min_items : Option ℤ
-  pub notes : Notes
+  pub annotations : Annotations
 
 mutual
   pub data SchemaOf (X : Type 0) : Type 0 where
     leaf : X → SchemaOf X
     object : Facts → PropertiesOf X → (additional names : PartOf X) → SchemaOf X
     array : ArrayFacts → (front : SchemasOf X) → (rest : PartOf X) → SchemaOf X
-    one_of : Notes → SchemasOf X → SchemaOf X
-    all_of : Notes → SchemasOf X → SchemaOf X
+    one_of : Annotations → SchemasOf X → SchemaOf X
+    all_of : Annotations → SchemasOf X → SchemaOf X
 
   pub data SchemasOf (X : Type 0) : Type 0 where
     no_schemas : SchemasOf X
@@ -67,8 +67,8 @@ abbrev mutual
   bind f (leaf x) = f x
   bind f (object facts ps additional names) = object facts (bind_properties f ps) (bind_part f additional) (bind_part f names)
   bind f (array facts front rest) = array facts (bind_schemas f front) (bind_part f rest)
-  bind f (one_of notes ss) = one_of notes (bind_schemas f ss)
-  bind f (all_of notes ss) = all_of notes (bind_schemas f ss)
+  bind f (one_of annotations ss) = one_of annotations (bind_schemas f ss)
+  bind f (all_of annotations ss) = all_of annotations (bind_schemas f ss)
 
   pub bind_schemas : {X Y : Type 0} → (X → SchemaOf Y) → SchemasOf X → SchemasOf Y
   bind_schemas f no_schemas = no_schemas
@@ -89,8 +89,8 @@ abbrev mutual
   EachLeaf Q (leaf x) = Q x
   EachLeaf Q (object facts ps additional names) = EachPropertyLeaf Q ps × (EachPartLeaf Q additional × EachPartLeaf Q names)
   EachLeaf Q (array facts front rest) = EachSchemaLeaf Q front × EachPartLeaf Q rest
-  EachLeaf Q (one_of notes ss) = EachSchemaLeaf Q ss
-  EachLeaf Q (all_of notes ss) = EachSchemaLeaf Q ss
+  EachLeaf Q (one_of annotations ss) = EachSchemaLeaf Q ss
+  EachLeaf Q (all_of annotations ss) = EachSchemaLeaf Q ss
 
   pub EachSchemaLeaf : {X : Type 0} → (X → Type 0) → SchemasOf X → Type 0
   EachSchemaLeaf Q no_schemas = Unit {0}
@@ -115,7 +115,7 @@ object_facts o = record {
   enum_values = o.enum_values;
   required = o.required;
   bounds = o.bounds;
-  notes = o.notes;
+  annotations = o.annotations;
 }
 
 module _ {X : Type 0} where
@@ -149,19 +149,19 @@ module _ {L X : Type 0} (leaf_view : L → X) where
   tree_step (Tree-F.Leaf l) = leaf (leaf_view l)
 
   abbrev all_of_step : AllOfSchema-F L (PartOf X) (PartOf X) (SchemaOf X) (SchemaOf X) (SchemaOf X) (SchemaOf X) (SchemaOf X) → SchemaOf X
-  all_of_step a = all_of a.notes (schemas_of a.items)
+  all_of_step a = all_of a.annotations (schemas_of a.items)
 
   abbrev array_step : Array-F L (PartOf X) (PartOf X) (SchemaOf X) (SchemaOf X) (SchemaOf X) (SchemaOf X) (SchemaOf X) → SchemaOf X
   array_step a =
-      array (record { nullable = a.nullable; unique = a.unique; max_items = a.max_items; min_items = a.min_items; notes = a.notes }) (schemas_of a.prefix_items) a.items
+      array (record { nullable = a.nullable; unique = a.unique; max_items = a.max_items; min_items = a.min_items; annotations = a.annotations }) (schemas_of a.prefix_items) a.items
 
   abbrev object_step : Object-F L (PartOf X) (PartOf X) (SchemaOf X) (SchemaOf X) (SchemaOf X) (SchemaOf X) (SchemaOf X) → SchemaOf X
   object_step o =
-      object (record { type_word = o.ty; format = o.format; enum_values = o.enum_values; required = o.required; bounds = o.bounds; notes = o.notes })
+      object (record { type_word = o.ty; format = o.format; enum_values = o.enum_values; required = o.required; bounds = o.bounds; annotations = o.annotations })
       (properties_of o.properties) o.additional (part_of o.property_names)
 
   abbrev one_of_step : OneOfSchema-F L (PartOf X) (PartOf X) (SchemaOf X) (SchemaOf X) (SchemaOf X) (SchemaOf X) (SchemaOf X) → SchemaOf X
-  one_of_step o = one_of o.notes (schemas_of o.items)
+  one_of_step o = one_of o.annotations (schemas_of o.items)
 
   abbrev pub tree_view : Tree L → SchemaOf X
   tree_view = fold-Tree L (PartOf X) (PartOf X) (SchemaOf X) (SchemaOf X) (SchemaOf X) (SchemaOf X) (SchemaOf X) additional_step items_step tree_step all_of_step array_step object_step one_of_step

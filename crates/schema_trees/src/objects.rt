@@ -5,17 +5,17 @@ ghost use Rattle.schema_trees.specs.Schema.{object_facts};
 ghost use Rattle.schema_trees.specs.Objects.{word_facts};
 ghost use Rattle.schema_trees.specs.declared.tree.Additional.TheVariants.{Absent};
 
+use crate::annotations::Annotations;
 use crate::bounds::Bounds;
 use crate::copies::{copy_jsons, copy_text, copy_texts};
-use crate::notes::Notes;
 use crate::tree::{Additional, Object, TypeWord};
 use std::alloc::{AllocError, Global};
 use texts::List;
 
 impl<L> Object<L> {
-    /// A word of `type`, and notes. It takes no memory.
-    pub fn new(alloc: Global, ty: TypeWord, notes: Notes) -> Object<L>
-        ensures facts { object_facts result ≡ word_facts ty notes }
+    /// A word of `type`, and annotations. It takes no memory.
+    pub fn new(alloc: Global, ty: TypeWord, annotations: Annotations) -> Object<L>
+        ensures facts { object_facts result ≡ word_facts ty annotations }
         ensures properties { result.properties ≡ [] }
         ensures additional { result.additional ≡ Absent }
         ensures property_names { result.property_names ≡ None }
@@ -29,7 +29,7 @@ impl<L> Object<L> {
             additional: Additional::Absent,
             property_names: None,
             bounds: Bounds::none(),
-            notes,
+            annotations,
         }
     }
 
@@ -43,13 +43,13 @@ impl<L> Object<L> {
         let format = copy_text(alloc, &self.format)?;
         let enum_values = copy_jsons(alloc, &self.enum_values)?;
         let required = copy_texts(alloc, &self.required)?;
-        let notes = self.notes.copy(alloc)?;
+        let annotations = self.annotations.copy(alloc)?;
         Ok(Object {
             format,
             enum_values,
             required,
             bounds: self.bounds,
-            ..Object::new(alloc, self.ty, notes)
+            ..Object::new(alloc, self.ty, annotations)
         })
     }
 }

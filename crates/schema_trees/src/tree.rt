@@ -1,7 +1,7 @@
+use crate::annotations::Annotations;
 use crate::bound::Bound;
 use crate::bounds::Bounds;
 use crate::json_value::Json;
-use crate::notes::Notes;
 use texts::{List, Text};
 
 /// A word of `type` (JSON Schema 2020-12, Validation, 6.1.1).
@@ -66,7 +66,7 @@ pub struct Object<L> {
     /// What the names of the members are, as texts.
     pub property_names: Option<Tree<L>>,
     pub bounds: Bounds,
-    pub notes: Notes,
+    pub annotations: Annotations,
 }
 
 /// What `additionalProperties` says: nothing, a truth value, or a schema.
@@ -99,7 +99,7 @@ pub struct Array<L> {
     pub unique: bool,
     pub max_items: Option<Bound>,
     pub min_items: Option<Bound>,
-    pub notes: Notes,
+    pub annotations: Annotations,
 }
 
 /// What at least one of the schemas accepts.
@@ -107,7 +107,7 @@ pub struct Array<L> {
 #[derive(Drop)]
 pub struct OneOfSchema<L> {
     pub items: List<Tree<L>>,
-    pub notes: Notes,
+    pub annotations: Annotations,
 }
 
 /// What each of the schemas accepts.
@@ -115,14 +115,14 @@ pub struct OneOfSchema<L> {
 #[derive(Drop)]
 pub struct AllOfSchema<L> {
     pub items: List<Tree<L>>,
-    pub notes: Notes,
+    pub annotations: Annotations,
 }
 
 /// A reference to the component of the name.
 #[derive(Debug, Drop)]
 pub struct RefLeaf {
     pub name: Text,
-    pub notes: Notes,
+    pub annotations: Annotations,
 }
 
 /// A schema of a document: its leaves are references.

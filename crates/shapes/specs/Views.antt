@@ -11,7 +11,7 @@ use Rattle.shapes.specs.declared.declaration.Body.TheVariants as bodies
 use Rattle.shapes.specs.declared.declaration.Declaration.{Declaration}
 
 abbrev pub member_view : Member → MemberOf
-member_view m = record { name = m.name; required = m.required; remarks = m.remarks; of = open_view m.ty }
+member_view m = record { name = m.name; required = m.required; annotations = m.annotations; of = open_view m.ty }
 
 abbrev pub form_view : Form → FormOf
 form_view (forms.Named denies ms) = named_fields denies (map member_view ms)
@@ -19,7 +19,7 @@ form_view (forms.Unnamed ts) = unnamed_fields (map open_view ts)
 form_view forms.Unit = no_fields
 
 abbrev pub variant_view : Variant → VariantOf
-variant_view x = record { name = x.name; remarks = x.remarks; form = form_view x.form }
+variant_view x = record { name = x.name; annotations = x.annotations; form = form_view x.form }
 
 abbrev pub body_view : Body → BodyOf
 body_view (bodies.Fields form) = fields (form_view form)
@@ -27,4 +27,4 @@ body_view (bodies.Units tagging names) = units tagging names
 body_view (bodies.Variants tagging xs) = variants tagging (map variant_view xs)
 
 abbrev pub declaration_view : Declaration → DeclarationOf
-declaration_view d = record { name = d.name; parameters = d.parameters; remarks = d.remarks; body = body_view d.body }
+declaration_view d = record { name = d.name; parameters = d.parameters; annotations = d.annotations; body = body_view d.body }

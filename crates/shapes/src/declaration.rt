@@ -5,7 +5,7 @@ ghost use Rattle.open_types.specs.Open.{open_view};
 ghost use Rattle.shapes.specs.Declarations.{member_types, form_types, variant_types, body_types};
 ghost use Rattle.shapes.specs.Views.{member_view, form_view, variant_view, body_view, declaration_view};
 
-use crate::remarks::Remarks;
+use crate::annotations::Annotations;
 use crate::tagging::Tagging;
 use open_types::OpenType;
 use std::alloc::{AllocError, Global};
@@ -18,7 +18,7 @@ pub struct Member {
     pub name: Text,
     /// Whether its member must be there.
     pub required: bool,
-    pub remarks: Remarks,
+    pub annotations: Annotations,
     pub ty: OpenType,
 }
 
@@ -41,7 +41,7 @@ pub enum Form {
 pub struct Variant {
     /// Its name in JSON.
     pub name: Text,
-    pub remarks: Remarks,
+    pub annotations: Annotations,
     pub form: Form,
 }
 
@@ -68,7 +68,7 @@ pub struct Declaration {
     pub name: Text,
     /// How many type parameters it has.
     pub parameters: usize,
-    pub remarks: Remarks,
+    pub annotations: Annotations,
     pub body: Body,
 }
 

@@ -7,8 +7,8 @@ use Rattle.acceptance.specs.Json.{Json, Members, null, boolean, number, text, li
 use Rattle.texts.specs.Names.{is_in}
 use Rattle.schema_trees.specs.declared.tree.SchemaTypeInner.TheVariants as word
 use Rattle.schema_trees.specs.declared.tree.TypeWord.TheVariants.{Any, One}
-use Rattle.schema_trees.specs.declared.notes.Annotations.{Annotations as Notes}
-use Rattle.schema_trees.specs.Notes.{no_notes, noted, described}
+use Rattle.schema_trees.specs.declared.annotations.AnnotationKeywords.{AnnotationKeywords}
+use Rattle.schema_trees.specs.Annotations.{no_annotations, annotated, described}
 use Rattle.schema_trees.specs.Schema.{SchemaOf, schema_count, property_names}
 use Rattle.schema_trees.specs.Schema as tree
 use Rattle.schema_core.specs.Form.{array_word}
@@ -23,12 +23,12 @@ use Rattle.component.specs.Leaves.{LeafOf}
 use Rattle.component.specs.Leaves as named_leaf
 use Rattle.schema_trees.specs.Objects.{only_word}
 use Rattle.component.specs.Places.{word_of, minimum_of, type_word, one_of_null, or_null, beside, in_place, declared, argument, place, inline_places}
-use Rattle.shapes.specs.declared.remarks.Remarks.{Remarks}
+use Rattle.shapes.specs.declared.annotations.Annotations.{Annotations}
 use Rattle.shapes.specs.Declarations.{MemberOf, FormOf, named_fields, unnamed_fields, no_fields, DeclarationOf, member_types, member_names}
 use Rattle.shapes.specs.Instances.{member_over, form_over}
 use Rattle.shapes.specs.Shape.{is_null, is_text, is_boolean, is_number, is_list, is_map, reads, type_shape, items_fit, member_fits, no_others, elements_fit, unnamed_shape, form_shape}
 use Rattle.shapes.specs.Plain.{IsPlainType, ArePlainTypes, AreAllPlain, IsPlainForm}
-use Rattle.terms.specs.Terms.{properties_of, required_names, object_of, are_all, alike_term, field_terms, mixed_term, unnamed_term, form_term, remarked}
+use Rattle.terms.specs.Terms.{properties_of, required_names, object_of, are_all, alike_term, field_terms, mixed_term, unnamed_term, form_term, keywords_of}
 use Rattle.terms.specs.Meaning.{leaf_shape}
 
 -- ---- conditions
@@ -139,21 +139,21 @@ object-accepts _ _ = refl
 
 -- ---- null and descriptions
 module _ {X : Type 0} (says : X → Json → Bool) where
-  any-accepts : (notes : Notes) (v : Json) → tree_accepts says (only_word Any notes) v ≡ true
-  any-accepts notes null = refl
-  any-accepts notes _ = refl
+  any-accepts : (keywords : AnnotationKeywords) (v : Json) → tree_accepts says (only_word Any keywords) v ≡ true
+  any-accepts keywords null = refl
+  any-accepts keywords _ = refl
 
-  pub null-accepts : (notes : Notes) (v : Json) → tree_accepts says (only_word (One word.Null) notes) v ≡ is_null v
-  null-accepts notes null = refl
-  null-accepts notes _ = refl
+  pub null-accepts : (keywords : AnnotationKeywords) (v : Json) → tree_accepts says (only_word (One word.Null) keywords) v ≡ is_null v
+  null-accepts keywords null = refl
+  null-accepts keywords _ = refl
 
-  or-null-accepts : (notes : Notes) (s : SchemaOf X) (v : Json) → tree_accepts says (one_of_null notes s) v ≡ (is_null v || tree_accepts says s v)
-  or-null-accepts notes s v = (λ i. tree_accepts says s v || (null-accepts no_notes v i || false)) ∙ or-swap (tree_accepts says s v) (is_null v)
+  or-null-accepts : (keywords : AnnotationKeywords) (s : SchemaOf X) (v : Json) → tree_accepts says (one_of_null keywords s) v ≡ (is_null v || tree_accepts says s v)
+  or-null-accepts keywords s v = (λ i. tree_accepts says s v || (null-accepts no_annotations v i || false)) ∙ or-swap (tree_accepts says s v) (is_null v)
 
   -- where null may be
   nullable-accepts : (n : Bool) (s : SchemaOf X) (v : Json) → tree_accepts says (or_null n s) v ≡ ((n && is_null v) || tree_accepts says s v)
   nullable-accepts false s v = refl
-  nullable-accepts true s v = or-null-accepts no_notes s v
+  nullable-accepts true s v = or-null-accepts no_annotations s v
 
   -- a description says nothing
   beside-accepts : (description : Option (List ℕ)) (s : SchemaOf X) (v : Json) → tree_accepts says (beside description s) v ≡ tree_accepts says s v
@@ -244,7 +244,7 @@ member-accepts false a p is k ks = not_needed a p (list_all is ks)
 
 -- Leaves that accept what has the shape of their types, with arguments in the places of the parameters.
 module _ (ss : List DeclarationOf) (instance : Open → Json → Bool) (args : Opens) (says : LeafOf → Json → Bool)
-    (at_named : (d : ℕ) (ts : Opens) (inline : Bool) (notes : Notes) (v : Json) → says (named_leaf.named (named d ts) inline notes) v ≡ type_shape instance (substituted args (named d ts)) v)
+    (at_named : (d : ℕ) (ts : Opens) (inline : Bool) (keywords : AnnotationKeywords) (v : Json) → says (named_leaf.named (named d ts) inline keywords) v ≡ type_shape instance (substituted args (named d ts)) v)
     (at_param : (i : ℕ) → IsPlainType ss (argument_at args i) → (v : Json) → says (named_leaf.param i) v ≡ type_shape instance (argument_at args i) v) where
   abbrev has : Open → Json → Bool
   has t = type_shape instance (substituted args t)
@@ -257,7 +257,7 @@ module _ (ss : List DeclarationOf) (instance : Open → Json → Bool) (args : O
 
   declared-accepts : (n inline : Bool) (description : Option (List ℕ)) (d : ℕ) (ts : Opens) (v : Json) → tree_accepts says (declared n inline description (named d ts)) v ≡ ((n && is_null v) || has (named d ts) v)
   declared-accepts n false description d ts v = nullable-accepts says n (tree.leaf (named_leaf.named (named d ts) false (described description))) v ∙ either n v _ _ (at_named d ts false (described description) v)
-  declared-accepts n true description d ts v = in_place-accepts says n description (tree.leaf (named_leaf.named (named d ts) true no_notes)) v ∙ either n v _ _ (at_named d ts true no_notes v)
+  declared-accepts n true description d ts v = in_place-accepts says n description (tree.leaf (named_leaf.named (named d ts) true no_annotations)) v ∙ either n v _ _ (at_named d ts true no_annotations v)
 
   argument-accepts : (n inline : Bool) (description : Option (List ℕ)) (j : ℕ) → IsPlainType ss (argument_at args j) → (v : Json) →
       tree_accepts says (argument n inline description j) v ≡ ((n && is_null v) || type_shape instance (argument_at args j) v)
@@ -269,7 +269,7 @@ module _ (ss : List DeclarationOf) (instance : Open → Json → Bool) (args : O
     pub place-accepts : (n inline deprecated : Bool) (description : Option (List ℕ)) (t : Open) → IsPlainType ss (substituted args t) → (v : Json) →
         tree_accepts says (place n inline deprecated description t) v ≡ ((n && is_null v) || has t v)
     place-accepts n inline deprecated description (leaf x) h v = kind-accepts n (kind_of x) v h
-    place-accepts n inline deprecated description any_value h v = any-accepts says (noted deprecated description) v ∙ or-true n (is_null v)
+    place-accepts n inline deprecated description any_value h v = any-accepts says (annotated deprecated description) v ∙ or-true n (is_null v)
     place-accepts n inline deprecated description free_object h v = object-accepts n v
     place-accepts n inline deprecated description unit h v = absurd h
     place-accepts n inline deprecated description (tuple ts) h v =
@@ -311,17 +311,17 @@ module _ (ss : List DeclarationOf) (instance : Open → Json → Bool) (args : O
       (properties_accept says (properties_of ms) es && (list_all (λ k. is_in k (names es)) (required_names ms) && true)) ≡ list_all (member_fits instance es) (members_over ms)
   members-accept [] h es = refl
   members-accept (m ∷ ms) h es =
-      (λ i. (if_there (look m.name es) (λ v. place-accepts false false m.remarks.deprecated m.remarks.description m.of h.0 v i) && properties_accept says (properties_of ms) es)
+      (λ i. (if_there (look m.name es) (λ v. place-accepts false false m.annotations.deprecated m.annotations.description m.of h.0 v i) && properties_accept says (properties_of ms) es)
       && (list_all (λ k. is_in k (names es)) (required_names (m ∷ ms)) && true))
       ∙ member-accepts m.required (if_there (look m.name es) (has m.of)) (properties_accept says (properties_of ms) es) (λ k. is_in k (names es)) m.name (required_names ms)
       ∙ ap (λ b. member_fits instance es (member_over args m) && b) (members-accept ms h.1 es)
 
   -- what members ask of entries, and where others are denied that there are none
-  fields-accept : (denies : Bool) (notes : Notes) (ms : List MemberOf) → AreAllPlain ss (member_types (members_over ms)) → (es : Members) →
-      tree_accepts says (object_of notes denies (required_names ms) (properties_of ms)) (map es)
+  fields-accept : (denies : Bool) (keywords : AnnotationKeywords) (ms : List MemberOf) → AreAllPlain ss (member_types (members_over ms)) → (es : Members) →
+      tree_accepts says (object_of keywords denies (required_names ms) (properties_of ms)) (map es)
       ≡ (list_all (member_fits instance (entries es)) (members_over ms) && (not denies || no_others (members_over ms) (entries es)))
-  fields-accept false notes ms h es = members-accept ms h (entries es) ∙ sym (and-true (list_all (member_fits instance (entries es)) (members_over ms)))
-  fields-accept true notes ms h es =
+  fields-accept false keywords ms h es = members-accept ms h (entries es) ∙ sym (and-true (list_all (member_fits instance (entries es)) (members_over ms)))
+  fields-accept true keywords ms h es =
       and-last (properties_accept says (properties_of ms) (entries es)) (others_pass (property_names (properties_of ms)) (λ w. false) (entries es))
       (list_all (λ k. is_in k (names (entries es))) (required_names ms) && true)
       ∙ (λ i. members-accept ms h (entries es) i && others-denied (property_names-are args ms i) (entries es) i)
@@ -357,7 +357,7 @@ module _ (ss : List DeclarationOf) (instance : Open → Json → Bool) (args : O
       ∙ and-third more fewer (has t v) (front && rest)
       ∙ (λ i. has t v && in_order-accept ts h.1 vs i)
 
-  alike-accepts : SameIsEqual → (r : Remarks) (t : Open) (ts : List Open) → IsPlainType ss (substituted args t) → IsTrue (are_all t ts) → (v : Json) →
+  alike-accepts : SameIsEqual → (r : Annotations) (t : Open) (ts : List Open) → IsPlainType ss (substituted args t) → IsTrue (are_all t ts) → (v : Json) →
       tree_accepts says (alike_term r (length ts) t) v ≡ is_list v (elements_fit instance (over ts))
   alike-accepts same r t ts h alike v =
       (λ i. word_accepts (array_word false) v && (on_list v (λ vs. int_le (pos (length vs)) (pos (length ts))) && (on_list v (λ vs. int_le (pos (length ts)) (pos (length vs)))
@@ -365,14 +365,14 @@ module _ (ss : List DeclarationOf) (instance : Open → Json → Bool) (args : O
       ∙ exactly-accept v (λ vs. int_le (pos (length vs)) (pos (length ts))) (λ vs. int_le (pos (length ts)) (pos (length vs))) (λ vs. true) (list_all (has t))
       ∙ (λ i. is_list v (λ vs. elements-accept same t ts alike vs i))
 
-  mixed-accepts : (r : Remarks) (ts : List Open) → AreAllPlain ss (over ts) → (v : Json) → tree_accepts says (mixed_term r ts) v ≡ is_list v (elements_fit instance (over ts))
+  mixed-accepts : (r : Annotations) (ts : List Open) → AreAllPlain ss (over ts) → (v : Json) → tree_accepts says (mixed_term r ts) v ≡ is_list v (elements_fit instance (over ts))
   mixed-accepts r ts h v =
       exactly-accept v (λ vs. int_le (pos (length vs)) (pos (length ts))) (λ vs. int_le (pos (length ts)) (pos (length vs)))
       (each_in_order says (field_terms ts)) (λ vs. list_all (λ w. false) (drop (schema_count (field_terms ts)) vs))
       ∙ (λ i. is_list v (λ vs. in_order-accept ts h vs i))
 
   -- one place is the schema itself, several are a list; which list is told over the parameters
-  pub unnamed-accepts : SameIsEqual → (r : Remarks) (ts : List Open) → AreAllPlain ss (over ts) → (v : Json) → tree_accepts says (unnamed_term r ts) v ≡ unnamed_shape instance (over ts) v
+  pub unnamed-accepts : SameIsEqual → (r : Annotations) (ts : List Open) → AreAllPlain ss (over ts) → (v : Json) → tree_accepts says (unnamed_term r ts) v ≡ unnamed_shape instance (over ts) v
   unnamed-accepts same r [] h v = mixed-accepts r [] h v
   unnamed-accepts same r (t ∷ []) h v = place-accepts false false r.deprecated r.description t h.0 v
   unnamed-accepts same r (t ∷ u ∷ us) h v = by (are_all t (u ∷ us)) refl
@@ -384,9 +384,9 @@ module _ (ss : List DeclarationOf) (instance : Open → Json → Bool) (args : O
 
   -- ---- forms
 
-  pub form-accepts : SameIsEqual → (r : Remarks) (form : FormOf) → IsPlainForm ss (form_over args form) → (v : Json) →
+  pub form-accepts : SameIsEqual → (r : Annotations) (form : FormOf) → IsPlainForm ss (form_over args form) → (v : Json) →
       tree_accepts says (form_term r form) v ≡ form_shape instance (form_over args form) v
-  form-accepts same r (named_fields denies ms) h (map es) = fields-accept denies (remarked r) ms h es
+  form-accepts same r (named_fields denies ms) h (map es) = fields-accept denies (keywords_of r) ms h es
   form-accepts same r (named_fields denies ms) h null = refl
   form-accepts same r (named_fields denies ms) h (boolean b) = refl
   form-accepts same r (named_fields denies ms) h (number m) = refl
@@ -402,6 +402,6 @@ module _ (none : SubstitutedNone) (ss : List DeclarationOf) (instance : Open →
   pub closed-accepts : (n inline deprecated : Bool) (description : Option (List ℕ)) (t : Open) → IsPlainType ss t → (v : Json) →
       tree_accepts (leaf_shape instance) (place n inline deprecated description t) v ≡ ((n && is_null v) || type_shape instance t v)
   closed-accepts n inline deprecated description t h v =
-      place-accepts ss instance no_types (leaf_shape instance) (λ d ts inline notes w. ap (λ x. type_shape instance x w) (sym (none (named d ts)))) (λ i p w. absurd p) n inline deprecated description t
+      place-accepts ss instance no_types (leaf_shape instance) (λ d ts inline keywords w. ap (λ x. type_shape instance x w) (sym (none (named d ts)))) (λ i p w. absurd p) n inline deprecated description t
       (subst (IsPlainType ss) (sym (none t)) h) v
       ∙ ap (λ x. (n && is_null v) || type_shape instance x v) (none t)

@@ -4,8 +4,8 @@ use Rattle.std.specs.List.{list_all, list_any}
 use Rattle.acceptance.specs.Acceptance.{others_pass}
 use Rattle.acceptance.specs.Json.{Json, Members, null, boolean, number, text, list, map, entries, names, look, same, there, if_there}
 use Rattle.texts.specs.Names.{is_in}
-use Rattle.schema_trees.specs.declared.notes.Annotations.{Annotations as Notes}
-use Rattle.schema_trees.specs.Notes.{notes_of, no_notes, where_true}
+use Rattle.schema_trees.specs.declared.annotations.AnnotationKeywords.{AnnotationKeywords}
+use Rattle.schema_trees.specs.Annotations.{annotations_of, no_annotations, where_true}
 use Rattle.schema_trees.specs.Schema.{SchemaOf, schemas_of, PropertiesOf, property_names}
 use Rattle.schema_trees.specs.Schema as tree
 use Rattle.schema_core.specs.proved.Bound.{bind-accepts}
@@ -16,7 +16,7 @@ use Rattle.component.specs.Leaves as leaves
 use Rattle.component.specs.Places.{place}
 use Rattle.open_types.specs.Open.{Open, Opens, no_types, argument_at, substituted}
 use Rattle.open_types.specs.Open as types
-use Rattle.shapes.specs.declared.remarks.Remarks.{Remarks}
+use Rattle.shapes.specs.declared.annotations.Annotations.{Annotations}
 use Rattle.shapes.specs.declared.tagging.Tagging.{Tagging}
 use Rattle.shapes.specs.declared.tagging.Tagging.TheVariants.{External, Internal, Adjacent, Untagged}
 use Rattle.shapes.specs.Declarations.{MemberOf, FormOf, named_fields, unnamed_fields, no_fields, VariantOf, BodyOf, fields, units, variants, DeclarationOf, member_types, member_names}
@@ -24,7 +24,7 @@ use Rattle.shapes.specs.Instances.{member_over, form_over, variant_over, body_ov
 use Rattle.terms.specs.InstanceTerms.{with_arguments}
 use Rattle.shapes.specs.Shape.{is_null, is_map, only_named, is_the, has_member, type_shape, member_fits, form_shape, unit_shape, internal_shape, told_shape, fields_shape, variant_shape, body_shape}
 use Rattle.shapes.specs.Plain.{IsPlainType, AreAllPlain, IsContent, IsPlainForm, CanBeTagged, IsPlainVariant, ArePlainVariants, KeepsVariant, IsPlainBody}
-use Rattle.terms.specs.Terms.{remarked, field_term, properties_of, required_names, object_of, unnamed_term, form_term, texts_schema, requiring, tag_schema, tag_alone, null_term, units_term, unit_term, with_property, beside_tag, tagged_content, internal_term, adjacent_term, told_term, variant_form, variant_term, body_term, term}
+use Rattle.terms.specs.Terms.{keywords_of, field_term, properties_of, required_names, object_of, unnamed_term, form_term, texts_schema, requiring, tag_schema, tag_alone, null_term, units_term, unit_term, with_property, beside_tag, tagged_content, internal_term, adjacent_term, told_term, variant_form, variant_term, body_term, term}
 use Rattle.terms.specs.Meaning.{leaf_shape, TermsAccept, InstanceTermsAccept, PlacesAccept}
 use Rattle.terms.proofs.Accepted.{and-true, and-assoc, and-last, or-false, others-denied, property_names-are, null-accepts, place-accepts, members-accept, form-accepts, closed-accepts}
 
@@ -76,34 +76,34 @@ there-is k p (e ∷ es) = by (bytes_eq k e.0) (there-is k p es)
     by false h = h
 
 module _ {X : Type 0} (says : X → Json → Bool) where
-  texts-accept : (notes : Notes) (ns : List (List ℕ)) (v : Json) → tree_accepts says (texts_schema notes ns) v ≡ list_any (λ name. is_the name v) ns
-  texts-accept notes ns (text s) = and-true (list_any (same (text s)) (map_over text ns)) ∙ same-texts s ns
-  texts-accept notes ns null = sym (no-one ns)
-  texts-accept notes ns (boolean b) = sym (no-one ns)
-  texts-accept notes ns (number n) = sym (no-one ns)
-  texts-accept notes ns (list xs) = sym (no-one ns)
-  texts-accept notes ns (map ms) = sym (no-one ns)
+  texts-accept : (keywords : AnnotationKeywords) (ns : List (List ℕ)) (v : Json) → tree_accepts says (texts_schema keywords ns) v ≡ list_any (λ name. is_the name v) ns
+  texts-accept keywords ns (text s) = and-true (list_any (same (text s)) (map_over text ns)) ∙ same-texts s ns
+  texts-accept keywords ns null = sym (no-one ns)
+  texts-accept keywords ns (boolean b) = sym (no-one ns)
+  texts-accept keywords ns (number n) = sym (no-one ns)
+  texts-accept keywords ns (list xs) = sym (no-one ns)
+  texts-accept keywords ns (map ms) = sym (no-one ns)
 
   name-accepts : (name : List ℕ) (v : Json) → tree_accepts says (tag_schema name) v ≡ is_the name v
-  name-accepts name v = texts-accept no_notes (name ∷ []) v ∙ or-false (is_the name v)
+  name-accepts name v = texts-accept no_annotations (name ∷ []) v ∙ or-false (is_the name v)
 
-  requiring-accepts : (notes : Notes) (k : List ℕ) (s : SchemaOf X) (v : Json) → tree_accepts says (requiring notes k s) v ≡ has_member k (tree_accepts says s) v
-  requiring-accepts notes k s (map ms) =
+  requiring-accepts : (keywords : AnnotationKeywords) (k : List ℕ) (s : SchemaOf X) (v : Json) → tree_accepts says (requiring keywords k s) v ≡ has_member k (tree_accepts says s) v
+  requiring-accepts keywords k s (map ms) =
       let at : Bool = if_there (look k (entries ms)) (tree_accepts says s) in
       let is : Bool = is_in k (names (entries ms)) in
       (λ i. and-true at i && (and-true (is && true) ∙ and-true is) i) ∙ there-is k (tree_accepts says s) (entries ms)
-  requiring-accepts notes k s null = refl
-  requiring-accepts notes k s (boolean b) = refl
-  requiring-accepts notes k s (number n) = refl
-  requiring-accepts notes k s (text t) = refl
-  requiring-accepts notes k s (list xs) = refl
+  requiring-accepts keywords k s null = refl
+  requiring-accepts keywords k s (boolean b) = refl
+  requiring-accepts keywords k s (number n) = refl
+  requiring-accepts keywords k s (text t) = refl
+  requiring-accepts keywords k s (list xs) = refl
 
-  tag-accepts : (notes : Notes) (tag name : List ℕ) (v : Json) → tree_accepts says (tag_alone notes tag name) v ≡ has_member tag (is_the name) v
-  tag-accepts notes tag name v = requiring-accepts notes tag (tag_schema name) v ∙ (λ i. has_member tag (λ w. name-accepts name w i) v)
+  tag-accepts : (keywords : AnnotationKeywords) (tag name : List ℕ) (v : Json) → tree_accepts says (tag_alone keywords tag name) v ≡ has_member tag (is_the name) v
+  tag-accepts keywords tag name v = requiring-accepts keywords tag (tag_schema name) v ∙ (λ i. has_member tag (λ w. name-accepts name w i) v)
 
-  tags-accept : (tag : List ℕ) (ns : List (List ℕ)) (v : Json) → some_accepts says (schemas_of (map_over (tag_alone no_notes tag) ns)) v ≡ list_any (λ name. has_member tag (is_the name) v) ns
+  tags-accept : (tag : List ℕ) (ns : List (List ℕ)) (v : Json) → some_accepts says (schemas_of (map_over (tag_alone no_annotations tag) ns)) v ≡ list_any (λ name. has_member tag (is_the name) v) ns
   tags-accept tag [] v = refl
-  tags-accept tag (name ∷ ns) v = λ i. tag-accepts no_notes tag name v i || tags-accept tag ns v i
+  tags-accept tag (name ∷ ns) v = λ i. tag-accepts no_annotations tag name v i || tags-accept tag ns v i
 
   -- ---- a property behind others
 
@@ -115,29 +115,29 @@ module _ {X : Type 0} (says : X → Json → Bool) where
       ∙ sym (and-assoc (if_there (look j es) (tree_accepts says t)) (properties_accept says ps es) (if_there (look k es) (tree_accepts says s)))
 
   -- a content and a tag
-  adjacent-accepts : (notes : Notes) (tag content name : List ℕ) (s : SchemaOf X) (v : Json) →
-      tree_accepts says (adjacent_term notes tag content name s) v ≡ is_map v (λ es. there (look tag es) (is_the name) && there (look content es) (tree_accepts says s))
-  adjacent-accepts notes tag content name s (map ms) =
+  adjacent-accepts : (keywords : AnnotationKeywords) (tag content name : List ℕ) (s : SchemaOf X) (v : Json) →
+      tree_accepts says (adjacent_term keywords tag content name s) v ≡ is_map v (λ es. there (look tag es) (is_the name) && there (look content es) (tree_accepts says s))
+  adjacent-accepts keywords tag content name s (map ms) =
       let es = entries ms in
       both-there (if_there (look content es) (tree_accepts says s)) (if_there (look tag es) (tree_accepts says (tag_schema name))) (is_in content (names es)) (is_in tag (names es))
       ∙ (λ i. there-is tag (tree_accepts says (tag_schema name)) es i && there-is content (tree_accepts says s) es i)
       ∙ (λ i. there (look tag es) (λ w. name-accepts name w i) && there (look content es) (tree_accepts says s))
-  adjacent-accepts notes tag content name s null = refl
-  adjacent-accepts notes tag content name s (boolean b) = refl
-  adjacent-accepts notes tag content name s (number n) = refl
-  adjacent-accepts notes tag content name s (text t) = refl
-  adjacent-accepts notes tag content name s (list xs) = refl
+  adjacent-accepts keywords tag content name s null = refl
+  adjacent-accepts keywords tag content name s (boolean b) = refl
+  adjacent-accepts keywords tag content name s (number n) = refl
+  adjacent-accepts keywords tag content name s (text t) = refl
+  adjacent-accepts keywords tag content name s (list xs) = refl
 
   -- a schema beside an object that has the tag
-  beside-accepts : (notes : Notes) (tag name : List ℕ) (s : SchemaOf X) (v : Json) (b : Bool) → tree_accepts says s v ≡ b → tree_accepts says (beside_tag notes tag name s) v ≡ (b && has_member tag (is_the name) v)
-  beside-accepts notes tag name s v b e = λ i. e i && (and-true (tree_accepts says (tag_alone no_notes tag name) v) ∙ tag-accepts no_notes tag name v) i
+  beside-accepts : (keywords : AnnotationKeywords) (tag name : List ℕ) (s : SchemaOf X) (v : Json) (b : Bool) → tree_accepts says s v ≡ b → tree_accepts says (beside_tag keywords tag name s) v ≡ (b && has_member tag (is_the name) v)
+  beside-accepts keywords tag name s v b e = λ i. e i && (and-true (tree_accepts says (tag_alone no_annotations tag name) v) ∙ tag-accepts no_annotations tag name v) i
 
 last-name : {X : Type 0} (ps : PropertiesOf X) (k : List ℕ) (s : SchemaOf X) → property_names (with_property ps k s) ≡ property_names ps ++ k ∷ []
 last-name tree.no_properties k s = refl
 last-name (tree.property j t ps) k s = ap (λ ns. j ∷ ns) (last-name ps k s)
 
 module _ (equal : SameIsEqual) (ss : List DeclarationOf) (instance : Open → Json → Bool) (args : Opens) (says : LeafOf → Json → Bool)
-    (at_named : (d : ℕ) (ts : Opens) (inline : Bool) (notes : Notes) (v : Json) → says (leaves.named (types.named d ts) inline notes) v ≡ type_shape instance (substituted args (types.named d ts)) v)
+    (at_named : (d : ℕ) (ts : Opens) (inline : Bool) (keywords : AnnotationKeywords) (v : Json) → says (leaves.named (types.named d ts) inline keywords) v ≡ type_shape instance (substituted args (types.named d ts)) v)
     (at_param : (i : ℕ) → IsPlainType ss (argument_at args i) → (v : Json) → says (leaves.param i) v ≡ type_shape instance (argument_at args i) v) where
   abbrev members_over : List MemberOf → List MemberOf
   members_over ms = map_over (member_over args) ms
@@ -146,27 +146,27 @@ module _ (equal : SameIsEqual) (ss : List DeclarationOf) (instance : Open → Js
       tree_accepts says (place n inline deprecated description t) v ≡ ((n && is_null v) || type_shape instance (substituted args t) v)
   at-place = place-accepts ss instance args says at_named at_param
 
-  at-form : (r : Remarks) (form : FormOf) → IsPlainForm ss (form_over args form) → (v : Json) → tree_accepts says (form_term r form) v ≡ form_shape instance (form_over args form) v
+  at-form : (r : Annotations) (form : FormOf) → IsPlainForm ss (form_over args form) → (v : Json) → tree_accepts says (form_term r form) v ≡ form_shape instance (form_over args form) v
   at-form = form-accepts ss instance args says at_named at_param equal
 
   -- ---- variants without fields
 
-  units-accept : (r : Remarks) (tagging : Tagging) (ns : List (List ℕ)) → KeepsVariant tagging ns → (v : Json) →
+  units-accept : (r : Annotations) (tagging : Tagging) (ns : List (List ℕ)) → KeepsVariant tagging ns → (v : Json) →
       tree_accepts says (units_term r tagging ns) v ≡ list_any (λ name. unit_shape tagging name v) ns
-  units-accept r External ns h v = texts-accept says (remarked r) ns v
+  units-accept r External ns h v = texts-accept says (keywords_of r) ns v
   units-accept r (Internal tag) ns h v = tags-accept says tag ns v
   units-accept r (Adjacent tag content) ns h v = tags-accept says tag ns v
   units-accept r Untagged [] h v = absurd h
   units-accept r Untagged (name ∷ ns) h v = nothing-accepts r v ∙ every-one (is_null v) name ns
     where
-      nothing-accepts : (r : Remarks) (v : Json) → tree_accepts says (null_term r) v ≡ is_null v
-      nothing-accepts r v = null-accepts says (notes_of r.description (Some null) (where_true r.deprecated)) v
+      nothing-accepts : (r : Annotations) (v : Json) → tree_accepts says (null_term r) v ≡ is_null v
+      nothing-accepts r v = null-accepts says (annotations_of r.description (Some null) (where_true r.deprecated)) v
 
-  unit-accepts : (r : Remarks) (tagging : Tagging) (name : List ℕ) (v : Json) → tree_accepts says (unit_term r tagging name) v ≡ unit_shape tagging name v
-  unit-accepts r External name v = texts-accept says (remarked r) (name ∷ []) v ∙ or-false (is_the name v)
-  unit-accepts r (Internal tag) name v = tag-accepts says (remarked r) tag name v
-  unit-accepts r (Adjacent tag content) name v = tag-accepts says (remarked r) tag name v
-  unit-accepts r Untagged name v = null-accepts says (notes_of r.description (Some null) (where_true r.deprecated)) v
+  unit-accepts : (r : Annotations) (tagging : Tagging) (name : List ℕ) (v : Json) → tree_accepts says (unit_term r tagging name) v ≡ unit_shape tagging name v
+  unit-accepts r External name v = texts-accept says (keywords_of r) (name ∷ []) v ∙ or-false (is_the name v)
+  unit-accepts r (Internal tag) name v = tag-accepts says (keywords_of r) tag name v
+  unit-accepts r (Adjacent tag content) name v = tag-accepts says (keywords_of r) tag name v
+  unit-accepts r Untagged name v = null-accepts says (annotations_of r.description (Some null) (where_true r.deprecated)) v
 
   -- ---- a tag among the members
 
@@ -178,11 +178,11 @@ module _ (equal : SameIsEqual) (ss : List DeclarationOf) (instance : Open → Js
       ∙ tagged-pairs (properties_accept says (properties_of ms) es) (if_there (look tag es) (tree_accepts says (tag_schema name))) (list_all (λ k. is_in k (names es)) (required_names ms)) (is_in tag (names es))
       ∙ (λ i. members-accept ss instance args says at_named at_param ms h es i && there-is tag (λ w. name-accepts says name w i) es i)
 
-  internal-fields : (denies : Bool) (notes : Notes) (tag name : List ℕ) (ms : List MemberOf) → AreAllPlain ss (member_types (members_over ms)) → (es : Members) →
-      tree_accepts says (object_of notes denies (required_names ms ++ tag ∷ []) (with_property (properties_of ms) tag (tag_schema name))) (map es)
+  internal-fields : (denies : Bool) (keywords : AnnotationKeywords) (tag name : List ℕ) (ms : List MemberOf) → AreAllPlain ss (member_types (members_over ms)) → (es : Members) →
+      tree_accepts says (object_of keywords denies (required_names ms ++ tag ∷ []) (with_property (properties_of ms) tag (tag_schema name))) (map es)
       ≡ ((list_all (member_fits instance (entries es)) (members_over ms) && there (look tag (entries es)) (is_the name)) && (not denies || only_named (member_names (members_over ms) ++ tag ∷ []) (entries es)))
-  internal-fields false notes tag name ms h es = tagged-members tag name ms h (entries es) ∙ sym (and-true (list_all (member_fits instance (entries es)) (members_over ms) && there (look tag (entries es)) (is_the name)))
-  internal-fields true notes tag name ms h es =
+  internal-fields false keywords tag name ms h es = tagged-members tag name ms h (entries es) ∙ sym (and-true (list_all (member_fits instance (entries es)) (members_over ms) && there (look tag (entries es)) (is_the name)))
+  internal-fields true keywords tag name ms h es =
       and-last (properties_accept says (with_property (properties_of ms) tag (tag_schema name)) (entries es))
       (others_pass (property_names (with_property (properties_of ms) tag (tag_schema name))) (λ w. false) (entries es))
       (list_all (λ k. is_in k (names (entries es))) (required_names ms ++ tag ∷ []) && true)
@@ -190,11 +190,11 @@ module _ (equal : SameIsEqual) (ss : List DeclarationOf) (instance : Open → Js
       && others-denied ((last-name (properties_of ms) tag (tag_schema name) ∙ ap (λ ns. ns ++ tag ∷ []) (property_names-are args ms)) i) (entries es) i)
 
   -- Whether a content is a leaf or any value is told over the parameters. Where the content is a map that lets a tag stand among its members, it is neither.
-  content-accepts : (r : Remarks) (tag name : List ℕ) (t : Open) → IsContent ss (substituted args t) → AreAllPlain ss (substituted args t ∷ []) → (v : Json) →
-      tree_accepts says (tagged_content (remarked r) tag name t (unnamed_term r (t ∷ []))) v ≡ (type_shape instance (substituted args t) v && has_member tag (is_the name) v)
-  content-accepts r tag name (types.named d ts) c h v = beside-accepts says (remarked r) tag name (field_term r (types.named d ts)) v _ (at-place false false r.deprecated r.description (types.named d ts) h.0 v)
-  content-accepts r tag name (types.through k t) c h v = beside-accepts says (remarked r) tag name (field_term r (types.through k t)) v _ (at-place false false r.deprecated r.description (types.through k t) h.0 v)
-  content-accepts r tag name (types.param i) c h v = beside-accepts says (remarked r) tag name (field_term r (types.param i)) v _ (at-place false false r.deprecated r.description (types.param i) h.0 v)
+  content-accepts : (r : Annotations) (tag name : List ℕ) (t : Open) → IsContent ss (substituted args t) → AreAllPlain ss (substituted args t ∷ []) → (v : Json) →
+      tree_accepts says (tagged_content (keywords_of r) tag name t (unnamed_term r (t ∷ []))) v ≡ (type_shape instance (substituted args t) v && has_member tag (is_the name) v)
+  content-accepts r tag name (types.named d ts) c h v = beside-accepts says (keywords_of r) tag name (field_term r (types.named d ts)) v _ (at-place false false r.deprecated r.description (types.named d ts) h.0 v)
+  content-accepts r tag name (types.through k t) c h v = beside-accepts says (keywords_of r) tag name (field_term r (types.through k t)) v _ (at-place false false r.deprecated r.description (types.through k t) h.0 v)
+  content-accepts r tag name (types.param i) c h v = beside-accepts says (keywords_of r) tag name (field_term r (types.param i)) v _ (at-place false false r.deprecated r.description (types.param i) h.0 v)
   content-accepts r tag name (types.leaf l) c h v = absurd c
   content-accepts r tag name types.any_value c h v = absurd c
   content-accepts r tag name types.free_object c h v = absurd c
@@ -205,9 +205,9 @@ module _ (equal : SameIsEqual) (ss : List DeclarationOf) (instance : Open → Js
   content-accepts r tag name (types.map_of k s t) c h v = absurd c
   content-accepts r tag name (types.option t) c h v = absurd c
 
-  internal-accepts : (r : Remarks) (tag name : List ℕ) (form : FormOf) → IsPlainForm ss (form_over args form) → CanBeTagged ss (Internal tag) (form_over args form) → (v : Json) →
+  internal-accepts : (r : Annotations) (tag name : List ℕ) (form : FormOf) → IsPlainForm ss (form_over args form) → CanBeTagged ss (Internal tag) (form_over args form) → (v : Json) →
       tree_accepts says (internal_term r tag name form) v ≡ internal_shape instance tag name (form_over args form) v
-  internal-accepts r tag name (named_fields denies ms) h c (map es) = internal-fields denies (remarked r) tag name ms h es
+  internal-accepts r tag name (named_fields denies ms) h c (map es) = internal-fields denies (keywords_of r) tag name ms h es
   internal-accepts r tag name (named_fields denies ms) h c null = refl
   internal-accepts r tag name (named_fields denies ms) h c (boolean b) = refl
   internal-accepts r tag name (named_fields denies ms) h c (number n) = refl
@@ -220,17 +220,17 @@ module _ (equal : SameIsEqual) (ss : List DeclarationOf) (instance : Open → Js
 
   -- ---- variants with fields, in each representation
 
-  told-accepts : (r : Remarks) (tagging : Tagging) (name : List ℕ) (form : FormOf) → IsPlainForm ss (form_over args form) → CanBeTagged ss tagging (form_over args form) → (v : Json) →
+  told-accepts : (r : Annotations) (tagging : Tagging) (name : List ℕ) (form : FormOf) → IsPlainForm ss (form_over args form) → CanBeTagged ss tagging (form_over args form) → (v : Json) →
       tree_accepts says (told_term r tagging name form) v ≡ told_shape instance tagging name (form_over args form) v
   told-accepts r External name form h c v =
-      requiring-accepts says (remarked r) name (form_term r form) v ∙ (λ i. has_member name (λ w. at-form r form h w i) v)
+      requiring-accepts says (keywords_of r) name (form_term r form) v ∙ (λ i. has_member name (λ w. at-form r form h w i) v)
   told-accepts r (Internal tag) name form h c v = internal-accepts r tag name form h c v
   told-accepts r (Adjacent tag content) name form h c v =
-      adjacent-accepts says (remarked r) tag content name (form_term r form) v
+      adjacent-accepts says (keywords_of r) tag content name (form_term r form) v
       ∙ (λ i. is_map v (λ es. there (look tag es) (is_the name) && there (look content es) (λ w. at-form r form h w i)))
   told-accepts r Untagged name form h c v = at-form r form h v
 
-  variant-accepts : (r : Remarks) (tagging : Tagging) (name : List ℕ) (form : FormOf) → IsPlainVariant ss tagging (form_over args form) → (v : Json) →
+  variant-accepts : (r : Annotations) (tagging : Tagging) (name : List ℕ) (form : FormOf) → IsPlainVariant ss tagging (form_over args form) → (v : Json) →
       tree_accepts says (variant_form r tagging name form) v ≡ fields_shape instance tagging name (form_over args form) v
   variant-accepts r tagging name no_fields h v = unit-accepts r tagging name v
   variant-accepts r External name (named_fields denies ms) h v = told-accepts r External name (named_fields denies ms) h tt v
@@ -242,9 +242,9 @@ module _ (equal : SameIsEqual) (ss : List DeclarationOf) (instance : Open → Js
   variants-accept : (tagging : Tagging) (xs : List VariantOf) → ArePlainVariants ss tagging (map_over (variant_over args) xs) → (v : Json) →
       some_accepts says (schemas_of (map_over (variant_term tagging) xs)) v ≡ list_any (variant_shape instance tagging v) (map_over (variant_over args) xs)
   variants-accept tagging [] h v = refl
-  variants-accept tagging (x ∷ xs) h v = λ i. variant-accepts x.remarks tagging x.name x.form h.0 v i || variants-accept tagging xs h.1 v i
+  variants-accept tagging (x ∷ xs) h v = λ i. variant-accepts x.annotations tagging x.name x.form h.0 v i || variants-accept tagging xs h.1 v i
 
-  body-accepts : (r : Remarks) (body : BodyOf) → IsPlainBody ss (body_over args body) → (v : Json) → tree_accepts says (body_term r body) v ≡ body_shape instance (body_over args body) v
+  body-accepts : (r : Annotations) (body : BodyOf) → IsPlainBody ss (body_over args body) → (v : Json) → tree_accepts says (body_term r body) v ≡ body_shape instance (body_over args body) v
   body-accepts r (fields form) h v = at-form r form h v
   body-accepts r (units tagging ns) h v = units-accept r tagging ns h v
   body-accepts r (variants tagging xs) h v = variants-accept tagging xs h.1 v
@@ -253,7 +253,7 @@ module _ (equal : SameIsEqual) (ss : List DeclarationOf) (instance : Open → Js
 
 module _ (none : SubstitutedNone) where
   member-stays : (m : MemberOf) → member_over no_types m ≡ m
-  member-stays m = ap (λ t. record { name = m.name; required = m.required; remarks = m.remarks; of = t }) (none m.of)
+  member-stays m = ap (λ t. record { name = m.name; required = m.required; annotations = m.annotations; of = t }) (none m.of)
 
   members-stay : (ms : List MemberOf) → map_over (member_over no_types) ms ≡ ms
   members-stay [] = refl
@@ -270,7 +270,7 @@ module _ (none : SubstitutedNone) where
 
   variants-stay : (xs : List VariantOf) → map_over (variant_over no_types) xs ≡ xs
   variants-stay [] = refl
-  variants-stay (x ∷ xs) = λ i. record { name = x.name; remarks = x.remarks; form = form-stays x.form i } ∷ variants-stay xs i
+  variants-stay (x ∷ xs) = λ i. record { name = x.name; annotations = x.annotations; form = form-stays x.form i } ∷ variants-stay xs i
 
   body-stays : (body : BodyOf) → body_over no_types body ≡ body
   body-stays (fields form) = ap fields (form-stays form)
@@ -282,7 +282,7 @@ module _ (none : SubstitutedNone) where
 -- The term of a plain declaration accepts what has its shape.
 pub terms-accept : SameIsEqual → SubstitutedNone → TermsAccept
 terms-accept equal none ss instance s h v =
-    body-accepts equal ss instance no_types (leaf_shape instance) (λ d ts inline notes w. ap (λ t. type_shape instance t w) (sym (none (types.named d ts)))) (λ i p w. absurd p) s.remarks s.body
+    body-accepts equal ss instance no_types (leaf_shape instance) (λ d ts inline keywords w. ap (λ t. type_shape instance t w) (sym (none (types.named d ts)))) (λ i p w. absurd p) s.annotations s.body
     (subst (IsPlainBody ss) (sym (body-stays none s.body)) h) v
     ∙ ap (λ b. body_shape instance b v) (body-stays none s.body)
 
@@ -290,8 +290,8 @@ terms-accept equal none ss instance s h v =
 pub instance-terms-accept : SameIsEqual → SubstitutedNone → InstanceTermsAccept
 instance-terms-accept equal none ss instance args s h v =
     bind-accepts (with_arguments args) (leaf_shape instance) (term s) v
-    ∙ body-accepts equal ss instance args (λ x w. tree_accepts (leaf_shape instance) (with_arguments args x) w) (λ d ts inline notes w. refl)
-    (λ i p w. closed-accepts none ss instance false true false None (argument_at args i) p w) s.remarks s.body h v
+    ∙ body-accepts equal ss instance args (λ x w. tree_accepts (leaf_shape instance) (with_arguments args x) w) (λ d ts inline keywords w. refl)
+    (λ i p w. closed-accepts none ss instance false true false None (argument_at args i) p w) s.annotations s.body h v
 
 pub places-accept : SubstitutedNone → PlacesAccept
 places-accept none ss instance = closed-accepts none ss instance

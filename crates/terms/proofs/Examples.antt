@@ -2,7 +2,7 @@
 use Rattle.std.proofs.Common.{ℕ, List, [], ◌∷◌, Bool, true, false, codes, ◌≡◌, refl}
 use Rattle.acceptance.specs.Json.{Json, null, text, boolean, map, no_members, member}
 use Rattle.leaves.specs.declared.leaf.Leaf.TheVariants.{I32, Bool as BoolLeaf}
-use Rattle.schema_trees.specs.Notes.{no_notes}
+use Rattle.schema_trees.specs.Annotations.{no_annotations}
 use Rattle.schema_trees.specs.Schema.{SchemaOf, no_schemas, schema, no_properties, property, truth, part}
 use Rattle.schema_trees.specs.Schema as tree
 use Rattle.schema_core.specs.Meaning.{tree_accepts}
@@ -11,7 +11,7 @@ use Rattle.component.specs.Leaves.{LeafOf}
 use Rattle.component.specs.Leaves as leaves
 use Rattle.component.specs.Places.{null_alone, leaf_object, one_of_null}
 use Rattle.shapes.specs.declared.tagging.Tagging.TheVariants.{Internal}
-use Rattle.shapes.specs.Declarations.{MemberOf, named_fields, unnamed_fields, no_fields, fields, variants, DeclarationOf, no_remarks}
+use Rattle.shapes.specs.Declarations.{MemberOf, named_fields, unnamed_fields, no_fields, fields, variants, DeclarationOf, unannotated}
 use Rattle.shapes.specs.Instances.{declared_by}
 use Rattle.shapes.specs.InstanceShape.{shape}
 use Rattle.terms.specs.Terms.{object_of, list_of_length, term}
@@ -19,10 +19,10 @@ use Rattle.terms.specs.InstanceTerms.{with_arguments, instance_term}
 use Rattle.terms.specs.Meaning.{leaf_shape}
 
 abbrev a_member : List ℕ → Bool → Open → MemberOf
-a_member name required t = record { name = name; required = required; remarks = no_remarks; of = t }
+a_member name required t = record { name = name; required = required; annotations = unannotated; of = t }
 
 abbrev a_struct : List ℕ → ℕ → List MemberOf → DeclarationOf
-a_struct name parameters ms = record { name = name; parameters = parameters; remarks = no_remarks; body = fields (named_fields false ms) }
+a_struct name parameters ms = record { name = name; parameters = parameters; annotations = unannotated; body = fields (named_fields false ms) }
 
 abbrev one : Open → Opens
 one t = more_types t no_types
@@ -40,16 +40,16 @@ abbrev with_v : Json → Json
 with_v x = map (member (codes "v") x no_members)
 
 abbrev an_i32 : SchemaOf LeafOf
-an_i32 = leaf_object false no_notes I32
+an_i32 = leaf_object false no_annotations I32
 
 -- struct N<T> { v: Option<T> }: the member may be missing, or null; at Option<i32> both schemas accept null
 abbrev n_source : List DeclarationOf
 n_source = a_struct (codes "N") 1 (a_member (codes "v") false (option (param 0)) ∷ []) ∷ []
 
-n_term : instance_term n_source at_option ≡ object_of no_notes false [] (property (codes "v") (one_of_null no_notes (leaf_object true no_notes I32)) no_properties)
+n_term : instance_term n_source at_option ≡ object_of no_annotations false [] (property (codes "v") (one_of_null no_annotations (leaf_object true no_annotations I32)) no_properties)
 n_term = refl
 
-null_twice : (says : LeafOf → Json → Bool) → (tree_accepts says (leaf_object true no_notes I32) null ≡ true) × (tree_accepts says null_alone null ≡ true)
+null_twice : (says : LeafOf → Json → Bool) → (tree_accepts says (leaf_object true no_annotations I32) null ≡ true) × (tree_accepts says null_alone null ≡ true)
 null_twice says = (refl, refl)
 
 -- struct S<T> { v: T }: at Option<i32> the member may be null, and must be there
@@ -62,13 +62,13 @@ s_accepts says = (refl, refl)
 -- struct W<T>(T, i32); struct V<T>(T, T); at i32: whether fields are alike is told over the parameters
 abbrev pairs : List DeclarationOf
 pairs =
-    record { name = codes "W"; parameters = 1; remarks = no_remarks; body = fields (unnamed_fields (param 0 ∷ leaf I32 ∷ [])) }
-    ∷ record { name = codes "V"; parameters = 1; remarks = no_remarks; body = fields (unnamed_fields (param 0 ∷ param 0 ∷ [])) } ∷ []
+    record { name = codes "W"; parameters = 1; annotations = unannotated; body = fields (unnamed_fields (param 0 ∷ leaf I32 ∷ [])) }
+    ∷ record { name = codes "V"; parameters = 1; annotations = unannotated; body = fields (unnamed_fields (param 0 ∷ param 0 ∷ [])) } ∷ []
 
-mixed : instance_term pairs at_i32 ≡ list_of_length 2 no_notes (schema an_i32 (schema an_i32 no_schemas)) (truth false)
+mixed : instance_term pairs at_i32 ≡ list_of_length 2 no_annotations (schema an_i32 (schema an_i32 no_schemas)) (truth false)
 mixed = refl
 
-alike : instance_term pairs (named 1 (one (leaf I32))) ≡ list_of_length 2 no_notes no_schemas (part an_i32)
+alike : instance_term pairs (named 1 (one (leaf I32))) ≡ list_of_length 2 no_annotations no_schemas (part an_i32)
 alike = refl
 
 -- #[serde(tag = "t")] enum E<T> { A(T), C }  struct U { x: bool }: at U the content stands beside the tag
@@ -77,8 +77,8 @@ tagged =
     record {
       name = codes "E";
       parameters = 1;
-      remarks = no_remarks;
-      body = variants (Internal (codes "t")) (record { name = codes "A"; remarks = no_remarks; form = unnamed_fields (param 0 ∷ []) } ∷ record { name = codes "C"; remarks = no_remarks; form = no_fields } ∷ []);
+      annotations = unannotated;
+      body = variants (Internal (codes "t")) (record { name = codes "A"; annotations = unannotated; form = unnamed_fields (param 0 ∷ []) } ∷ record { name = codes "C"; annotations = unannotated; form = no_fields } ∷ []);
     }
     ∷ a_struct (codes "U") 0 (a_member (codes "x") true (leaf BoolLeaf) ∷ []) ∷ []
 
@@ -101,8 +101,8 @@ root_term = refl
 abbrev p_bool : Open
 p_bool = named 0 (one (leaf BoolLeaf))
 
-put_in : with_arguments (one (leaf BoolLeaf)) (leaves.named (named 0 (one (param 0))) false no_notes) ≡ tree.leaf (leaves.named p_bool false no_notes)
+put_in : with_arguments (one (leaf BoolLeaf)) (leaves.named (named 0 (one (param 0))) false no_annotations) ≡ tree.leaf (leaves.named p_bool false no_annotations)
 put_in = refl
 
-at_leaves : (instance : Open → Json → Bool) (v : Json) → (leaf_shape instance (leaves.named p_bool true no_notes) v ≡ instance p_bool v) × (leaf_shape instance (leaves.param 0) v ≡ false)
+at_leaves : (instance : Open → Json → Bool) (v : Json) → (leaf_shape instance (leaves.named p_bool true no_annotations) v ≡ instance p_bool v) × (leaf_shape instance (leaves.param 0) v ≡ false)
 at_leaves instance v = (refl, refl)

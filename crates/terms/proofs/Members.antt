@@ -12,11 +12,11 @@ use Rattle.terms.specs.Terms.{field_term, properties_of, required_names}
 
 -- a member's property
 abbrev pub property_of : Member → List ℕ × SchemaOf LeafOf
-property_of m = (m.name, field_term m.remarks (open_view m.ty))
+property_of m = (m.name, field_term m.annotations (open_view m.ty))
 
 pub properties_are : (ms : List Member) → tree.properties_of (map property_of ms) ≡ properties_of (map member_view ms)
 properties_are [] = refl
-properties_are (m ∷ ms) = ap (tree.property m.name (field_term m.remarks (open_view m.ty))) (properties_are ms)
+properties_are (m ∷ ms) = ap (tree.property m.name (field_term m.annotations (open_view m.ty))) (properties_are ms)
 
 required-push : (ms : List MemberOf) (m : MemberOf) → required_names (ms ++ m ∷ []) ≡ required_names ms ++ cond m.required (m.name ∷ []) []
 required-push [] m = refl

@@ -15,8 +15,8 @@ module _ {X : Type 0} (f : X → SchemaOf X) (same : (x : X) → f x ≡ leaf x)
     bind-stays (leaf x) = same x
     bind-stays (object facts ps additional names) = λ i. object facts (properties-stay ps i) (part-stays additional i) (part-stays names i)
     bind-stays (array facts front rest) = λ i. array facts (schemas-stay front i) (part-stays rest i)
-    bind-stays (one_of notes ss) = λ i. one_of notes (schemas-stay ss i)
-    bind-stays (all_of notes ss) = λ i. all_of notes (schemas-stay ss i)
+    bind-stays (one_of keywords ss) = λ i. one_of keywords (schemas-stay ss i)
+    bind-stays (all_of keywords ss) = λ i. all_of keywords (schemas-stay ss i)
 
     schemas-stay : (ss : SchemasOf X) → bind_schemas f ss ≡ ss
     schemas-stay no_schemas = refl
@@ -33,7 +33,7 @@ module _ {X : Type 0} (f : X → SchemaOf X) (same : (x : X) → f x ≡ leaf x)
 
 leaf-stays : SubstitutedNone → (x : LeafOf) → with_arguments no_types x ≡ leaf x
 leaf-stays none (param i) = refl
-leaf-stays none (named t inline notes) = ap (λ u. leaf (named u inline notes)) (none t)
+leaf-stays none (named t inline keywords) = ap (λ u. leaf (named u inline keywords)) (none t)
 
 pub root-terms : SubstitutedNone → RootTerms
 root-terms none ss d = bind-stays (with_arguments no_types) (leaf-stays none) (term (declaration_at ss d))

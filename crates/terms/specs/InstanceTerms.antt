@@ -10,10 +10,10 @@ use Rattle.shapes.specs.Declarations.{DeclarationOf, declaration_at}
 use Rattle.shapes.specs.Instances.{declared_by}
 use Rattle.terms.specs.Terms.{term}
 
--- What stands at a leaf of a declaration's term: at a parameter the schema of its argument, inline and without notes; else the name with the arguments put in.
+-- What stands at a leaf of a declaration's term: at a parameter the schema of its argument, inline and without annotations; else the name with the arguments put in.
 abbrev pub with_arguments : Opens → LeafOf → SchemaOf LeafOf
 with_arguments args (param i) = place false true false None (argument_at args i)
-with_arguments args (named t inline notes) = leaf (named (substituted args t) inline notes)
+with_arguments args (named t inline keywords) = leaf (named (substituted args t) inline keywords)
 
 -- the term of a declaration with the arguments put in
 abbrev pub term_over : Opens → DeclarationOf → SchemaOf LeafOf

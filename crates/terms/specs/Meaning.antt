@@ -15,7 +15,7 @@ use Rattle.shapes.specs.Plain.{IsPlainType, IsPlainBody}
 -- what a leaf accepts: at a name what has the shape of the instance, inline or not; at a parameter nothing
 abbrev pub leaf_shape : (Open → Json → Bool) → LeafOf → Json → Bool
 leaf_shape instance (param i) v = false
-leaf_shape instance (named t inline notes) v = instance t v
+leaf_shape instance (named t inline keywords) v = instance t v
 
 -- The law: the term of a declaration with a plain body accepts what has the body's shape, where each leaf accepts what has the shape of its instance.
 abbrev pub TermsAccept : Type 0

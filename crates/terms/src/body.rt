@@ -1,7 +1,7 @@
 //! The schemas of declarations.
 
 ghost use Rattle.std.specs.Prelude.{◌≡◌, map, IfOk};
-ghost use Rattle.schema_trees.specs.Notes.{no_notes};
+ghost use Rattle.schema_trees.specs.Annotations.{no_annotations};
 ghost use Rattle.schema_trees.specs.Schema.{tree_views, schemas_of};
 ghost use Rattle.component.specs.Leaves.{leaf_view, term_view};
 ghost use Rattle.shapes.specs.Declarations.{variants as told_variants};
@@ -11,82 +11,94 @@ ghost use Rattle.terms.specs.Terms.{tag_alone, tags_term, units_term, body_term,
 use crate::form::form_term;
 use crate::tagged::{null_term, tag_alone, texts_schema};
 use crate::variant_term::variant_terms;
-use component::{Term, noted};
-use schema_trees::{Notes, OneOfSchema, Tree};
-use shapes::{Body, Declaration, Remarks, Tagging, Variant};
+use component::{Term, annotated};
+use schema_trees::{Annotations as SchemaAnnotations, OneOfSchema, Tree};
+use shapes::{Annotations, Body, Declaration, Tagging, Variant};
 use std::alloc::{AllocError, Global};
 use texts::{List, Text};
 
 /// An object with a tag for each of the names.
 fn tags(alloc: Global, tag: &Text, names: &[Text]) -> Result<List<Term>, AllocError>
     ensures { IfOk result (λ items. tree_views leaf_view items
-        ≡ schemas_of (map (tag_alone no_notes tag.now) names.now)) }
+        ≡ schemas_of (map (tag_alone no_annotations tag.now) names.now)) }
 {
     let mut items = List::new(alloc);
     for name in names {
-        items.push(tag_alone(alloc, Notes::new(), tag, name)?)?;
+        items.push(tag_alone(alloc, SchemaAnnotations::new(), tag, name)?)?;
     }
     Ok(items)
 }
 
 fn tags_term(
     alloc: Global,
-    remarks: &Remarks,
+    annotations: &Annotations,
     tag: &Text,
     names: &[Text],
 ) -> Result<Term, AllocError>
-    ensures { IfOk result (λ t. term_view t ≡ tags_term remarks.now tag.now names.now) }
+    ensures { IfOk result (λ t. term_view t ≡ tags_term annotations.now tag.now names.now) }
 {
-    let notes = noted(alloc, remarks.deprecated, &remarks.description)?;
+    let keywords = annotated(alloc, annotations.deprecated, &annotations.description)?;
     let items = tags(alloc, tag, names)?;
-    Ok(Tree::OneOf(Box::new(alloc, OneOfSchema { items, notes })?))
+    Ok(Tree::OneOf(Box::new(
+        alloc,
+        OneOfSchema {
+            items,
+            annotations: keywords,
+        },
+    )?))
 }
 
 /// The schema of an enum whose variants have no fields.
 fn units_term(
     alloc: Global,
-    remarks: &Remarks,
+    annotations: &Annotations,
     tagging: &Tagging,
     names: &[Text],
 ) -> Result<Term, AllocError>
-    ensures { IfOk result (λ t. term_view t ≡ units_term remarks.now tagging.now names.now) }
+    ensures { IfOk result (λ t. term_view t ≡ units_term annotations.now tagging.now names.now) }
 {
     match tagging {
         Tagging::External => {
-            let notes = noted(alloc, remarks.deprecated, &remarks.description)?;
-            texts_schema(alloc, notes, names)
+            let keywords = annotated(alloc, annotations.deprecated, &annotations.description)?;
+            texts_schema(alloc, keywords, names)
         }
         Tagging::Internal { tag } | Tagging::Adjacent { tag, .. } => {
-            tags_term(alloc, remarks, tag, names)
+            tags_term(alloc, annotations, tag, names)
         }
-        Tagging::Untagged => null_term(alloc, remarks),
+        Tagging::Untagged => null_term(alloc, annotations),
     }
 }
 
 /// The schema of an enum of which a variant has fields: one of those of its variants.
 fn variants_term(
     alloc: Global,
-    remarks: &Remarks,
+    annotations: &Annotations,
     tagging: &Tagging,
     variants: &[Variant],
 ) -> Result<Term, AllocError>
     ensures { IfOk result (λ t. term_view t
-        ≡ body_term remarks.now (told_variants tagging.now (map variant_view variants.now))) }
+        ≡ body_term annotations.now (told_variants tagging.now (map variant_view variants.now))) }
 {
-    let notes = noted(alloc, remarks.deprecated, &remarks.description)?;
+    let keywords = annotated(alloc, annotations.deprecated, &annotations.description)?;
     let items = variant_terms(alloc, tagging, variants)?;
-    Ok(Tree::OneOf(Box::new(alloc, OneOfSchema { items, notes })?))
+    Ok(Tree::OneOf(Box::new(
+        alloc,
+        OneOfSchema {
+            items,
+            annotations: keywords,
+        },
+    )?))
 }
 
 /// The schema of the body of a declaration of which this is said.
-pub fn body_term(alloc: Global, remarks: &Remarks, body: &Body) -> Result<Term, AllocError>
-    ensures { IfOk result (λ t. term_view t ≡ body_term remarks.now (body_view body.now)) }
+pub fn body_term(alloc: Global, annotations: &Annotations, body: &Body) -> Result<Term, AllocError>
+    ensures { IfOk result (λ t. term_view t ≡ body_term annotations.now (body_view body.now)) }
 {
     match body {
-        Body::Fields(form) => form_term(alloc, remarks, form),
-        Body::Units { tagging, names } => units_term(alloc, remarks, tagging, names.as_slice()),
+        Body::Fields(form) => form_term(alloc, annotations, form),
+        Body::Units { tagging, names } => units_term(alloc, annotations, tagging, names.as_slice()),
         Body::Variants { tagging, variants } => {
-            variants_term(alloc, remarks, tagging, variants.as_slice())
+            variants_term(alloc, annotations, tagging, variants.as_slice())
         }
     }
 }
@@ -95,5 +107,5 @@ pub fn body_term(alloc: Global, remarks: &Remarks, body: &Body) -> Result<Term, 
 pub fn declaration_term(alloc: Global, declaration: &Declaration) -> Result<Term, AllocError>
     ensures { IfOk result (λ t. term_view t ≡ term (declaration_view declaration.now)) }
 {
-    body_term(alloc, &declaration.remarks, &declaration.body)
+    body_term(alloc, &declaration.annotations, &declaration.body)
 }

@@ -8,20 +8,20 @@ ghost use Rattle.terms.specs.Terms.{form_term};
 use crate::named_fields::named_term;
 use crate::unnamed_fields::unnamed_term;
 use component::{Term, null_default};
-use shapes::{Form, Remarks};
+use shapes::{Annotations, Form};
 use std::alloc::{AllocError, Global};
 
 /// The schema of fields, where this is said of the declaration or the variant. Where there are none, it has null as its
 /// default, which does not say that it is deprecated.
-pub fn form_term(alloc: Global, remarks: &Remarks, form: &Form) -> Result<Term, AllocError>
-    ensures { IfOk result (λ t. term_view t ≡ form_term remarks.now (form_view form.now)) }
+pub fn form_term(alloc: Global, annotations: &Annotations, form: &Form) -> Result<Term, AllocError>
+    ensures { IfOk result (λ t. term_view t ≡ form_term annotations.now (form_view form.now)) }
 {
     match form {
         Form::Named {
             denies_others,
             members,
-        } => named_term(alloc, remarks, *denies_others, members.as_slice()),
-        Form::Unnamed(types) => unnamed_term(alloc, remarks, types.as_slice()),
-        Form::Unit => null_default(alloc, &remarks.description),
+        } => named_term(alloc, annotations, *denies_others, members.as_slice()),
+        Form::Unnamed(types) => unnamed_term(alloc, annotations, types.as_slice()),
+        Form::Unit => null_default(alloc, &annotations.description),
     }
 }

@@ -11,8 +11,8 @@ ghost use Rattle.terms.specs.Terms.{field_term, properties_of, required_names, f
 use crate::field_term::field_term;
 use crate::object::object_term;
 use crate::tagged::{push_name, push_tag};
-use component::{Term, noted};
-use shapes::{Member, Remarks};
+use component::{Term, annotated};
+use shapes::{Annotations, Member};
 use std::alloc::{AllocError, Global};
 use texts::{List, Text};
 
@@ -20,10 +20,10 @@ use texts::{List, Text};
 fn property_of(alloc: Global, member: &Member) -> Result<(Text, Term), AllocError>
     ensures name { IfOk result (λ p. p.0 ≡ member.now.name) }
     ensures term { IfOk result (λ p. term_view p.1
-        ≡ field_term member.now.remarks (open_view member.now.ty)) }
+        ≡ field_term member.now.annotations (open_view member.now.ty)) }
 {
     let name = member.name.copy(alloc)?;
-    let term = field_term(alloc, &member.remarks, &member.ty)?;
+    let term = field_term(alloc, &member.annotations, &member.ty)?;
     Ok((name, term))
 }
 
@@ -68,17 +68,17 @@ fn required_of(alloc: Global, members: &[Member]) -> Result<List<Text>, AllocErr
 /// The schema of fields with these members, which denies others or does not.
 pub(crate) fn named_term(
     alloc: Global,
-    remarks: &Remarks,
+    annotations: &Annotations,
     denies: bool,
     members: &[Member],
 ) -> Result<Term, AllocError>
     ensures { IfOk result (λ t. term_view t
-        ≡ form_term remarks.now (named_fields denies (map member_view members.now))) }
+        ≡ form_term annotations.now (named_fields denies (map member_view members.now))) }
 {
-    let notes = noted(alloc, remarks.deprecated, &remarks.description)?;
+    let keywords = annotated(alloc, annotations.deprecated, &annotations.description)?;
     let required = required_of(alloc, members)?;
     let properties = properties_of(alloc, members)?;
-    object_term(alloc, properties, denies, required, notes)
+    object_term(alloc, properties, denies, required, keywords)
 }
 
 /// The names of the members that must be there, and the tag behind them.
@@ -109,18 +109,18 @@ fn tagged_properties(
 /// The schema of such fields with a tag behind their members, whose text is the name.
 pub(crate) fn tagged_named_term(
     alloc: Global,
-    remarks: &Remarks,
+    annotations: &Annotations,
     denies: bool,
     members: &[Member],
     tag: &Text,
     name: &Text,
 ) -> Result<Term, AllocError>
     ensures { IfOk result (λ t. term_view t
-        ≡ internal_term remarks.now tag.now name.now
+        ≡ internal_term annotations.now tag.now name.now
         (named_fields denies (map member_view members.now))) }
 {
-    let notes = noted(alloc, remarks.deprecated, &remarks.description)?;
+    let keywords = annotated(alloc, annotations.deprecated, &annotations.description)?;
     let required = tagged_required(alloc, members, tag)?;
     let properties = tagged_properties(alloc, members, tag, name)?;
-    object_term(alloc, properties, denies, required, notes)
+    object_term(alloc, properties, denies, required, keywords)
 }

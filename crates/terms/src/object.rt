@@ -6,7 +6,9 @@ ghost use Rattle.component.specs.Leaves.{leaf_view, term_view};
 ghost use Rattle.terms.specs.Terms.{others_of, object_of};
 
 use component::{Term, TermLeaf};
-use schema_trees::{Additional, Notes, Object, SchemaTypeInner, Tree, TypeWord};
+use schema_trees::{
+    Additional, Annotations as SchemaAnnotations, Object, SchemaTypeInner, Tree, TypeWord,
+};
 use std::alloc::{AllocError, Global};
 use texts::{List, Text};
 
@@ -27,16 +29,16 @@ fn object_of(
     properties: List<(Text, Term)>,
     denies: bool,
     required: List<Text>,
-    notes: Notes,
+    keywords: SchemaAnnotations,
 ) -> Object<TermLeaf>
     ensures { object_view leaf_view result
-        ≡ object_of notes denies required (named_views leaf_view properties) }
+        ≡ object_of keywords denies required (named_views leaf_view properties) }
 {
     Object {
         properties,
         required,
         additional: others_of(denies),
-        ..Object::new(alloc, TypeWord::One(SchemaTypeInner::Object), notes)
+        ..Object::new(alloc, TypeWord::One(SchemaTypeInner::Object), keywords)
     }
 }
 
@@ -53,10 +55,13 @@ pub(crate) fn object_term(
     properties: List<(Text, Term)>,
     denies: bool,
     required: List<Text>,
-    notes: Notes,
+    keywords: SchemaAnnotations,
 ) -> Result<Term, AllocError>
     ensures { IfOk result (λ t. term_view t
-        ≡ object_of notes denies required (named_views leaf_view properties)) }
+        ≡ object_of keywords denies required (named_views leaf_view properties)) }
 {
-    boxed(alloc, object_of(alloc, properties, denies, required, notes))
+    boxed(
+        alloc,
+        object_of(alloc, properties, denies, required, keywords),
+    )
 }

@@ -2,17 +2,19 @@
 
 ghost use Rattle.std.specs.Prelude.{◌≡◌, ◌∷◌, ◌++◌, [], map, IfOk, OnOk};
 ghost use Rattle.acceptance.specs.Json.{text as json_text};
-ghost use Rattle.schema_trees.specs.Notes.{no_notes};
+ghost use Rattle.schema_trees.specs.Annotations.{no_annotations};
 ghost use Rattle.schema_trees.specs.Schema.{object, object_view, named_views, no_part, no_properties, property, schema, no_schemas, tree_views};
 ghost use Rattle.leaves.specs.Leaves.{format_of};
 ghost use Rattle.component.specs.Leaves.{leaf_view, term_view};
 ghost use Rattle.terms.specs.Terms.{texts_facts, texts_schema, requiring, tag_schema, tag_alone, null_term, with_property, beside_tag, tagged_leaf, adjacent_term};
 
 use crate::object::{boxed, object_term};
-use component::{Term, TermLeaf, bounds_of, noted_null};
+use component::{Term, TermLeaf, annotated_null, bounds_of};
 use leaves::Leaf;
-use schema_trees::{AllOfSchema, Json, Notes, Object, SchemaTypeInner, Tree, TypeWord};
-use shapes::Remarks;
+use schema_trees::{
+    AllOfSchema, Annotations as SchemaAnnotations, Json, Object, SchemaTypeInner, Tree, TypeWord,
+};
+use shapes::Annotations;
 use std::alloc::{AllocError, Global};
 use std::slice;
 use texts::{List, Text};
@@ -36,29 +38,37 @@ fn text_values(alloc: Global, names: &[Text]) -> Result<List<Json>, AllocError>
 }
 
 /// One of the texts.
-fn texts_object(alloc: Global, notes: Notes, texts: List<Json>) -> Object<TermLeaf>
+fn texts_object(alloc: Global, keywords: SchemaAnnotations, texts: List<Json>) -> Object<TermLeaf>
     ensures { object_view leaf_view result
-        ≡ object (texts_facts notes texts) no_properties no_part no_part }
+        ≡ object (texts_facts keywords texts) no_properties no_part no_part }
 {
     Object {
         enum_values: Some(texts),
-        ..Object::new(alloc, TypeWord::One(SchemaTypeInner::String), notes)
+        ..Object::new(alloc, TypeWord::One(SchemaTypeInner::String), keywords)
     }
 }
 
 /// One of the names.
-pub(crate) fn texts_schema(alloc: Global, notes: Notes, names: &[Text]) -> Result<Term, AllocError>
-    ensures { IfOk result (λ t. term_view t ≡ texts_schema notes names.now) }
+pub(crate) fn texts_schema(
+    alloc: Global,
+    keywords: SchemaAnnotations,
+    names: &[Text],
+) -> Result<Term, AllocError>
+    ensures { IfOk result (λ t. term_view t ≡ texts_schema keywords names.now) }
 {
     let values = text_values(alloc, names)?;
-    boxed(alloc, texts_object(alloc, notes, values))
+    boxed(alloc, texts_object(alloc, keywords, values))
 }
 
 /// The name alone.
-pub(crate) fn name_schema(alloc: Global, notes: Notes, name: &Text) -> Result<Term, AllocError>
-    ensures { IfOk result (λ t. term_view t ≡ texts_schema notes (name.now ∷ [])) }
+pub(crate) fn name_schema(
+    alloc: Global,
+    keywords: SchemaAnnotations,
+    name: &Text,
+) -> Result<Term, AllocError>
+    ensures { IfOk result (λ t. term_view t ≡ texts_schema keywords (name.now ∷ [])) }
 {
-    texts_schema(alloc, notes, slice::from_ref(name))
+    texts_schema(alloc, keywords, slice::from_ref(name))
 }
 
 /// Adds the name.
@@ -117,28 +127,28 @@ fn one_property(alloc: Global, name: &Text, schema: Term) -> Result<List<(Text, 
 /// An object that has this member, and perhaps others.
 pub(crate) fn requiring(
     alloc: Global,
-    notes: Notes,
+    keywords: SchemaAnnotations,
     name: &Text,
     schema: Term,
 ) -> Result<Term, AllocError>
-    ensures { IfOk result (λ t. term_view t ≡ requiring notes name.now (term_view schema)) }
+    ensures { IfOk result (λ t. term_view t ≡ requiring keywords name.now (term_view schema)) }
 {
     let properties = one_property(alloc, name, schema)?;
     let required = one_name(alloc, name)?;
-    object_term(alloc, properties, false, required, notes)
+    object_term(alloc, properties, false, required, keywords)
 }
 
 /// An object that has a tag with the name as its text, and perhaps other members.
 pub(crate) fn tag_alone(
     alloc: Global,
-    notes: Notes,
+    keywords: SchemaAnnotations,
     tag: &Text,
     name: &Text,
 ) -> Result<Term, AllocError>
-    ensures { IfOk result (λ t. term_view t ≡ tag_alone notes tag.now name.now) }
+    ensures { IfOk result (λ t. term_view t ≡ tag_alone keywords tag.now name.now) }
 {
-    let schema = name_schema(alloc, Notes::new(), name)?;
-    requiring(alloc, notes, tag, schema)
+    let schema = name_schema(alloc, SchemaAnnotations::new(), name)?;
+    requiring(alloc, keywords, tag, schema)
 }
 
 /// Adds the tag as a property, whose text is the name.
@@ -151,34 +161,35 @@ pub(crate) fn push_tag(
     ensures { OnOk result (named_views leaf_view properties.new
         ≡ with_property (named_views leaf_view properties.old) tag.now (tag_schema name.now)) }
 {
-    let schema = name_schema(alloc, Notes::new(), name)?;
+    let schema = name_schema(alloc, SchemaAnnotations::new(), name)?;
     push_property(alloc, properties, tag, schema)
 }
 
 /// An object that has a content, and a tag with the name as its text.
 pub(crate) fn adjacent_term(
     alloc: Global,
-    notes: Notes,
+    keywords: SchemaAnnotations,
     tag: &Text,
     content: &Text,
     name: &Text,
     schema: Term,
 ) -> Result<Term, AllocError>
     ensures { IfOk result (λ t. term_view t
-        ≡ adjacent_term notes tag.now content.now name.now (term_view schema)) }
+        ≡ adjacent_term keywords tag.now content.now name.now (term_view schema)) }
 {
     let mut properties = one_property(alloc, content, schema)?;
     push_tag(alloc, &mut properties, tag, name)?;
     let required = two_names(alloc, content, tag)?;
-    object_term(alloc, properties, false, required, notes)
+    object_term(alloc, properties, false, required, keywords)
 }
 
 /// The content, and an object that has the tag.
 fn with_tag(alloc: Global, tag: &Text, name: &Text, content: Term) -> Result<List<Term>, AllocError>
     ensures { IfOk result (λ items. tree_views leaf_view items
-        ≡ schema (term_view content) (schema (tag_alone no_notes tag.now name.now) no_schemas)) }
+        ≡ schema (term_view content)
+        (schema (tag_alone no_annotations tag.now name.now) no_schemas)) }
 {
-    let object = tag_alone(alloc, Notes::new(), tag, name)?;
+    let object = tag_alone(alloc, SchemaAnnotations::new(), tag, name)?;
     let mut items = List::new(alloc);
     items.push(content)?;
     items.push(object)?;
@@ -188,16 +199,22 @@ fn with_tag(alloc: Global, tag: &Text, name: &Text, content: Term) -> Result<Lis
 /// A schema beside an object that has the tag.
 pub(crate) fn beside_tag(
     alloc: Global,
-    notes: Notes,
+    keywords: SchemaAnnotations,
     tag: &Text,
     name: &Text,
     schema: Term,
 ) -> Result<Term, AllocError>
     ensures { IfOk result
-        (λ t. term_view t ≡ beside_tag notes tag.now name.now (term_view schema)) }
+        (λ t. term_view t ≡ beside_tag keywords tag.now name.now (term_view schema)) }
 {
     let items = with_tag(alloc, tag, name, schema)?;
-    Ok(Tree::AllOf(Box::new(alloc, AllOfSchema { items, notes })?))
+    Ok(Tree::AllOf(Box::new(
+        alloc,
+        AllOfSchema {
+            items,
+            annotations: keywords,
+        },
+    )?))
 }
 
 /// The printed name of the format of the built-in name.
@@ -213,12 +230,12 @@ fn format_of(alloc: Global, leaf: Leaf) -> Result<Option<Text>, AllocError>
 /// An object that has the tag, with the format and the bounds of the built-in name.
 pub(crate) fn tagged_leaf(
     alloc: Global,
-    notes: Notes,
+    keywords: SchemaAnnotations,
     tag: &Text,
     name: &Text,
     leaf: Leaf,
 ) -> Result<Term, AllocError>
-    ensures { IfOk result (λ t. term_view t ≡ object (tagged_leaf notes tag.now leaf)
+    ensures { IfOk result (λ t. term_view t ≡ object (tagged_leaf keywords tag.now leaf)
         (property tag.now (tag_schema name.now) no_properties) no_part no_part) }
 {
     let required = one_name(alloc, tag)?;
@@ -230,16 +247,16 @@ pub(crate) fn tagged_leaf(
         required,
         format,
         bounds: bounds_of(leaf.kind()),
-        ..Object::new(alloc, TypeWord::One(SchemaTypeInner::Object), notes)
+        ..Object::new(alloc, TypeWord::One(SchemaTypeInner::Object), keywords)
     };
     boxed(alloc, object)
 }
 
 /// Null, which is the default too.
-pub(crate) fn null_term(alloc: Global, remarks: &Remarks) -> Result<Term, AllocError>
-    ensures { IfOk result (λ t. term_view t ≡ null_term remarks.now) }
+pub(crate) fn null_term(alloc: Global, annotations: &Annotations) -> Result<Term, AllocError>
+    ensures { IfOk result (λ t. term_view t ≡ null_term annotations.now) }
 {
-    let notes = noted_null(alloc, remarks.deprecated, &remarks.description)?;
-    let null = Object::new(alloc, TypeWord::One(SchemaTypeInner::Null), notes);
+    let keywords = annotated_null(alloc, annotations.deprecated, &annotations.description)?;
+    let null = Object::new(alloc, TypeWord::One(SchemaTypeInner::Null), keywords);
     boxed(alloc, null)
 }

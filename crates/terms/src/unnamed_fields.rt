@@ -6,11 +6,11 @@ ghost use Rattle.schema_trees.specs.Schema.{tree_views, array_items_view};
 ghost use Rattle.component.specs.Leaves.{leaf_view, term_view};
 ghost use Rattle.terms.specs.Terms.{are_all, list_of_length, alike_term, field_terms, mixed_term, unnamed_term};
 
-use crate::field_term::{field_term, unremarked_term};
-use component::{Term, TermLeaf, noted};
+use crate::field_term::{field_term, unannotated_term};
+use component::{Term, TermLeaf, annotated};
 use open_types::OpenType;
-use schema_trees::{Array, ArrayItems, Bound, Notes, Tree};
-use shapes::Remarks;
+use schema_trees::{Annotations as SchemaAnnotations, Array, ArrayItems, Bound, Tree};
+use shapes::Annotations;
 use std::alloc::{AllocError, Global};
 use texts::List;
 
@@ -30,12 +30,12 @@ fn are_all(first: &OpenType, others: &[OpenType]) -> bool
 fn list_of_length(
     alloc: Global,
     count: usize,
-    notes: Notes,
+    keywords: SchemaAnnotations,
     front: List<Term>,
     rest: ArrayItems<TermLeaf>,
 ) -> Result<Term, AllocError>
     ensures { IfOk result
-        (λ s. term_view s ≡ list_of_length count notes (tree_views leaf_view front)
+        (λ s. term_view s ≡ list_of_length count keywords (tree_views leaf_view front)
         (array_items_view leaf_view rest)) }
 {
     let array = Array {
@@ -45,7 +45,7 @@ fn list_of_length(
         unique: false,
         max_items: Bound::new(count as i128),
         min_items: Bound::new(count as i128),
-        notes,
+        annotations: keywords,
     };
     Ok(Tree::Array(Box::new(alloc, array)?))
 }
@@ -53,16 +53,16 @@ fn list_of_length(
 /// The schema of so many fields of one type.
 fn alike_term(
     alloc: Global,
-    remarks: &Remarks,
+    annotations: &Annotations,
     count: usize,
     ty: &OpenType,
 ) -> Result<Term, AllocError>
     ensures { IfOk result
-        (λ s. term_view s ≡ alike_term remarks.now count (open_view ty.now)) }
+        (λ s. term_view s ≡ alike_term annotations.now count (open_view ty.now)) }
 {
-    let notes = noted(alloc, false, &remarks.description)?;
-    let each = ArrayItems::Each(field_term(alloc, remarks, ty)?);
-    list_of_length(alloc, count, notes, List::new(alloc), each)
+    let keywords = annotated(alloc, false, &annotations.description)?;
+    let each = ArrayItems::Each(field_term(alloc, annotations, ty)?);
+    list_of_length(alloc, count, keywords, List::new(alloc), each)
 }
 
 /// The schemas of fields of these types, of which nothing is said.
@@ -72,33 +72,39 @@ fn field_terms(alloc: Global, types: &[OpenType]) -> Result<List<Term>, AllocErr
 {
     let mut terms = List::new(alloc);
     for ty in types {
-        terms.push(unremarked_term(alloc, ty)?)?;
+        terms.push(unannotated_term(alloc, ty)?)?;
     }
     Ok(terms)
 }
 
 /// The schema of fields of these types: a list of just these, in their order.
-fn mixed_term(alloc: Global, remarks: &Remarks, types: &[OpenType]) -> Result<Term, AllocError>
-    ensures { IfOk result (λ s. term_view s ≡ mixed_term remarks.now (map open_view types.now)) }
+fn mixed_term(
+    alloc: Global,
+    annotations: &Annotations,
+    types: &[OpenType],
+) -> Result<Term, AllocError>
+    ensures { IfOk result
+        (λ s. term_view s ≡ mixed_term annotations.now (map open_view types.now)) }
 {
-    let notes = noted(alloc, remarks.deprecated, &remarks.description)?;
+    let keywords = annotated(alloc, annotations.deprecated, &annotations.description)?;
     let front = field_terms(alloc, types)?;
-    list_of_length(alloc, types.len(), notes, front, ArrayItems::False)
+    list_of_length(alloc, types.len(), keywords, front, ArrayItems::False)
 }
 
 /// The schema of unnamed fields of these types.
 pub(crate) fn unnamed_term(
     alloc: Global,
-    remarks: &Remarks,
+    annotations: &Annotations,
     types: &[OpenType],
 ) -> Result<Term, AllocError>
-    ensures { IfOk result (λ s. term_view s ≡ unnamed_term remarks.now (map open_view types.now)) }
+    ensures { IfOk result
+        (λ s. term_view s ≡ unnamed_term annotations.now (map open_view types.now)) }
 {
     match types {
-        [ty] => field_term(alloc, remarks, ty),
+        [ty] => field_term(alloc, annotations, ty),
         [first, others @ ..] if are_all(first, others) => {
-            alike_term(alloc, remarks, types.len(), first)
+            alike_term(alloc, annotations, types.len(), first)
         }
-        _ => mixed_term(alloc, remarks, types),
+        _ => mixed_term(alloc, annotations, types),
     }
 }

@@ -6,7 +6,7 @@ ghost use Rattle.component.specs.Leaves.{leaf_view, term_view};
 ghost use Rattle.open_types.specs.Open.{open_view};
 ghost use Rattle.shapes.specs.Declarations.{unnamed_fields};
 ghost use Rattle.shapes.specs.Views.{variant_view};
-ghost use Rattle.terms.specs.Terms.{remarked, variant_term, tagged_content, internal_term};
+ghost use Rattle.terms.specs.Terms.{keywords_of, variant_term, tagged_content, internal_term};
 
 use crate::form::form_term;
 use crate::named_fields::tagged_named_term;
@@ -15,18 +15,18 @@ use crate::tagged::{
     tagged_leaf,
 };
 use crate::unnamed_fields::unnamed_term;
-use component::{Term, noted};
+use component::{Term, annotated};
 use open_types::OpenType;
-use schema_trees::Notes;
-use shapes::{Form, Remarks, Tagging, Variant};
+use schema_trees::Annotations as SchemaAnnotations;
+use shapes::{Annotations, Form, Tagging, Variant};
 use std::alloc::{AllocError, Global};
 use texts::{List, Text};
 
-/// What is said, as notes of a schema.
-fn notes_of(alloc: Global, remarks: &Remarks) -> Result<Notes, AllocError>
-    ensures { IfOk result (λ notes. notes ≡ remarked remarks.now) }
+/// What is said, as keywords of a schema.
+fn keywords_of(alloc: Global, annotations: &Annotations) -> Result<SchemaAnnotations, AllocError>
+    ensures { IfOk result (λ keywords. keywords ≡ keywords_of annotations.now) }
 {
-    noted(alloc, remarks.deprecated, &remarks.description)
+    annotated(alloc, annotations.deprecated, &annotations.description)
 }
 
 /// The schema of a variant that nothing tells.
@@ -35,8 +35,12 @@ fn untagged_term(alloc: Global, variant: &Variant) -> Result<Term, AllocError>
         ≡ variant_term Tagging.Untagged (variant_view variant.now)) }
 {
     match &variant.form {
-        Form::Unit => null_term(alloc, &variant.remarks),
-        Form::Named { .. } | Form::Unnamed(_) => form_term(alloc, &variant.remarks, &variant.form),
+        Form::Unit => null_term(alloc, &variant.annotations),
+        Form::Named { .. } | Form::Unnamed(_) => form_term(
+            alloc,
+            &variant.annotations,
+            &variant.form,
+        ),
     }
 }
 
@@ -46,12 +50,12 @@ fn external_term(alloc: Global, variant: &Variant) -> Result<Term, AllocError>
         ≡ variant_term Tagging.External (variant_view variant.now)) }
 {
     let name = &variant.name;
-    let notes = notes_of(alloc, &variant.remarks)?;
+    let keywords = keywords_of(alloc, &variant.annotations)?;
     match &variant.form {
-        Form::Unit => name_schema(alloc, notes, name),
+        Form::Unit => name_schema(alloc, keywords, name),
         Form::Named { .. } | Form::Unnamed(_) => {
-            let content = form_term(alloc, &variant.remarks, &variant.form)?;
-            requiring(alloc, notes, name, content)
+            let content = form_term(alloc, &variant.annotations, &variant.form)?;
+            requiring(alloc, keywords, name, content)
         }
     }
 }
@@ -60,38 +64,39 @@ fn external_term(alloc: Global, variant: &Variant) -> Result<Term, AllocError>
 /// content beside one.
 fn tagged_content(
     alloc: Global,
-    notes: Notes,
+    keywords: SchemaAnnotations,
     tag: &Text,
     name: &Text,
     ty: &OpenType,
     content: Term,
 ) -> Result<Term, AllocError>
     ensures { IfOk result (λ t. term_view t
-        ≡ tagged_content notes tag.now name.now (open_view ty.now) (term_view content)) }
+        ≡ tagged_content keywords tag.now name.now (open_view ty.now) (term_view content)) }
 {
     match ty {
-        OpenType::Leaf(leaf) => tagged_leaf(alloc, notes, tag, name, *leaf),
-        OpenType::AnyValue => tag_alone(alloc, notes, tag, name),
-        _ => beside_tag(alloc, notes, tag, name, content),
+        OpenType::Leaf(leaf) => tagged_leaf(alloc, keywords, tag, name, *leaf),
+        OpenType::AnyValue => tag_alone(alloc, keywords, tag, name),
+        _ => beside_tag(alloc, keywords, tag, name, content),
     }
 }
 
 /// The schema of unnamed fields with a tag.
 fn tagged_fields(
     alloc: Global,
-    remarks: &Remarks,
+    annotations: &Annotations,
     types: &[OpenType],
     tag: &Text,
     name: &Text,
 ) -> Result<Term, AllocError>
     ensures { IfOk result (λ t. term_view t
-        ≡ internal_term remarks.now tag.now name.now (unnamed_fields (map open_view types.now))) }
+        ≡ internal_term annotations.now tag.now name.now
+        (unnamed_fields (map open_view types.now))) }
 {
-    let notes = notes_of(alloc, remarks)?;
-    let content = unnamed_term(alloc, remarks, types)?;
+    let keywords = keywords_of(alloc, annotations)?;
+    let content = unnamed_term(alloc, annotations, types)?;
     match types {
-        [ty] => tagged_content(alloc, notes, tag, name, ty, content),
-        _ => beside_tag(alloc, notes, tag, name, content),
+        [ty] => tagged_content(alloc, keywords, tag, name, ty, content),
+        _ => beside_tag(alloc, keywords, tag, name, content),
     }
 }
 
@@ -101,21 +106,21 @@ fn internal_term(alloc: Global, tag: &Text, variant: &Variant) -> Result<Term, A
         ≡ variant_term (Tagging.Internal tag.now) (variant_view variant.now)) }
 {
     let name = &variant.name;
-    let remarks = &variant.remarks;
+    let annotations = &variant.annotations;
     match &variant.form {
-        Form::Unit => tag_alone(alloc, notes_of(alloc, remarks)?, tag, name),
+        Form::Unit => tag_alone(alloc, keywords_of(alloc, annotations)?, tag, name),
         Form::Named {
             denies_others,
             members,
         } => tagged_named_term(
             alloc,
-            remarks,
+            annotations,
             *denies_others,
             members.as_slice(),
             tag,
             name,
         ),
-        Form::Unnamed(types) => tagged_fields(alloc, remarks, types.as_slice(), tag, name),
+        Form::Unnamed(types) => tagged_fields(alloc, annotations, types.as_slice(), tag, name),
     }
 }
 
@@ -130,12 +135,12 @@ fn adjacent_term(
         ≡ variant_term (Tagging.Adjacent tag.now content.now) (variant_view variant.now)) }
 {
     let name = &variant.name;
-    let notes = notes_of(alloc, &variant.remarks)?;
+    let keywords = keywords_of(alloc, &variant.annotations)?;
     match &variant.form {
-        Form::Unit => tag_alone(alloc, notes, tag, name),
+        Form::Unit => tag_alone(alloc, keywords, tag, name),
         Form::Named { .. } | Form::Unnamed(_) => {
-            let schema = form_term(alloc, &variant.remarks, &variant.form)?;
-            told_beside(alloc, notes, tag, content, name, schema)
+            let schema = form_term(alloc, &variant.annotations, &variant.form)?;
+            told_beside(alloc, keywords, tag, content, name, schema)
         }
     }
 }

@@ -4,7 +4,7 @@ use Rattle.attributes.specs.Attributes.{attribute_view}
 use Rattle.attributes.specs.declared.attribute.Attribute.{Attribute}
 use Rattle.syntax.specs.Items.{variant_view}
 use Rattle.derive_decl.specs.Variants.{variant_name}
-use Rattle.derive_decl.specs.Resolved.{remarks_of, variant_from}
+use Rattle.derive_decl.specs.Resolved.{annotations_of, variant_from}
 use Rattle.derive_decl.specs.Views.{known}
 use Rattle.shapes.specs.Views.{form_view}
 use Rattle.derive_decl.proofs.EnumLaws.{name_of-ident}
@@ -17,8 +17,8 @@ returns-clause-variant c =
     let form = c.in_ok-form.form in
     let name : variant_name around.rows c.args.rule c.args.tagging.now v ≡ Some c.in_ok-ident.ident.text = name_of-ident v.ident c.in_ok-ident.ident (variant_name around.rows c.args.rule c.args.tagging.now v) c.in_ok-ident.ensures.name in
     (λ i. option_and_then (λ n. option_map (variant_from v n) (c.in_ok-form.ensures.form i)) (name i))
-    ∙ ap (λ r. Some (record { name = c.in_ok-ident.ident.text; remarks = r; form = form_view form }))
-    (ap (λ (xs : List Attribute). remarks_of (map attribute_view xs)) (sym c.as_slice.ensures) ∙ sym c.in_ok-remarks_of.ensures)
+    ∙ ap (λ r. Some (record { name = c.in_ok-ident.ident.text; annotations = r; form = form_view form }))
+    (ap (λ (xs : List Attribute). annotations_of (map attribute_view xs)) (sym c.as_slice.ensures) ∙ sym c.in_ok-annotations_of.ensures)
 
 pub returns-in_err-ident-clause-refused : goal.returns-in_err-ident-clause-refused
 returns-in_err-ident-clause-refused c =

@@ -26,8 +26,8 @@ object_value-returns t c =
     let needed : option_map view c.in_ok-required.required ≡ option_map data_of (required_form o.required) = rw c.as_slice-2.ensures at c.in_ok-required.ensures in
     let e7 = c.in_ok-put_given-6.ensures (required_form o.required) needed _ e6 in
     let e8 = c.in_ok-put_bounds.ensures _ e7 in
-    let e9 = c.in_ok-put_notes.ensures _ e8 in
-    object_is c.put_notes.new.members ∙ ap data_object e9 ∙ ap (λ s. data_of (form s)) (sym (object_view-is o))
+    let e9 = c.in_ok-put_annotations.ensures _ e8 in
+    object_is c.put_annotations.new.members ∙ ap data_object e9 ∙ ap (λ s. data_of (form s)) (sym (object_view-is o))
 
 pub array_value-returns : goal.array_value-returns
 array_value-returns t c =
@@ -42,8 +42,8 @@ array_value-returns t c =
     let front : option_map view c.in_ok-front.front ≡ option_map data_of (schemas_form schemas) = rw c.as_slice.ensures at c.in_ok-front.ensures in
     let e5 = c.in_ok-put_given-2.ensures (schemas_form schemas) front _ e4 in
     let e6 = c.in_ok-put_given-3.ensures (part_form (array_items_view (λ l. l) a.items)) c.in_ok-rest.ensures _ e5 in
-    let e7 = c.in_ok-put_notes.ensures _ e6 in
-    object_is c.put_notes.new.members ∙ ap data_object e7 ∙ ap (λ s. data_of (form s)) (sym (array_view-is a))
+    let e7 = c.in_ok-put_annotations.ensures _ e6 in
+    object_is c.put_annotations.new.members ∙ ap data_object e7 ∙ ap (λ s. data_of (form s)) (sym (array_view-is a))
 
 pub front_value-returns : goal.front_value-returns
 front_value-returns t c =

@@ -57,7 +57,7 @@ push_one_of-returns t c =
     let schemas = schema_forms (tree_views (λ l. l) o.items) in
     let inner = ap (λ ss. string_bytes c.push_key.new.text ++ items_text false (items_data (schema_forms (tree_views (λ l. l) ss)))) c.as_slice.ensures in
     let one = present_from (codes "oneOf") (list schemas) c.in_ok-later-2.later (codes "[") (items_text false (items_data schemas)) _ _ _ _ refl c.in_ok-push_key.ensures (c.in_ok-push_str-2.ensures.bytes ∙ c.in_ok-push_schemas.ensures ∙ inner) refl in
-    object_text (one_of_fields o.notes schemas) before _ _ _ refl refl c.in_ok-push_str.ensures.bytes
+    object_text (one_of_fields o.annotations schemas) before _ _ _ refl refl c.in_ok-push_str.ensures.bytes
     (then c.in_ok-later.ensures (then c.in_ok-later-2.ensures (then one (then c.in_ok-later-3.ensures (then c.in_ok-later-4.ensures c.in_ok-push_write_only.ensures)))))
     c.in_ok-push_str-3.ensures.bytes
     ∙ ap (λ s. before ++ compact_text (data_of (form s))) (sym (one_of_view-is o))
@@ -72,7 +72,7 @@ push_all_of-returns t c =
     let inner = ap (λ ss. string_bytes c.push_str.new.self ++ items_text false (items_data (schema_forms (tree_views (λ l. l) ss)))) c.as_slice.ensures in
     let all = present_from (codes "allOf") (list schemas) false (codes "[") (items_text false (items_data schemas)) key (before ++ codes "{") _ _ refl
     (c.in_ok-push_str.ensures.bytes ∙ sym (append_assoc before (codes "{") key)) (c.in_ok-push_str-2.ensures.bytes ∙ c.in_ok-push_schemas.ensures ∙ inner) refl in
-    object_text (all_of_fields a.notes schemas) before (before ++ codes "{") _ _ refl refl refl
+    object_text (all_of_fields a.annotations schemas) before (before ++ codes "{") _ _ refl refl refl
     (then all (then c.in_ok-later.ensures (then c.in_ok-later-2.ensures (then c.in_ok-later-3.ensures (then c.in_ok-later-4.ensures c.in_ok-push_write_only.ensures)))))
     c.in_ok-push_str-3.ensures.bytes
     ∙ ap (λ s. before ++ compact_text (data_of (form s))) (sym (all_of_view-is a))

@@ -5,7 +5,7 @@ use Rattle.shapes.specs.Views.{body_view}
 use Rattle.derive_decl.specs.Resolved.{units_of}
 use Rattle.derive_decl.specs.Faults.{AreUnnamed}
 use Rattle.derive_decl.specs.Views.{attributes_of, items_of, known}
-use Rattle.declaration_schemas.specs.Remarks.{with_remarks}
+use Rattle.declaration_schemas.specs.Annotations.{with_annotations}
 use Rattle.declaration_schemas.proofs.Rules.{body-by, refused-by}
 use Rattle.declaration_schemas.proofs.enums.PlainEnum.new.Goals as goal
 
@@ -30,5 +30,5 @@ returns-clause-body c =
     let root = c.args.root.now in
     let rules = c.in_ok-rules.rules in
     let body = body_view c.in_ok-body.body in
-    ap (with_remarks (attributes_of root)) (body-by (items_of root) rules.rule rules.tagging c.in_ok-rules.ensures.rule c.in_ok-rules.ensures.tagging (λ r. units_of (known root.container.now) r (map variant_view c.args.variants.now)) body c.in_ok-rules.ensures.allowed c.in_ok-body.ensures.units)
-    ∙ ap (λ remarks. Some (remarks, body)) (sym c.in_ok-remarks_of.ensures)
+    ap (with_annotations (attributes_of root)) (body-by (items_of root) rules.rule rules.tagging c.in_ok-rules.ensures.rule c.in_ok-rules.ensures.tagging (λ r. units_of (known root.container.now) r (map variant_view c.args.variants.now)) body c.in_ok-rules.ensures.allowed c.in_ok-body.ensures.units)
+    ∙ ap (λ annotations. Some (annotations, body)) (sym c.in_ok-annotations_of.ensures)

@@ -3,7 +3,7 @@ use Rattle.std.proofs.lemmas.Result.{IfOk-weaker}
 use Rattle.json.specs.Print.{escape_byte}
 use Rattle.acceptance.specs.Json.{text}
 use Rattle.schema_core.specs.Writes.{Writes}
-use Rattle.schema_core.proofs.note_text.push_title.Goals as goal
+use Rattle.schema_core.proofs.annotation_text.push_title.Goals as goal
 
 pub returns-in-Some : goal.returns-in-Some
 unfolding escape_byte

@@ -3,7 +3,7 @@ use Rattle.written_types.specs.Written.{path_view}
 use Rattle.attributes.specs.declared.attribute.Attribute.{Attribute}
 use Rattle.attributes.specs.Attributes.{attribute_view, is_word}
 use Rattle.derive_decl.specs.Fields.{is_deprecated}
-use Rattle.derive_decl.proofs.remarks.is_deprecated.Goals as goal
+use Rattle.derive_decl.proofs.annotations.is_deprecated.Goals as goal
 
 or_true : (b : Bool) → (b || true) ≡ true
 or_true true = refl

@@ -1,5 +1,5 @@
 ghost use Rattle.std.specs.Prelude.{◌≡◌, IfOk, option_map};
-ghost use Rattle.schema_trees.specs.Notes.{no_notes, said_by};
+ghost use Rattle.schema_trees.specs.Annotations.{no_annotations, said_by};
 
 use crate::copies::{copy_json, copy_jsons, copy_text};
 use crate::json_value::Json;
@@ -7,9 +7,9 @@ use std::alloc::{AllocError, Global};
 use std::marker::Model;
 use texts::{List, Text};
 
-/// The annotations of a schema (JSON Schema 2020-12, Validation, 8 and 9). No value is refused for them.
+/// The keywords of annotations (JSON Schema 2020-12, Validation, 8 and 9). No value is refused for them.
 #[derive(Debug)]
-pub struct Annotations {
+pub struct AnnotationKeywords {
     pub title: Option<Text>,
     pub description: Option<Text>,
     pub default: Option<Json>,
@@ -23,9 +23,9 @@ pub struct Annotations {
 }
 
 // by hand, so that a function that lets them go makes one call for them
-impl Drop for Annotations {
+impl Drop for AnnotationKeywords {
     fn drop(self) {
-        let Annotations {
+        let AnnotationKeywords {
             title: _,
             description: _,
             default: _,
@@ -40,12 +40,12 @@ impl Drop for Annotations {
     }
 }
 
-impl Annotations {
-    /// No annotations. It takes no memory.
-    pub fn none() -> Annotations
-        ensures { result ≡ no_notes }
+impl AnnotationKeywords {
+    /// None of them. It takes no memory.
+    pub fn none() -> AnnotationKeywords
+        ensures { result ≡ no_annotations }
     {
-        Annotations {
+        AnnotationKeywords {
             title: None,
             description: None,
             default: None,
@@ -59,11 +59,11 @@ impl Annotations {
         }
     }
 
-    /// Other annotations that say the same.
-    fn copy(&self, alloc: Global) -> Result<Annotations, AllocError>
+    /// Other keywords that say the same.
+    fn copy(&self, alloc: Global) -> Result<AnnotationKeywords, AllocError>
         ensures { IfOk result (λ copy. copy ≡ self.now) }
     {
-        Ok(Annotations {
+        Ok(AnnotationKeywords {
             title: copy_text(alloc, &self.title)?,
             description: copy_text(alloc, &self.description)?,
             default: copy_json(alloc, &self.default)?,
@@ -78,51 +78,51 @@ impl Annotations {
     }
 }
 
-/// What a schema says of itself. Contracts see the annotations; most schemas have none, and then they take no memory.
+/// What a schema says of itself. Contracts see the keywords; most schemas have none, and then they take no memory.
 #[derive(Debug)]
-pub struct Notes {
-    said: Option<Box<Annotations>>,
+pub struct Annotations {
+    said: Option<Box<AnnotationKeywords>>,
 }
 
-impl Model for Notes {
+impl Model for Annotations {
     ghost use Rattle.std.specs.Prelude.{option_map};
-    ghost use Rattle.schema_trees.specs.contracts.notes.Annotations as annotations;
-    ghost use Rattle.schema_trees.specs.declared.notes.Annotations.{Annotations as Said};
-    ghost use Rattle.schema_trees.specs.Notes.{said_by};
+    ghost use Rattle.schema_trees.specs.contracts.annotations.AnnotationKeywords as keywords;
+    ghost use Rattle.schema_trees.specs.declared.annotations.AnnotationKeywords.{AnnotationKeywords as Said};
+    ghost use Rattle.schema_trees.specs.Annotations.{said_by};
 
     ghost Value = { Said };
 
-    ghost coded = { annotations.the_row.coded };
+    ghost coded = { keywords.the_row.coded };
 
-    ghost view = { λ notes. said_by (option_map (λ said. said.value) notes.said) };
+    ghost view = { λ annotations. said_by (option_map (λ said. said.value) annotations.said) };
 }
 
-// by hand, as that of annotations
-impl Drop for Notes {
+// by hand, as that of the keywords
+impl Drop for Annotations {
     fn drop(self) {
-        let Notes { said: _ } = self;
+        let Annotations { said: _ } = self;
     }
 }
 
-impl Notes {
-    /// No notes. It takes no memory.
-    pub fn new() -> Notes
-        ensures { result ≡ no_notes }
+impl Annotations {
+    /// No annotations. It takes no memory.
+    pub fn new() -> Annotations
+        ensures { result ≡ no_annotations }
     {
-        Notes { said: None }
+        Annotations { said: None }
     }
 
-    /// Notes of these annotations.
-    pub fn of(alloc: Global, said: Annotations) -> Result<Notes, AllocError>
-        ensures { IfOk result (λ notes. notes ≡ said) }
+    /// Annotations of these keywords.
+    pub fn of(alloc: Global, said: AnnotationKeywords) -> Result<Annotations, AllocError>
+        ensures { IfOk result (λ annotations. annotations ≡ said) }
     {
-        Ok(Notes {
+        Ok(Annotations {
             said: Some(Box::new(alloc, said)?),
         })
     }
 
-    /// The annotations; where there are none, perhaps nothing.
-    pub fn said(&self) -> Option<&Annotations>
+    /// The keywords; where there are none, perhaps nothing.
+    pub fn said(&self) -> Option<&AnnotationKeywords>
         ensures { said_by (option_map (λ said. said.now) result) ≡ self.now }
     {
         match &self.said {
@@ -131,13 +131,13 @@ impl Notes {
         }
     }
 
-    /// Other notes that say the same.
-    pub fn copy(&self, alloc: Global) -> Result<Notes, AllocError>
+    /// Other annotations that say the same.
+    pub fn copy(&self, alloc: Global) -> Result<Annotations, AllocError>
         ensures { IfOk result (λ copy. copy ≡ self.now) }
     {
         match &self.said {
-            Some(said) => Notes::of(alloc, said.copy(alloc)?),
-            None => Ok(Notes::new()),
+            Some(said) => Annotations::of(alloc, said.copy(alloc)?),
+            None => Ok(Annotations::new()),
         }
     }
 }

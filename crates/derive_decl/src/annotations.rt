@@ -3,10 +3,10 @@
 ghost use Rattle.std.specs.Prelude.{◌≡◌, map, IfOk};
 ghost use Rattle.attributes.specs.Attributes.{attribute_view};
 ghost use Rattle.derive_decl.specs.Fields.{is_deprecated};
-ghost use Rattle.derive_decl.specs.Resolved.{description_of, remarks_of};
+ghost use Rattle.derive_decl.specs.Resolved.{description_of, annotations_of};
 
 use scopes::ComponentDescription;
-use shapes::Remarks;
+use shapes::Annotations;
 use std::alloc::{AllocError, Global};
 use syntax::{Attribute, CommentAttributes};
 use texts::Text;
@@ -33,10 +33,11 @@ fn description_of(alloc: Global, attributes: &[Attribute]) -> Result<Option<Text
 }
 
 /// What the attributes say of the declaration, the variant or the field that they stand before.
-pub fn remarks_of(alloc: Global, attributes: &[Attribute]) -> Result<Remarks, AllocError>
-    ensures { IfOk result (λ remarks. remarks ≡ remarks_of (map attribute_view attributes.now)) }
+pub fn annotations_of(alloc: Global, attributes: &[Attribute]) -> Result<Annotations, AllocError>
+    ensures { IfOk result
+        (λ annotations. annotations ≡ annotations_of (map attribute_view attributes.now)) }
 {
-    Ok(Remarks {
+    Ok(Annotations {
         deprecated: is_deprecated(attributes),
         description: description_of(alloc, attributes)?,
     })

@@ -1,8 +1,8 @@
 use texts::Text;
 
-/// What is said of a declaration or a field beside its type.
+/// What is said of a declaration, a variant or a member beside its type.
 #[derive(Debug, Drop)]
-pub struct Remarks {
+pub struct Annotations {
     /// Whether it is deprecated.
     pub deprecated: bool,
     /// What it is for.

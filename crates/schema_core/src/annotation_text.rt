@@ -1,21 +1,21 @@
-//! Notes as text.
+//! Annotations as text.
 
 ghost use Rattle.std.specs.Prelude.{◌≡◌, ◌∷◌, [], codes, IfOk, option_map, string_bytes};
 ghost use Rattle.acceptance.specs.Json.{boolean, text as json_text};
-ghost use Rattle.schema_core.specs.Writes.{Writes, first_notes, example_notes};
+ghost use Rattle.schema_core.specs.Writes.{Writes, first_annotations, example_annotations};
 
 use crate::pushes::{push_json, push_jsons, push_text, push_truth};
-use schema_trees::{Annotations, Notes};
+use schema_trees::{AnnotationKeywords, Annotations};
 use std::alloc::{AllocError, Global};
 
-/// Adds the annotations whose names stand first.
-fn push_first_annotations(
+/// Adds the keywords whose names stand first.
+fn push_first_keywords(
     alloc: Global,
     text: &mut String,
     later: bool,
-    said: &Annotations,
+    said: &AnnotationKeywords,
 ) -> Result<bool, AllocError>
-    ensures { IfOk result (λ went. Writes (first_notes said.now) later
+    ensures { IfOk result (λ went. Writes (first_annotations said.now) later
         (string_bytes text.old) went (string_bytes text.new)) }
 {
     let later = push_text(
@@ -37,19 +37,19 @@ fn push_first_annotations(
     push_text(alloc, text, later, "\"description\":", &said.description)
 }
 
-/// Adds the notes whose names stand first.
-pub(crate) fn push_first_notes(
+/// Adds the annotations whose names stand first.
+pub(crate) fn push_first_annotations(
     alloc: Global,
     text: &mut String,
     later: bool,
-    notes: &Notes,
+    annotations: &Annotations,
 ) -> Result<bool, AllocError>
-    ensures { IfOk result (λ went. Writes (first_notes notes.now) later
+    ensures { IfOk result (λ went. Writes (first_annotations annotations.now) later
         (string_bytes text.old) went (string_bytes text.new)) }
 {
-    match notes.said() {
+    match annotations.said() {
         None => Ok(later),
-        Some(said) => push_first_annotations(alloc, text, later, said),
+        Some(said) => push_first_keywords(alloc, text, later, said),
     }
 }
 
@@ -58,12 +58,12 @@ pub(crate) fn push_examples(
     alloc: Global,
     text: &mut String,
     later: bool,
-    notes: &Notes,
+    annotations: &Annotations,
 ) -> Result<bool, AllocError>
-    ensures { IfOk result (λ went. Writes (example_notes notes.now) later
+    ensures { IfOk result (λ went. Writes (example_annotations annotations.now) later
         (string_bytes text.old) went (string_bytes text.new)) }
 {
-    match notes.said() {
+    match annotations.said() {
         None => Ok(later),
         Some(said) => {
             let later = push_json(alloc, text, later, "\"example\":", &said.example)?;
@@ -76,13 +76,13 @@ pub(crate) fn push_examples(
 pub(crate) fn push_read_only(
     text: &mut String,
     later: bool,
-    notes: &Notes,
+    annotations: &Annotations,
 ) -> Result<bool, AllocError>
     ensures { IfOk result (λ went. Writes
-        ((codes "readOnly", option_map boolean notes.now.read_only) ∷ []) later
+        ((codes "readOnly", option_map boolean annotations.now.read_only) ∷ []) later
         (string_bytes text.old) went (string_bytes text.new)) }
 {
-    match notes.said() {
+    match annotations.said() {
         None => Ok(later),
         Some(said) => push_truth(text, later, "\"readOnly\":", said.read_only),
     }
@@ -93,13 +93,13 @@ pub(crate) fn push_title(
     alloc: Global,
     text: &mut String,
     later: bool,
-    notes: &Notes,
+    annotations: &Annotations,
 ) -> Result<bool, AllocError>
     ensures { IfOk result (λ went. Writes
-        ((codes "title", option_map json_text notes.now.title) ∷ []) later
+        ((codes "title", option_map json_text annotations.now.title) ∷ []) later
         (string_bytes text.old) went (string_bytes text.new)) }
 {
-    match notes.said() {
+    match annotations.said() {
         None => Ok(later),
         Some(said) => push_text(alloc, text, later, "\"title\":", &said.title),
     }
@@ -109,13 +109,13 @@ pub(crate) fn push_title(
 pub(crate) fn push_write_only(
     text: &mut String,
     later: bool,
-    notes: &Notes,
+    annotations: &Annotations,
 ) -> Result<bool, AllocError>
     ensures { IfOk result (λ went. Writes
-        ((codes "writeOnly", option_map boolean notes.now.write_only) ∷ []) later
+        ((codes "writeOnly", option_map boolean annotations.now.write_only) ∷ []) later
         (string_bytes text.old) went (string_bytes text.new)) }
 {
-    match notes.said() {
+    match annotations.said() {
         None => Ok(later),
         Some(said) => push_truth(text, later, "\"writeOnly\":", said.write_only),
     }

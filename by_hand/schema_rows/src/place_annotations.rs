@@ -1,12 +1,12 @@
 //! What is said of a place beside its type.
 
 use crate::forms::form_text;
-use crate::notes::text;
+use crate::annotations::text;
 use crate::term_rows::term_text;
-use component::{Place, noted, null_default, place_term};
+use component::{Place, annotated, null_default, place_term};
 use open_types::OpenType;
 use rows::given::{count_at, is_said, items_at};
-use schema_core::{Notes, RefLeaf, Tree};
+use schema_core::{Annotations, RefLeaf, Tree};
 use scopes::ComponentDescription;
 use serde_json::Value;
 use std::alloc::{AllocError, Global};
@@ -35,17 +35,17 @@ pub(crate) fn description(alloc: Global, given: &Value) -> Result<String, AllocE
     String::from_str(alloc, told)
 }
 
-/// Notes of what the row says.
-fn notes_of(alloc: Global, given: &Value) -> Result<Notes, AllocError> {
+/// Annotations of what the row says.
+fn annotations_of(alloc: Global, given: &Value) -> Result<Annotations, AllocError> {
     let description = text(alloc, given, "description")?;
-    noted(alloc, is_said(given, "deprecated"), &description)
+    annotated(alloc, is_said(given, "deprecated"), &description)
 }
 
-/// The JSON of a reference with the row's notes.
-pub(crate) fn noted_form(alloc: Global, given: &Value) -> Result<String, AllocError> {
-    let notes = notes_of(alloc, given)?;
+/// The JSON of a reference with the row's annotations.
+pub(crate) fn annotated_form(alloc: Global, given: &Value) -> Result<String, AllocError> {
+    let annotations = annotations_of(alloc, given)?;
     let name = Text::new(alloc, "A")?;
-    form_text(alloc, Tree::Leaf(RefLeaf { name, notes }))
+    form_text(alloc, Tree::Leaf(RefLeaf { name, annotations }))
 }
 
 /// The JSON of null as a default.

@@ -2,7 +2,7 @@ use Rattle.std.proofs.Common.{refl, codes}
 use Rattle.std.proofs.lemmas.Result.{IfOk-weaker}
 use Rattle.json.specs.Print.{escape_byte}
 use Rattle.schema_core.proofs.Writes.{then}
-use Rattle.schema_core.proofs.note_text.push_first_annotations.Goals as goal
+use Rattle.schema_core.proofs.annotation_text.push_first_keywords.Goals as goal
 
 pub returns : goal.returns
 unfolding escape_byte
