@@ -1,12 +1,12 @@
 -- Small sources, computed: what is inline and what is referred to, components, and schemas.
-use Rattle.std.proofs.Common.{ℕ, List, [], ◌∷◌, true, false, None, codes, ◌≡◌, refl, inl, arith}
+use Rattle.std.proofs.Common.{ℕ, List, [], ◌∷◌, true, false, codes, ◌≡◌, refl, inl, arith}
 use Rattle.schema_trees.specs.declared.tree.TypeWord.TheVariants.{Any}
 use Rattle.schema_trees.specs.declared.tree.RefLeaf.{RefLeaf}
 use Rattle.schema_trees.specs.Annotations.{no_annotations}
 use Rattle.schema_trees.specs.Objects.{only_word}
 use Rattle.schema_trees.specs.Schema.{SchemaOf, leaf, no_properties, property}
 use Rattle.open_types.specs.Open.{Open, any_value, tuple, param, named, no_types, more_types}
-use Rattle.component.specs.Places.{place}
+use Rattle.component.specs.Places.{inside, place}
 use Rattle.shapes.specs.Declarations.{named_fields, unnamed_fields, fields, FormOf, DeclarationOf, unannotated}
 use Rattle.terms.specs.Terms.{object_of}
 use Rattle.shapes.specs.InstanceNames.{instance_name}
@@ -59,10 +59,10 @@ page_schema : instance_schema pages page ≡ an_object (an_object (only_word Any
 page_schema = refl
 
 -- a place of Item<Value>: of a field, and of an argument
-item_field : (closed_place pages false item ≡ a_reference (codes "Item_Value")) × (referred_in (place false false false None item) ≡ item ∷ [])
+item_field : (closed_place pages false item ≡ a_reference (codes "Item_Value")) × (referred_in (place (inside false) item) ≡ item ∷ [])
 item_field = (refl, refl)
 
-item_argument : (closed_place pages true item ≡ instance_schema pages item) × (inline_in (place false true false None item) ≡ item ∷ [])
+item_argument : (closed_place pages true item ≡ instance_schema pages item) × (inline_in (place (inside true) item) ≡ item ∷ [])
 item_argument = (refl, refl)
 
 -- struct G<T> { v: P<T> }  struct P<T> { v: T }  struct R { v: (G<Value>, Value) }: P<Value> is a component through what is inline in R

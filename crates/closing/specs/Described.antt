@@ -1,5 +1,5 @@
 -- The components of instances, and what their document says.
-use Rattle.std.specs.Prelude.{◌≡◌, ◌<◌, ◌↔◌, ℕ, List, [], ◌∷◌, length, Bool, true, false, None, Some, is_some, IsTrue}
+use Rattle.std.specs.Prelude.{◌≡◌, ◌<◌, ◌↔◌, ℕ, List, [], ◌∷◌, length, Bool, true, false, Some, is_some, IsTrue}
 use Rattle.acceptance.specs.Json.{Json}
 use Rattle.acceptance.specs.Acceptance.{component_schema, Accepts}
 use Rattle.acceptance.specs.References.{EachReference}
@@ -10,7 +10,7 @@ use Rattle.schema_core.specs.Form.{form}
 use Rattle.schema_core.specs.Document.{Entry, document}
 use Rattle.schema_core.specs.Entries.{find, entry_names, IsInOrder}
 use Rattle.open_types.specs.Open.{Open}
-use Rattle.component.specs.Places.{place}
+use Rattle.component.specs.Places.{inside, place}
 use Rattle.shapes.specs.Declarations.{DeclarationOf, AreApartBodies}
 use Rattle.shapes.specs.Shape.{type_shape}
 use Rattle.shapes.specs.Plain.{IsPlainType}
@@ -88,20 +88,20 @@ ShallowByNumbers = (ss : List DeclarationOf) (is : List Open) → AreInstances s
 
 -- the schema of a place of a closed type, as that of a field or, inline, as that of an argument at a parameter's place
 abbrev pub closed_place : List DeclarationOf → Bool → Open → SchemaOf RefLeaf
-closed_place ss inline t = bind (put ss (closed ss most_inlined)) (place false inline false None t)
+closed_place ss inline t = bind (put ss (closed ss most_inlined)) (place (inside inline) t)
 
 -- The law: a place of a plain type accepts exactly what has the shape of the type, where what it refers to is a plain component, and what is inline there a plain reachable instance whose references lead to components.
 abbrev pub PlacesDescribe : Type 0
 PlacesDescribe = (ss : List DeclarationOf) (all : Bool) (components : List Entry) → AreApartBodies ss → AreShallow ss → AreComponents ss all components →
     (inline : Bool) (t : Open) → IsPlainType ss t →
-    ((u : Open) → IsOneOf u (referred_in (place false inline false None t)) → IsComponent ss all u × IsPlain ss u) →
-    ((u : Open) → IsOneOf u (inline_in (place false inline false None t)) → IsReachable ss u × IsPlain ss u × LeadsToComponents ss all u) → (v : Json) →
+    ((u : Open) → IsOneOf u (referred_in (place (inside inline) t)) → IsComponent ss all u × IsPlain ss u) →
+    ((u : Open) → IsOneOf u (inline_in (place (inside inline) t)) → IsReachable ss u × IsPlain ss u × LeadsToComponents ss all u) → (v : Json) →
     Accepts (document components) (form (closed_place ss inline t)) v ↔ ((depth : ℕ) × IsTrue (type_shape (shape ss depth) t v))
 
 -- The law: a place of any type accepts the same inline and not, where what it refers to is a component.
 abbrev pub PlacesAgree : Type 0
 PlacesAgree = (ss : List DeclarationOf) (all : Bool) (components : List Entry) → AreApartBodies ss → AreComponents ss all components →
-    (t : Open) → ((u : Open) → IsOneOf u (referred_in (place false false false None t)) → IsComponent ss all u) → (v : Json) →
+    (t : Open) → ((u : Open) → IsOneOf u (referred_in (place (inside false) t)) → IsComponent ss all u) → (v : Json) →
     Accepts (document components) (form (closed_place ss true t)) v ↔ Accepts (document components) (form (closed_place ss false t)) v
 
 -- The law: the term of an instance, with the schemas of its targets put in, is the schema of the instance.

@@ -1,42 +1,48 @@
 -- The declarations at the leaves of a place's schema.
-use Rattle.std.proofs.Common.{ℕ, List, [], ◌∷◌, ◌++◌, Bool, true, false, Option, Some, None, ◌≡◌, refl, ap, ◌∙◌}
+use Rattle.std.proofs.Common.{ℕ, List, [], ◌∷◌, ◌++◌, Bool, true, false, cond, Option, Some, None, ◌≡◌, refl, ap, ◌∙◌}
+use Rattle.schema_trees.specs.Annotations.{no_annotations, described}
+use Rattle.schema_trees.specs.Schema as tree
 use Rattle.open_types.specs.Open.{Open, Opens, leaf, any_value, free_object, unit, tuple, items, set, map_of, option, through, param, named, no_types, more_types}
-use Rattle.component.specs.Places.{place, inline_places, declared, argument}
-use Rattle.component.specs.References.{references, item_references, named_leaves, schema_leaves}
+use Rattle.component.specs.Leaves.{LeafOf}
+use Rattle.component.specs.Leaves as leaves
+use Rattle.component.specs.Places.{PlaceOf, inside, with_null, or_null, in_place, leaf_at, place, inline_places}
+use Rattle.component.specs.References.{references, item_references, leaf_references, named_leaves, schema_leaves}
 
 append_none : {A : Type 0} (xs : List A) → xs ++ [] ≡ xs
 append_none [] = refl
 append_none (x ∷ xs) = ap (λ ys. x ∷ ys) (append_none xs)
 
-argument-leaves : (n inline : Bool) (description : Option (List ℕ)) (i : ℕ) → named_leaves (argument n inline description i) ≡ []
-argument-leaves false false description i = refl
-argument-leaves true false description i = refl
-argument-leaves false true None i = refl
-argument-leaves false true (Some text) i = refl
-argument-leaves true true description i = refl
+or_null-leaves : (nullable : Bool) (x : LeafOf) → named_leaves (or_null nullable (tree.leaf x)) ≡ leaf_references x
+or_null-leaves false x = refl
+or_null-leaves true x = append_none (leaf_references x)
 
-declared-leaves : (n inline : Bool) (description : Option (List ℕ)) (d : ℕ) (ts : Opens) → named_leaves (declared n inline description (named d ts)) ≡ references inline (named d ts)
-declared-leaves false false description d ts = refl
-declared-leaves true false description d ts = refl
-declared-leaves false true None d ts = refl
-declared-leaves false true (Some text) d ts = refl
-declared-leaves true true description d ts = refl
+in_place-leaves : (nullable : Bool) (description : Option (List ℕ)) (x : LeafOf) → named_leaves (in_place nullable description (tree.leaf x)) ≡ leaf_references x
+in_place-leaves false None x = refl
+in_place-leaves false (Some text) x = append_none (leaf_references x)
+in_place-leaves true description x = append_none (leaf_references x)
+
+leaf-leaves : (at : PlaceOf) (x : LeafOf) → named_leaves (leaf_at at x) ≡ leaf_references x
+leaf-leaves at x = by at.inline
+  where
+    by : (inline : Bool) → named_leaves (cond inline (in_place at.nullable at.description (tree.leaf x)) (or_null at.nullable (tree.leaf x))) ≡ leaf_references x
+    by true = in_place-leaves at.nullable at.description x
+    by false = or_null-leaves at.nullable x
 
 mutual
-  pub place-leaves : (n inline deprecated : Bool) (description : Option (List ℕ)) (t : Open) → named_leaves (place n inline deprecated description t) ≡ references inline t
-  place-leaves n inline deprecated description (leaf x) = refl
-  place-leaves n inline deprecated description any_value = refl
-  place-leaves n inline deprecated description free_object = refl
-  place-leaves n inline deprecated description unit = refl
-  place-leaves n inline deprecated description (tuple ts) = append_none (schema_leaves (inline_places ts)) ∙ items-leaves ts
-  place-leaves n inline deprecated description (items h t) = place-leaves false inline false None t
-  place-leaves n inline deprecated description (set h t) = place-leaves false inline false None t
-  place-leaves n inline deprecated description (map_of h k t) = λ i. place-leaves false true false None k i ++ place-leaves false inline false None t i
-  place-leaves n inline deprecated description (option t) = place-leaves true inline deprecated description t
-  place-leaves n inline deprecated description (through h t) = place-leaves n inline deprecated description t
-  place-leaves n inline deprecated description (param i) = argument-leaves n inline description i
-  place-leaves n inline deprecated description (named d ts) = declared-leaves n inline description d ts
+  pub place-leaves : (at : PlaceOf) (t : Open) → named_leaves (place at t) ≡ references at.inline t
+  place-leaves at (leaf x) = refl
+  place-leaves at any_value = refl
+  place-leaves at free_object = refl
+  place-leaves at unit = refl
+  place-leaves at (tuple ts) = append_none (schema_leaves (inline_places ts)) ∙ items-leaves ts
+  place-leaves at (items h t) = place-leaves (inside at.inline) t
+  place-leaves at (set h t) = place-leaves (inside at.inline) t
+  place-leaves at (map_of h k t) = λ i. place-leaves (inside true) k i ++ place-leaves (inside at.inline) t i
+  place-leaves at (option t) = place-leaves (with_null at) t
+  place-leaves at (through h t) = place-leaves at t
+  place-leaves at (param j) = leaf-leaves at (leaves.param j)
+  place-leaves at (named d ts) = leaf-leaves at (leaves.named (named d ts) at.inline (cond at.inline no_annotations (described at.description)))
 
   items-leaves : (ts : Opens) → schema_leaves (inline_places ts) ≡ item_references ts
   items-leaves no_types = refl
-  items-leaves (more_types t ts) = λ i. place-leaves false true false None t i ++ items-leaves ts i
+  items-leaves (more_types t ts) = λ i. place-leaves (inside true) t i ++ items-leaves ts i

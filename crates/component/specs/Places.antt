@@ -17,6 +17,7 @@ use Rattle.leaves.specs.declared.leaf.LeafKind.TheVariants as kinds
 use Rattle.leaves.specs.Leaves.{kind_of, format_of}
 use Rattle.open_types.specs.Open.{Open, Opens, leaf, any_value, free_object, unit, tuple, items, set, map_of, option, through, no_types, more_types}
 use Rattle.open_types.specs.Open as types
+use Rattle.component.specs.declared.place.Place.{Place}
 use Rattle.component.specs.Leaves.{LeafOf, param, named}
 
 -- the word of `type` for a kind, and the least number, where there is one
@@ -85,36 +86,59 @@ map_object nullable annotations names values =
 
 -- ---- places
 
--- a declaration: a reference, or its schema in place
-abbrev pub declared : Bool → Bool → Option (List ℕ) → Open → SchemaOf LeafOf
-declared nullable false description t = or_null nullable (tree.leaf (named t false (described description)))
-declared nullable true description t = in_place nullable description (tree.leaf (named t true no_annotations))
+-- A place, beside its type: whether null may stand there, whether declarations are inline, whether it is deprecated, and its description.
+pub record PlaceOf : Type 0 where
+  pub nullable : Bool
+  pub inline : Bool
+  pub deprecated : Bool
+  pub description : Option (List ℕ)
+
+abbrev pub place_view : Place → PlaceOf
+place_view at = record { nullable = at.nullable; inline = at.inline; deprecated = at.deprecated; description = at.description.now }
+
+-- a place inside another: an element, a name or a value
+abbrev pub inside : Bool → PlaceOf
+inside inline = record { nullable = false; inline = inline; deprecated = false; description = None }
+
+-- the place, where null may stand too
+abbrev pub with_null : PlaceOf → PlaceOf
+with_null at = record at { nullable = true }
+
+abbrev pub annotations_at : PlaceOf → Annotations
+annotations_at at = annotated at.deprecated at.description
+
+-- a leaf, which stands there itself where it is inline
+abbrev pub leaf_at : PlaceOf → LeafOf → SchemaOf LeafOf
+leaf_at at x = cond at.inline (in_place at.nullable at.description (tree.leaf x)) (or_null at.nullable (tree.leaf x))
+
+-- a declaration: a reference with its description, or its schema in place
+abbrev pub declared : PlaceOf → Open → SchemaOf LeafOf
+declared at t = leaf_at at (named t at.inline (cond at.inline no_annotations (described at.description)))
 
 -- the schema of an argument, which has no description but where it is inline
-abbrev pub argument : Bool → Bool → Option (List ℕ) → ℕ → SchemaOf LeafOf
-argument nullable false description i = or_null nullable (tree.leaf (param i))
-argument nullable true description i = in_place nullable description (tree.leaf (param i))
+abbrev pub argument : PlaceOf → ℕ → SchemaOf LeafOf
+argument at i = leaf_at at (param i)
 
--- The schema of a place of the type: whether null may stand there, whether declarations are inline, whether it is deprecated, and its description.
+-- the schema of a place of the type
 abbrev mutual
-  pub place : (nullable inline deprecated : Bool) → Option (List ℕ) → Open → SchemaOf LeafOf
-  place nullable inline deprecated description (leaf x) = leaf_object nullable (annotated deprecated description) x
-  place nullable inline deprecated description any_value = only_word Any (annotated deprecated description)
-  place nullable inline deprecated description free_object = only_word (type_word nullable word.Object) (annotated deprecated description)
-  place nullable inline deprecated description unit = only_word Any (null_default None)
-  place nullable inline deprecated description (tuple ts) = tuple_of nullable (annotated deprecated description) (inline_places ts)
-  place nullable inline deprecated description (items h t) = list_of false nullable (annotated deprecated description) (place false inline false None t)
-  place nullable inline deprecated description (set h t) = list_of true nullable (annotated deprecated description) (place false inline false None t)
-  place nullable inline deprecated description (map_of h k t) = map_object nullable (annotated deprecated description) (place false true false None k) (place false inline false None t)
-  place nullable inline deprecated description (option t) = place true inline deprecated description t
-  place nullable inline deprecated description (through h t) = place nullable inline deprecated description t
-  place nullable inline deprecated description (types.param i) = argument nullable inline description i
-  place nullable inline deprecated description (types.named d ts) = declared nullable inline description (types.named d ts)
+  pub place : PlaceOf → Open → SchemaOf LeafOf
+  place at (leaf x) = leaf_object at.nullable (annotations_at at) x
+  place at any_value = only_word Any (annotations_at at)
+  place at free_object = only_word (type_word at.nullable word.Object) (annotations_at at)
+  place at unit = only_word Any (null_default None)
+  place at (tuple ts) = tuple_of at.nullable (annotations_at at) (inline_places ts)
+  place at (items h t) = list_of false at.nullable (annotations_at at) (place (inside at.inline) t)
+  place at (set h t) = list_of true at.nullable (annotations_at at) (place (inside at.inline) t)
+  place at (map_of h k t) = map_object at.nullable (annotations_at at) (place (inside true) k) (place (inside at.inline) t)
+  place at (option t) = place (with_null at) t
+  place at (through h t) = place at t
+  place at (types.param i) = argument at i
+  place at (types.named d ts) = declared at (types.named d ts)
 
   -- the items of a tuple
   pub inline_places : Opens → SchemasOf LeafOf
   inline_places no_types = no_schemas
-  inline_places (more_types t ts) = schema (place false true false None t) (inline_places ts)
+  inline_places (more_types t ts) = schema (place (inside true) t) (inline_places ts)
 
 -- the type of a parameter of a request: where it is an option, null need not be said
 abbrev pub without_option : Open → Open

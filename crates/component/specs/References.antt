@@ -1,12 +1,12 @@
 -- The declarations that the schema of a place names, in the order in which it is made.
-use Rattle.std.specs.Prelude.{◌≡◌, ℕ, List, [], ◌∷◌, ◌++◌, Bool, true, false, Option}
+use Rattle.std.specs.Prelude.{◌≡◌, List, [], ◌∷◌, ◌++◌, Bool, true, false}
 use Rattle.schema_trees.specs.Schema.{SchemaOf, SchemasOf, PropertiesOf, PartOf}
 use Rattle.schema_trees.specs.Schema as tree
 use Rattle.open_types.specs.Open.{Open, Opens, leaf, any_value, free_object, unit, tuple, items, set, map_of, option, through, param, named, no_types, more_types, open_view}
 use Rattle.component.specs.declared.references.SchemaReference.{SchemaReference}
 use Rattle.component.specs.Leaves.{LeafOf}
 use Rattle.component.specs.Leaves as leaves
-use Rattle.component.specs.Places.{place}
+use Rattle.component.specs.Places.{PlaceOf, place}
 
 -- a declaration with its arguments, and whether its schema stands there itself
 pub record ReferenceOf : Type 0 where
@@ -67,4 +67,4 @@ abbrev mutual
 
 -- The law: the references of a place are the declarations at the leaves of its schema.
 abbrev pub ReferencesAreLeaves : Type 0
-ReferencesAreLeaves = (nullable inline deprecated : Bool) (description : Option (List ℕ)) (t : Open) → named_leaves (place nullable inline deprecated description t) ≡ references inline t
+ReferencesAreLeaves = (at : PlaceOf) (t : Open) → named_leaves (place at t) ≡ references at.inline t

@@ -1,12 +1,11 @@
 //! The schema of a place by its type.
 
-ghost use Rattle.std.specs.Prelude.{◌≡◌, IfOk, None, false};
+ghost use Rattle.std.specs.Prelude.{◌≡◌, IfOk};
 ghost use Rattle.schema_trees.specs.Schema.{tree_views};
 ghost use Rattle.open_types.specs.Open.{open_view, opens_view};
 ghost use Rattle.component.specs.Leaves.{leaf_view, term_view};
-ghost use Rattle.schema_trees.specs.Annotations.{annotated};
 ghost use Rattle.schema_trees.specs.Objects.{only_word};
-ghost use Rattle.component.specs.Places.{type_word, leaf_object, tuple_of, list_of, map_object, place, inline_places, declared, argument};
+ghost use Rattle.component.specs.Places.{place_view, inside, annotations_at, type_word, leaf_object, tuple_of, list_of, map_object, place, inline_places, declared, argument};
 
 use crate::schemas::{
     annotated, any_object, in_place, leaf_object, list_of, map_object, null_default, only_word,
@@ -32,9 +31,7 @@ pub struct Place<'d> {
 
 /// The schema of a declaration: a reference to it, or its schema in place.
 fn declared(alloc: Global, at: Place<'_>, ty: &OpenType) -> Result<Term, AllocError>
-    ensures { IfOk result
-        (λ s. term_view s ≡ declared at.entry.nullable at.entry.inline at.entry.description.now
-        (open_view ty.now)) }
+    ensures { IfOk result (λ s. term_view s ≡ declared (place_view at.entry) (open_view ty.now)) }
 {
     let of = ty.copy(alloc)?;
     if at.inline {
@@ -58,9 +55,7 @@ fn declared(alloc: Global, at: Place<'_>, ty: &OpenType) -> Result<Term, AllocEr
 
 /// The schema of the argument for the parameter at a place.
 fn argument(alloc: Global, at: Place<'_>, parameter: usize) -> Result<Term, AllocError>
-    ensures { IfOk result
-        (λ s. term_view s ≡ argument at.entry.nullable at.entry.inline at.entry.description.now
-        parameter) }
+    ensures { IfOk result (λ s. term_view s ≡ argument (place_view at.entry) parameter) }
 {
     let leaf = Tree::Leaf(TermLeaf::Param(parameter));
     if at.inline {
@@ -71,9 +66,8 @@ fn argument(alloc: Global, at: Place<'_>, parameter: usize) -> Result<Term, Allo
 }
 
 /// Annotations of what is said of the place.
-fn annotations_of(alloc: Global, at: Place<'_>) -> Result<Annotations, AllocError>
-    ensures { IfOk result
-        (λ annotations. annotations ≡ annotated at.entry.deprecated at.entry.description.now) }
+fn annotations_at(alloc: Global, at: Place<'_>) -> Result<Annotations, AllocError>
+    ensures { IfOk result (λ annotations. annotations ≡ annotations_at (place_view at.entry)) }
 {
     annotated(alloc, at.deprecated, at.description)
 }
@@ -81,56 +75,54 @@ fn annotations_of(alloc: Global, at: Place<'_>) -> Result<Annotations, AllocErro
 fn leaf_place(alloc: Global, at: Place<'_>, leaf: Leaf) -> Result<Term, AllocError>
     ensures { IfOk result
         (λ s. term_view s
-        ≡ leaf_object at.entry.nullable
-        (annotated at.entry.deprecated at.entry.description.now) leaf) }
+        ≡ leaf_object at.entry.nullable (annotations_at (place_view at.entry)) leaf) }
 {
-    leaf_object(alloc, at.nullable, annotations_of(alloc, at)?, leaf)
+    leaf_object(alloc, at.nullable, annotations_at(alloc, at)?, leaf)
 }
 
 fn any_place(alloc: Global, at: Place<'_>) -> Result<Term, AllocError>
     ensures { IfOk result
-        (λ s. term_view s
-        ≡ only_word TypeWord.Any (annotated at.entry.deprecated at.entry.description.now)) }
+        (λ s. term_view s ≡ only_word TypeWord.Any (annotations_at (place_view at.entry))) }
 {
-    only_word(alloc, TypeWord::Any, annotations_of(alloc, at)?)
+    only_word(alloc, TypeWord::Any, annotations_at(alloc, at)?)
 }
 
 fn object_place(alloc: Global, at: Place<'_>) -> Result<Term, AllocError>
     ensures { IfOk result
         (λ s. term_view s ≡ only_word (type_word at.entry.nullable SchemaTypeInner.Object)
-        (annotated at.entry.deprecated at.entry.description.now)) }
+        (annotations_at (place_view at.entry))) }
 {
-    any_object(alloc, at.nullable, annotations_of(alloc, at)?)
+    any_object(alloc, at.nullable, annotations_at(alloc, at)?)
 }
 
 fn tuple_place(alloc: Global, at: Place<'_>, items: List<Term>) -> Result<Term, AllocError>
     ensures { IfOk result
         (λ s. term_view s
-        ≡ tuple_of at.entry.nullable (annotated at.entry.deprecated at.entry.description.now)
+        ≡ tuple_of at.entry.nullable (annotations_at (place_view at.entry))
         (tree_views leaf_view items)) }
 {
-    tuple_of(alloc, at.nullable, annotations_of(alloc, at)?, items)
+    tuple_of(alloc, at.nullable, annotations_at(alloc, at)?, items)
 }
 
 fn list_place(alloc: Global, at: Place<'_>, unique: bool, item: Term) -> Result<Term, AllocError>
     ensures { IfOk result
         (λ s. term_view s
-        ≡ list_of unique at.entry.nullable (annotated at.entry.deprecated at.entry.description.now)
+        ≡ list_of unique at.entry.nullable (annotations_at (place_view at.entry))
         (term_view item)) }
 {
-    list_of(alloc, unique, at.nullable, annotations_of(alloc, at)?, item)
+    list_of(alloc, unique, at.nullable, annotations_at(alloc, at)?, item)
 }
 
 fn map_place(alloc: Global, at: Place<'_>, names: Term, values: Term) -> Result<Term, AllocError>
     ensures { IfOk result
         (λ s. term_view s
-        ≡ map_object at.entry.nullable (annotated at.entry.deprecated at.entry.description.now)
+        ≡ map_object at.entry.nullable (annotations_at (place_view at.entry))
         (term_view names) (term_view values)) }
 {
     map_object(
         alloc,
         at.nullable,
-        annotations_of(alloc, at)?,
+        annotations_at(alloc, at)?,
         names,
         values,
     )
@@ -138,9 +130,7 @@ fn map_place(alloc: Global, at: Place<'_>, names: Term, values: Term) -> Result<
 
 /// The schema of a place of the type.
 pub fn place_term(alloc: Global, at: Place<'_>, ty: &OpenType) -> Result<Term, AllocError>
-    ensures { IfOk result
-        (λ s. term_view s ≡ place at.entry.nullable at.entry.inline at.entry.deprecated
-        at.entry.description.now (open_view ty.now)) }
+    ensures { IfOk result (λ s. term_view s ≡ place (place_view at.entry) (open_view ty.now)) }
 {
     typed_place(alloc, at, ty)
 }
@@ -148,7 +138,7 @@ pub fn place_term(alloc: Global, at: Place<'_>, ty: &OpenType) -> Result<Term, A
 /// The schema of a place inside another: an element, a name or a value.
 #[cycle(place)]
 fn inner_place(alloc: Global, inline: bool, ty: &OpenType) -> Result<Term, AllocError>
-    ensures { IfOk result (λ s. term_view s ≡ place false inline false None (open_view ty.now)) }
+    ensures { IfOk result (λ s. term_view s ≡ place (inside inline) (open_view ty.now)) }
 {
     let at = Place {
         nullable: false,
@@ -161,9 +151,7 @@ fn inner_place(alloc: Global, inline: bool, ty: &OpenType) -> Result<Term, Alloc
 
 #[cycle(place)]
 fn typed_place(alloc: Global, at: Place<'_>, ty: &OpenType) -> Result<Term, AllocError>
-    ensures { IfOk result
-        (λ s. term_view s ≡ place at.entry.nullable at.entry.inline at.entry.deprecated
-        at.entry.description.now (open_view ty.now)) }
+    ensures { IfOk result (λ s. term_view s ≡ place (place_view at.entry) (open_view ty.now)) }
 {
     match ty {
         OpenType::Option(of) => typed_place(

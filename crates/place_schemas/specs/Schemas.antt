@@ -10,18 +10,21 @@ use Rattle.place_schemas.specs.declared.component_schema.ComponentSchema.{Compon
 use Rattle.place_schemas.specs.declared.component_schema.ComponentSchemaProps.{ComponentSchemaProps}
 use Rattle.scopes.specs.Descriptions.{described_by}
 use Rattle.component.specs.Leaves.{term_view}
-use Rattle.component.specs.Places.{place, parameter_type}
+use Rattle.component.specs.Places.{PlaceOf, place, parameter_type}
 use Rattle.component.specs.References.{reference_view, references}
 
 -- the names that are known where the type is written
 abbrev pub known_at : ComponentSchemaProps → Known
 known_at props = known_in props.container.now.scope.now
 
+abbrev pub place_of : ComponentSchemaProps → PlaceOf
+place_of props = record { nullable = props.nullable; inline = props.inline; deprecated = props.deprecated; description = described_by props.description }
+
 -- The schema is that of the type that is written at the place, with the declarations that it names; where it is a parameter's, an option may not say null.
 pub record IsSchemaOf (option_is_nullable : Bool) (props : ComponentSchemaProps) (made : ComponentSchema) : Type 0 where
   pub of : Open
   pub resolved : resolved_type (known_at props) (written_view props.written.now) ≡ Some of
-  pub term : term_view made.term ≡ place props.nullable props.inline props.deprecated (described_by props.description) (parameter_type option_is_nullable of)
+  pub term : term_view made.term ≡ place (place_of props) (parameter_type option_is_nullable of)
   pub references : map reference_view made.schema_references ≡ references props.inline (parameter_type option_is_nullable of)
   pub warnings : made.warnings ≡ []
 

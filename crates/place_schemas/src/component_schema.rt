@@ -6,7 +6,7 @@ ghost use Rattle.open_types.specs.Open.{open_view};
 ghost use Rattle.scopes.specs.Descriptions.{described_by};
 ghost use Rattle.component.specs.Leaves.{term_view};
 ghost use Rattle.component.specs.Places.{place, without_option};
-ghost use Rattle.place_schemas.specs.Schemas.{IsSchemaOf, IsRefusedPlace};
+ghost use Rattle.place_schemas.specs.Schemas.{place_of, IsSchemaOf, IsRefusedPlace};
 
 use crate::to_term::ToTerm;
 use component::{Place, SchemaReference, Term, copy_term, place_term, references_of};
@@ -71,8 +71,7 @@ fn term_of(
     props: ComponentSchemaProps<'_, '_>,
     ty: &OpenType,
 ) -> Result<Term, AllocError>
-    ensures { IfOk result (λ t. term_view t ≡ place props.entry.nullable props.entry.inline
-        props.entry.deprecated (described_by props.entry.description) (open_view ty.now)) }
+    ensures { IfOk result (λ t. term_view t ≡ place (place_of props.entry) (open_view ty.now)) }
 {
     let description = description_of(alloc, props.description)?;
     let place = Place {

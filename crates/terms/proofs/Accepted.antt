@@ -8,7 +8,7 @@ use Rattle.texts.specs.Names.{is_in}
 use Rattle.schema_trees.specs.declared.tree.SchemaTypeInner.TheVariants as word
 use Rattle.schema_trees.specs.declared.tree.TypeWord.TheVariants.{Any, One}
 use Rattle.schema_trees.specs.declared.annotations.AnnotationKeywords.{AnnotationKeywords}
-use Rattle.schema_trees.specs.Annotations.{no_annotations, annotated, described}
+use Rattle.schema_trees.specs.Annotations.{no_annotations, described}
 use Rattle.schema_trees.specs.Schema.{SchemaOf, schema_count, property_names}
 use Rattle.schema_trees.specs.Schema as tree
 use Rattle.schema_core.specs.Form.{array_word}
@@ -22,13 +22,13 @@ use Rattle.open_types.specs.Laws.{SameIsEqual, SubstitutedNone}
 use Rattle.component.specs.Leaves.{LeafOf}
 use Rattle.component.specs.Leaves as named_leaf
 use Rattle.schema_trees.specs.Objects.{only_word}
-use Rattle.component.specs.Places.{word_of, minimum_of, type_word, one_of_null, or_null, beside, in_place, declared, argument, place, inline_places}
+use Rattle.component.specs.Places.{word_of, minimum_of, type_word, one_of_null, or_null, beside, in_place, PlaceOf, inside, with_null, annotations_at, leaf_at, declared, argument, place, inline_places}
 use Rattle.shapes.specs.declared.annotations.Annotations.{Annotations}
-use Rattle.shapes.specs.Declarations.{MemberOf, FormOf, named_fields, unnamed_fields, no_fields, DeclarationOf, member_types, member_names}
+use Rattle.shapes.specs.Declarations.{MemberOf, FormOf, named_fields, unnamed_fields, no_fields, DeclarationOf, member_types, member_names, unannotated}
 use Rattle.shapes.specs.Instances.{member_over, form_over}
 use Rattle.shapes.specs.Shape.{is_null, is_text, is_boolean, is_number, is_list, is_map, reads, type_shape, items_fit, member_fits, no_others, elements_fit, unnamed_shape, form_shape}
 use Rattle.shapes.specs.Plain.{IsPlainType, ArePlainTypes, AreAllPlain, IsPlainForm}
-use Rattle.terms.specs.Terms.{properties_of, required_names, object_of, are_all, alike_term, field_terms, mixed_term, unnamed_term, form_term, keywords_of}
+use Rattle.terms.specs.Terms.{field_place, properties_of, required_names, object_of, are_all, alike_term, field_terms, mixed_term, unnamed_term, form_term, keywords_of}
 use Rattle.terms.specs.Meaning.{leaf_shape}
 
 -- ---- conditions
@@ -255,41 +255,47 @@ module _ (ss : List DeclarationOf) (instance : Open → Json → Bool) (args : O
   either : (n : Bool) (v : Json) (a b : Bool) → a ≡ b → ((n && is_null v) || a) ≡ ((n && is_null v) || b)
   either n v a b e = ap (λ c. (n && is_null v) || c) e
 
-  declared-accepts : (n inline : Bool) (description : Option (List ℕ)) (d : ℕ) (ts : Opens) (v : Json) → tree_accepts says (declared n inline description (named d ts)) v ≡ ((n && is_null v) || has (named d ts) v)
-  declared-accepts n false description d ts v = nullable-accepts says n (tree.leaf (named_leaf.named (named d ts) false (described description))) v ∙ either n v _ _ (at_named d ts false (described description) v)
-  declared-accepts n true description d ts v = in_place-accepts says n description (tree.leaf (named_leaf.named (named d ts) true no_annotations)) v ∙ either n v _ _ (at_named d ts true no_annotations v)
+  leaf-accepts : (at : PlaceOf) (x : LeafOf) (v : Json) → tree_accepts says (leaf_at at x) v ≡ ((at.nullable && is_null v) || says x v)
+  leaf-accepts at x v = by at.inline
+    where
+      by : (inline : Bool) → tree_accepts says (cond inline (in_place at.nullable at.description (tree.leaf x)) (or_null at.nullable (tree.leaf x))) v ≡ ((at.nullable && is_null v) || says x v)
+      by true = in_place-accepts says at.nullable at.description (tree.leaf x) v
+      by false = nullable-accepts says at.nullable (tree.leaf x) v
 
-  argument-accepts : (n inline : Bool) (description : Option (List ℕ)) (j : ℕ) → IsPlainType ss (argument_at args j) → (v : Json) →
-      tree_accepts says (argument n inline description j) v ≡ ((n && is_null v) || type_shape instance (argument_at args j) v)
-  argument-accepts n false description j h v = nullable-accepts says n (tree.leaf (named_leaf.param j)) v ∙ either n v _ _ (at_param j h v)
-  argument-accepts n true description j h v = in_place-accepts says n description (tree.leaf (named_leaf.param j)) v ∙ either n v _ _ (at_param j h v)
+  declared-accepts : (at : PlaceOf) (d : ℕ) (ts : Opens) (v : Json) → tree_accepts says (declared at (named d ts)) v ≡ ((at.nullable && is_null v) || has (named d ts) v)
+  declared-accepts at d ts v =
+      let keywords : AnnotationKeywords = cond at.inline no_annotations (described at.description) in
+      leaf-accepts at (named_leaf.named (named d ts) at.inline keywords) v ∙ either at.nullable v _ _ (at_named d ts at.inline keywords v)
+
+  argument-accepts : (at : PlaceOf) (j : ℕ) → IsPlainType ss (argument_at args j) → (v : Json) → tree_accepts says (argument at j) v ≡ ((at.nullable && is_null v) || type_shape instance (argument_at args j) v)
+  argument-accepts at j h v = leaf-accepts at (named_leaf.param j) v ∙ either at.nullable v _ _ (at_param j h v)
 
   -- The schema of a place accepts null where it may be, and what has the shape of the type with its arguments.
   mutual
-    pub place-accepts : (n inline deprecated : Bool) (description : Option (List ℕ)) (t : Open) → IsPlainType ss (substituted args t) → (v : Json) →
-        tree_accepts says (place n inline deprecated description t) v ≡ ((n && is_null v) || has t v)
-    place-accepts n inline deprecated description (leaf x) h v = kind-accepts n (kind_of x) v h
-    place-accepts n inline deprecated description any_value h v = any-accepts says (annotated deprecated description) v ∙ or-true n (is_null v)
-    place-accepts n inline deprecated description free_object h v = object-accepts n v
-    place-accepts n inline deprecated description unit h v = absurd h
-    place-accepts n inline deprecated description (tuple ts) h v =
-        (λ i. word_accepts (array_word n) v && both-lists v (each_in_order says (inline_places ts)) (λ vs. list_all (λ w. false) (drop (schema_count (inline_places ts)) vs)) i)
-        ∙ (λ i. word_accepts (array_word n) v && on_list v (λ vs. places-accept ts h vs i))
-        ∙ list-accepts n v (items_fit instance (all_substituted args ts))
-    place-accepts n inline deprecated description (items x t) h v =
-        (λ i. word_accepts (array_word n) v && (on_list v (λ vs. true) && on_list v (list_all (λ w. place-accepts false inline false None t h w i)))) ∙ items-accept n v (list_all (has t))
-    place-accepts n inline deprecated description (set x t) h v =
-        (λ i. word_accepts (array_word n) v && (on_list v distinct && (on_list v (λ vs. true) && on_list v (list_all (λ w. place-accepts false inline false None t h w i)))))
-        ∙ distinct-accept n v (list_all (has t))
-    place-accepts n inline deprecated description (map_of x k t) h v =
-        (λ i. word_accepts (type_word n word.Object) v && (on_map v (λ es. true) && (on_map v (others_pass [] (λ w. place-accepts false inline false None t h.2 w i))
-        && (on_map v (names_pass (λ w. place-accepts false true false None k h.1 w i)) && (required_accepts [] v && true)))))
-        ∙ map-accepts n v (others_pass [] (has t)) (names_pass (has k))
-        ∙ (λ i. (n && is_null v) || is_map v (λ es. entries-pass (has k) (has t) es i))
-    place-accepts n inline deprecated description (option t) h v = place-accepts true inline deprecated description t h v ∙ or-twice n (is_null v) (has t v)
-    place-accepts n inline deprecated description (through x t) h v = place-accepts n inline deprecated description t h v
-    place-accepts n inline deprecated description (param j) h v = argument-accepts n inline description j h v
-    place-accepts n inline deprecated description (named d ts) h v = declared-accepts n inline description d ts v
+    pub place-accepts : (at : PlaceOf) (t : Open) → IsPlainType ss (substituted args t) → (v : Json) →
+        tree_accepts says (place at t) v ≡ ((at.nullable && is_null v) || has t v)
+    place-accepts at (leaf x) h v = kind-accepts at.nullable (kind_of x) v h
+    place-accepts at any_value h v = any-accepts says (annotations_at at) v ∙ or-true at.nullable (is_null v)
+    place-accepts at free_object h v = object-accepts at.nullable v
+    place-accepts at unit h v = absurd h
+    place-accepts at (tuple ts) h v =
+        (λ i. word_accepts (array_word at.nullable) v && both-lists v (each_in_order says (inline_places ts)) (λ vs. list_all (λ w. false) (drop (schema_count (inline_places ts)) vs)) i)
+        ∙ (λ i. word_accepts (array_word at.nullable) v && on_list v (λ vs. places-accept ts h vs i))
+        ∙ list-accepts at.nullable v (items_fit instance (all_substituted args ts))
+    place-accepts at (items x t) h v =
+        (λ i. word_accepts (array_word at.nullable) v && (on_list v (λ vs. true) && on_list v (list_all (λ w. place-accepts (inside at.inline) t h w i)))) ∙ items-accept at.nullable v (list_all (has t))
+    place-accepts at (set x t) h v =
+        (λ i. word_accepts (array_word at.nullable) v && (on_list v distinct && (on_list v (λ vs. true) && on_list v (list_all (λ w. place-accepts (inside at.inline) t h w i)))))
+        ∙ distinct-accept at.nullable v (list_all (has t))
+    place-accepts at (map_of x k t) h v =
+        (λ i. word_accepts (type_word at.nullable word.Object) v && (on_map v (λ es. true) && (on_map v (others_pass [] (λ w. place-accepts (inside at.inline) t h.2 w i))
+        && (on_map v (names_pass (λ w. place-accepts (inside true) k h.1 w i)) && (required_accepts [] v && true)))))
+        ∙ map-accepts at.nullable v (others_pass [] (has t)) (names_pass (has k))
+        ∙ (λ i. (at.nullable && is_null v) || is_map v (λ es. entries-pass (has k) (has t) es i))
+    place-accepts at (option t) h v = place-accepts (with_null at) t h v ∙ or-twice at.nullable (is_null v) (has t v)
+    place-accepts at (through x t) h v = place-accepts at t h v
+    place-accepts at (param j) h v = argument-accepts at j h v
+    place-accepts at (named d ts) h v = declared-accepts at d ts v
 
     -- the items of a tuple, and no element behind them
     places-accept : (ts : Opens) → ArePlainTypes ss (all_substituted args ts) → (vs : List Json) →
@@ -298,8 +304,8 @@ module _ (ss : List DeclarationOf) (instance : Open → Json → Bool) (args : O
     places-accept no_types h (v ∷ vs) = refl
     places-accept (more_types t ts) h [] = refl
     places-accept (more_types t ts) h (v ∷ vs) =
-        and-assoc (tree_accepts says (place false true false None t) v) (each_in_order says (inline_places ts) vs) (list_all (λ w. false) (drop (schema_count (inline_places ts)) vs))
-        ∙ (λ i. place-accepts false true false None t h.0 v i && places-accept ts h.1 vs i)
+        and-assoc (tree_accepts says (place (inside true) t) v) (each_in_order says (inline_places ts) vs) (list_all (λ w. false) (drop (schema_count (inline_places ts)) vs))
+        ∙ (λ i. place-accepts (inside true) t h.0 v i && places-accept ts h.1 vs i)
 
   -- ---- named fields
 
@@ -311,7 +317,7 @@ module _ (ss : List DeclarationOf) (instance : Open → Json → Bool) (args : O
       (properties_accept says (properties_of ms) es && (list_all (λ k. is_in k (names es)) (required_names ms) && true)) ≡ list_all (member_fits instance es) (members_over ms)
   members-accept [] h es = refl
   members-accept (m ∷ ms) h es =
-      (λ i. (if_there (look m.name es) (λ v. place-accepts false false m.annotations.deprecated m.annotations.description m.of h.0 v i) && properties_accept says (properties_of ms) es)
+      (λ i. (if_there (look m.name es) (λ v. place-accepts (field_place m.annotations) m.of h.0 v i) && properties_accept says (properties_of ms) es)
       && (list_all (λ k. is_in k (names es)) (required_names (m ∷ ms)) && true))
       ∙ member-accepts m.required (if_there (look m.name es) (has m.of)) (properties_accept says (properties_of ms) es) (λ k. is_in k (names es)) m.name (required_names ms)
       ∙ ap (λ b. member_fits instance es (member_over args m) && b) (members-accept ms h.1 es)
@@ -352,7 +358,7 @@ module _ (ss : List DeclarationOf) (instance : Open → Json → Bool) (args : O
       let fewer : Bool = int_le (pos (length ts)) (pos (length vs)) in
       let front : Bool = each_in_order says (field_terms ts) vs in
       let rest : Bool = list_all (λ w. false) (drop (schema_count (field_terms ts)) vs) in
-      (λ i. leb-suc-suc (length vs) (length ts) i && (leb-suc-suc (length ts) (length vs) i && ((place-accepts false false false None t h.0 v i && front) && rest)))
+      (λ i. leb-suc-suc (length vs) (length ts) i && (leb-suc-suc (length ts) (length vs) i && ((place-accepts (field_place unannotated) t h.0 v i && front) && rest)))
       ∙ (λ i. more && (fewer && and-assoc (has t v) front rest i))
       ∙ and-third more fewer (has t v) (front && rest)
       ∙ (λ i. has t v && in_order-accept ts h.1 vs i)
@@ -361,7 +367,7 @@ module _ (ss : List DeclarationOf) (instance : Open → Json → Bool) (args : O
       tree_accepts says (alike_term r (length ts) t) v ≡ is_list v (elements_fit instance (over ts))
   alike-accepts same r t ts h alike v =
       (λ i. word_accepts (array_word false) v && (on_list v (λ vs. int_le (pos (length vs)) (pos (length ts))) && (on_list v (λ vs. int_le (pos (length ts)) (pos (length vs)))
-      && (on_list v (λ vs. true) && on_list v (list_all (λ w. place-accepts false false r.deprecated r.description t h w i))))))
+      && (on_list v (λ vs. true) && on_list v (list_all (λ w. place-accepts (field_place r) t h w i))))))
       ∙ exactly-accept v (λ vs. int_le (pos (length vs)) (pos (length ts))) (λ vs. int_le (pos (length ts)) (pos (length vs))) (λ vs. true) (list_all (has t))
       ∙ (λ i. is_list v (λ vs. elements-accept same t ts alike vs i))
 
@@ -374,7 +380,7 @@ module _ (ss : List DeclarationOf) (instance : Open → Json → Bool) (args : O
   -- one place is the schema itself, several are a list; which list is told over the parameters
   pub unnamed-accepts : SameIsEqual → (r : Annotations) (ts : List Open) → AreAllPlain ss (over ts) → (v : Json) → tree_accepts says (unnamed_term r ts) v ≡ unnamed_shape instance (over ts) v
   unnamed-accepts same r [] h v = mixed-accepts r [] h v
-  unnamed-accepts same r (t ∷ []) h v = place-accepts false false r.deprecated r.description t h.0 v
+  unnamed-accepts same r (t ∷ []) h v = place-accepts (field_place r) t h.0 v
   unnamed-accepts same r (t ∷ u ∷ us) h v = by (are_all t (u ∷ us)) refl
     where
       by : (b : Bool) → are_all t (u ∷ us) ≡ b →
@@ -399,9 +405,8 @@ module _ (ss : List DeclarationOf) (instance : Open → Json → Bool) (args : O
 
 module _ (none : SubstitutedNone) (ss : List DeclarationOf) (instance : Open → Json → Bool) where
   -- The schema of a place of a closed type. It has no parameters, so no arguments are put in.
-  pub closed-accepts : (n inline deprecated : Bool) (description : Option (List ℕ)) (t : Open) → IsPlainType ss t → (v : Json) →
-      tree_accepts (leaf_shape instance) (place n inline deprecated description t) v ≡ ((n && is_null v) || type_shape instance t v)
-  closed-accepts n inline deprecated description t h v =
-      place-accepts ss instance no_types (leaf_shape instance) (λ d ts inline keywords w. ap (λ x. type_shape instance x w) (sym (none (named d ts)))) (λ i p w. absurd p) n inline deprecated description t
+  pub closed-accepts : (at : PlaceOf) (t : Open) → IsPlainType ss t → (v : Json) → tree_accepts (leaf_shape instance) (place at t) v ≡ ((at.nullable && is_null v) || type_shape instance t v)
+  closed-accepts at t h v =
+      place-accepts ss instance no_types (leaf_shape instance) (λ d ts inline keywords w. ap (λ x. type_shape instance x w) (sym (none (named d ts)))) (λ i p w. absurd p) at t
       (subst (IsPlainType ss) (sym (none t)) h) v
-      ∙ ap (λ x. (n && is_null v) || type_shape instance x v) (none t)
+      ∙ ap (λ x. (at.nullable && is_null v) || type_shape instance x v) (none t)

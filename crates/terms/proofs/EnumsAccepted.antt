@@ -1,5 +1,5 @@
 -- What the schemas of enums accept: each variant what has its shape, and the whole what fits one of them.
-use Rattle.std.proofs.Common.{ℕ, List, [], ◌∷◌, ◌++◌, Bool, true, false, not, ◌&&◌, ◌||◌, cond, Some, bytes_eq, map as map_over, None, Option, ◌≡◌, refl, ap, sym, subst, ◌∙◌}
+use Rattle.std.proofs.Common.{ℕ, List, [], ◌∷◌, ◌++◌, Bool, true, false, not, ◌&&◌, ◌||◌, cond, Some, bytes_eq, map as map_over, ◌≡◌, refl, ap, sym, subst, ◌∙◌}
 use Rattle.std.specs.List.{list_all, list_any}
 use Rattle.acceptance.specs.Acceptance.{others_pass}
 use Rattle.acceptance.specs.Json.{Json, Members, null, boolean, number, text, list, map, entries, names, look, same, there, if_there}
@@ -13,7 +13,7 @@ use Rattle.schema_core.specs.Meaning.{tree_accepts, some_accepts, properties_acc
 use Rattle.open_types.specs.Laws.{SameIsEqual, SubstitutedNone}
 use Rattle.component.specs.Leaves.{LeafOf}
 use Rattle.component.specs.Leaves as leaves
-use Rattle.component.specs.Places.{place}
+use Rattle.component.specs.Places.{PlaceOf, inside, place}
 use Rattle.open_types.specs.Open.{Open, Opens, no_types, argument_at, substituted}
 use Rattle.open_types.specs.Open as types
 use Rattle.shapes.specs.declared.annotations.Annotations.{Annotations}
@@ -24,7 +24,7 @@ use Rattle.shapes.specs.Instances.{member_over, form_over, variant_over, body_ov
 use Rattle.terms.specs.InstanceTerms.{with_arguments}
 use Rattle.shapes.specs.Shape.{is_null, is_map, only_named, is_the, has_member, type_shape, member_fits, form_shape, unit_shape, internal_shape, told_shape, fields_shape, variant_shape, body_shape}
 use Rattle.shapes.specs.Plain.{IsPlainType, AreAllPlain, IsContent, IsPlainForm, CanBeTagged, IsPlainVariant, ArePlainVariants, KeepsVariant, IsPlainBody}
-use Rattle.terms.specs.Terms.{keywords_of, field_term, properties_of, required_names, object_of, unnamed_term, form_term, texts_schema, requiring, tag_schema, tag_alone, null_term, units_term, unit_term, with_property, beside_tag, tagged_content, internal_term, adjacent_term, told_term, variant_form, variant_term, body_term, term}
+use Rattle.terms.specs.Terms.{keywords_of, field_place, field_term, properties_of, required_names, object_of, unnamed_term, form_term, texts_schema, requiring, tag_schema, tag_alone, null_term, units_term, unit_term, with_property, beside_tag, tagged_content, internal_term, adjacent_term, told_term, variant_form, variant_term, body_term, term}
 use Rattle.terms.specs.Meaning.{leaf_shape, TermsAccept, InstanceTermsAccept, PlacesAccept}
 use Rattle.terms.proofs.Accepted.{and-true, and-assoc, and-last, or-false, others-denied, property_names-are, null-accepts, place-accepts, members-accept, form-accepts, closed-accepts}
 
@@ -142,8 +142,8 @@ module _ (equal : SameIsEqual) (ss : List DeclarationOf) (instance : Open → Js
   abbrev members_over : List MemberOf → List MemberOf
   members_over ms = map_over (member_over args) ms
 
-  at-place : (n inline deprecated : Bool) (description : Option (List ℕ)) (t : Open) → IsPlainType ss (substituted args t) → (v : Json) →
-      tree_accepts says (place n inline deprecated description t) v ≡ ((n && is_null v) || type_shape instance (substituted args t) v)
+  at-place : (at : PlaceOf) (t : Open) → IsPlainType ss (substituted args t) → (v : Json) →
+      tree_accepts says (place at t) v ≡ ((at.nullable && is_null v) || type_shape instance (substituted args t) v)
   at-place = place-accepts ss instance args says at_named at_param
 
   at-form : (r : Annotations) (form : FormOf) → IsPlainForm ss (form_over args form) → (v : Json) → tree_accepts says (form_term r form) v ≡ form_shape instance (form_over args form) v
@@ -192,9 +192,9 @@ module _ (equal : SameIsEqual) (ss : List DeclarationOf) (instance : Open → Js
   -- Whether a content is a leaf or any value is told over the parameters. Where the content is a map that lets a tag stand among its members, it is neither.
   content-accepts : (r : Annotations) (tag name : List ℕ) (t : Open) → IsContent ss (substituted args t) → AreAllPlain ss (substituted args t ∷ []) → (v : Json) →
       tree_accepts says (tagged_content (keywords_of r) tag name t (unnamed_term r (t ∷ []))) v ≡ (type_shape instance (substituted args t) v && has_member tag (is_the name) v)
-  content-accepts r tag name (types.named d ts) c h v = beside-accepts says (keywords_of r) tag name (field_term r (types.named d ts)) v _ (at-place false false r.deprecated r.description (types.named d ts) h.0 v)
-  content-accepts r tag name (types.through k t) c h v = beside-accepts says (keywords_of r) tag name (field_term r (types.through k t)) v _ (at-place false false r.deprecated r.description (types.through k t) h.0 v)
-  content-accepts r tag name (types.param i) c h v = beside-accepts says (keywords_of r) tag name (field_term r (types.param i)) v _ (at-place false false r.deprecated r.description (types.param i) h.0 v)
+  content-accepts r tag name (types.named d ts) c h v = beside-accepts says (keywords_of r) tag name (field_term r (types.named d ts)) v _ (at-place (field_place r) (types.named d ts) h.0 v)
+  content-accepts r tag name (types.through k t) c h v = beside-accepts says (keywords_of r) tag name (field_term r (types.through k t)) v _ (at-place (field_place r) (types.through k t) h.0 v)
+  content-accepts r tag name (types.param i) c h v = beside-accepts says (keywords_of r) tag name (field_term r (types.param i)) v _ (at-place (field_place r) (types.param i) h.0 v)
   content-accepts r tag name (types.leaf l) c h v = absurd c
   content-accepts r tag name types.any_value c h v = absurd c
   content-accepts r tag name types.free_object c h v = absurd c
@@ -291,7 +291,7 @@ pub instance-terms-accept : SameIsEqual → SubstitutedNone → InstanceTermsAcc
 instance-terms-accept equal none ss instance args s h v =
     bind-accepts (with_arguments args) (leaf_shape instance) (term s) v
     ∙ body-accepts equal ss instance args (λ x w. tree_accepts (leaf_shape instance) (with_arguments args x) w) (λ d ts inline keywords w. refl)
-    (λ i p w. closed-accepts none ss instance false true false None (argument_at args i) p w) s.annotations s.body h v
+    (λ i p w. closed-accepts none ss instance (inside true) (argument_at args i) p w) s.annotations s.body h v
 
 pub places-accept : SubstitutedNone → PlacesAccept
 places-accept none ss instance = closed-accepts none ss instance

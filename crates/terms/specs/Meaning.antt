@@ -1,9 +1,9 @@
 -- What the terms of declarations accept.
-use Rattle.std.specs.Prelude.{◌≡◌, ◌&&◌, ◌||◌, ℕ, List, Bool, false, Option}
+use Rattle.std.specs.Prelude.{◌≡◌, ◌&&◌, ◌||◌, List, Bool, false}
 use Rattle.acceptance.specs.Json.{Json}
 use Rattle.schema_core.specs.Meaning.{tree_accepts}
 use Rattle.component.specs.Leaves.{LeafOf, param, named}
-use Rattle.component.specs.Places.{place}
+use Rattle.component.specs.Places.{PlaceOf, place}
 use Rattle.open_types.specs.Open.{Open, Opens}
 use Rattle.shapes.specs.Declarations.{DeclarationOf}
 use Rattle.terms.specs.Terms.{term}
@@ -28,5 +28,5 @@ InstanceTermsAccept = (ss : List DeclarationOf) (instance : Open → Json → Bo
 
 -- The law: the schema of a place of a closed plain type accepts null where it may be, and what has the shape of the type, whether names are inline there or not.
 abbrev pub PlacesAccept : Type 0
-PlacesAccept = (ss : List DeclarationOf) (instance : Open → Json → Bool) (nullable inline deprecated : Bool) (description : Option (List ℕ)) (t : Open) → IsPlainType ss t → (v : Json) →
-    tree_accepts (leaf_shape instance) (place nullable inline deprecated description t) v ≡ ((nullable && is_null v) || type_shape instance t v)
+PlacesAccept = (ss : List DeclarationOf) (instance : Open → Json → Bool) (at : PlaceOf) (t : Open) → IsPlainType ss t → (v : Json) →
+    tree_accepts (leaf_shape instance) (place at t) v ≡ ((at.nullable && is_null v) || type_shape instance t v)

@@ -14,7 +14,7 @@ use Rattle.component.specs.Leaves.{LeafOf}
 use Rattle.schema_trees.specs.Bounds.{no_bounds}
 use Rattle.schema_trees.specs.Annotations.{annotations_of, no_annotations, where_true, annotated, described, null_default}
 use Rattle.schema_trees.specs.Objects.{word_facts, with_format, with_required, with_bounds, only_word}
-use Rattle.component.specs.Places.{bounds_of, place}
+use Rattle.component.specs.Places.{bounds_of, PlaceOf, inside, place}
 use Rattle.shapes.specs.declared.annotations.Annotations.{Annotations}
 use Rattle.shapes.specs.declared.tagging.Tagging.{Tagging}
 use Rattle.shapes.specs.declared.tagging.Tagging.TheVariants.{External, Internal, Adjacent, Untagged}
@@ -24,9 +24,12 @@ use Rattle.shapes.specs.Declarations.{MemberOf, FormOf, named_fields, unnamed_fi
 abbrev pub keywords_of : Annotations → AnnotationKeywords
 keywords_of annotations = annotated annotations.deprecated annotations.description
 
--- the schema of a field
+-- the place of a field
+abbrev pub field_place : Annotations → PlaceOf
+field_place annotations = record (inside false) { deprecated = annotations.deprecated; description = annotations.description }
+
 abbrev pub field_term : Annotations → Open → SchemaOf LeafOf
-field_term annotations t = place false false annotations.deprecated annotations.description t
+field_term annotations t = place (field_place annotations) t
 
 abbrev pub properties_of : List MemberOf → PropertiesOf LeafOf
 properties_of [] = no_properties
