@@ -12,11 +12,12 @@ use Rattle.resolving.specs.Resolved.{resolved_type}
 use Rattle.shapes.specs.Declarations.{named_fields, unnamed_fields, no_fields, VariantOf, BodyOf, fields, units, variants, DeclarationOf, member_names, form_names, variant_names, telling, IsApartVariant, AreApartVariants, IsApartBody, AreApartBodies}
 use Rattle.shapes.specs.declared.tagging.Tagging.{Tagging}
 use Rattle.derive_decl.specs.Attributed.{attributes_with, are_derivable}
-use Rattle.derive_decl.specs.Fields.{field_rules, are_allowed, kept}
+use Rattle.serde_names.specs.Kept.{kept, kept_variants}
+use Rattle.derive_decl.specs.Fields.{field_rules, are_allowed}
 use Rattle.derive_decl.specs.Lifetimes.{parameters_are_distinct}
 use Rattle.derive_decl.specs.Law.{FormsAreApart, UnitsAreApart, VariantsAreApart, PlainAreApart, MixedAreApart, BodiesAreApart, ItemsAreApart, DeclarationsAreApart}
 use Rattle.derive_decl.specs.Tags.{can_be_tagged, tag_is_taken, tag_stands}
-use Rattle.derive_decl.specs.Variants.{tagging_in, are_units, are_told, kept_variants, variant_name}
+use Rattle.derive_decl.specs.Variants.{tagging_in, are_units, are_told, variant_name}
 use Rattle.derive_decl.specs.Resolved.{Around, around_of, all_of, passing, member_of, members_are_distinct, named_form, form_of, variant_of, variants_are_told, units_of, mixed_of, enum_of, enum_by, body_of, derived_body, declaration_from, declaration_of}
 use Rattle.derive_decl.specs.Whole.{resolved_among}
 use Rattle.derive_decl.proofs.Parts.{variant_parts}

@@ -28,12 +28,14 @@ use Rattle.shapes.specs.Declarations.{MemberOf, FormOf, named_fields, unnamed_fi
 use Rattle.shapes.specs.declared.tagging.Tagging.{Tagging}
 use Rattle.shapes.specs.declared.tagging.Tagging.TheVariants.{External, Internal, Adjacent, Untagged}
 use Rattle.derive_decl.specs.Attributed.{attributes_with, are_derivable}
-use Rattle.derive_decl.specs.Fields.{FieldRules, field_rules, are_allowed, value_of, kept, name_by, written_idents}
+use Rattle.serde_names.specs.Kept.{value_of, kept, kept_variants, value_of_variant}
+use Rattle.serde_names.specs.Names.{name_by, IsUnwritten}
+use Rattle.derive_decl.specs.Fields.{FieldRules, field_rules, are_allowed, written_idents}
 use Rattle.derive_decl.specs.Lifetimes.{lifetimes_of, parameters_are_distinct}
 use Rattle.derive_decl.specs.Tags.{can_be_tagged, tag_is_taken, tag_stands, IsMisplacedTag}
-use Rattle.derive_decl.specs.Variants.{tagging_by, tagging_in, are_units, are_told, kept_variants, value_of_variant, variant_name, telling_idents}
+use Rattle.derive_decl.specs.Variants.{tagging_by, tagging_in, are_units, are_told, variant_name, telling_idents}
 use Rattle.derive_decl.specs.Resolved.{Around, around_of, all_of, passing, member_of, members_are_distinct, named_form, form_of, variant_of, variants_are_told, units_of, mixed_of, enum_of, enum_by, plain_body, mixed_body, body_of, derived_body, declaration_from, declaration_of, resolved_of}
-use Rattle.derive_decl.specs.Faults.{IsFaultyType, IsUnwritten, IsFaultyMember, AreFaultyMembers, AreFaultyFields, IsUnnamed, AreUnnamed, IsFaultyVariant, AreFaultyVariants, IsFaultyBy, IsFaultyPlain, IsFaultyEnum, IsFaultyBody, IsFaultyDeclaration, IsFaultyItem, AreFaultyItems}
+use Rattle.derive_decl.specs.Faults.{IsFaultyType, IsFaultyMember, AreFaultyMembers, AreFaultyFields, IsUnnamed, AreUnnamed, IsFaultyVariant, AreFaultyVariants, IsFaultyBy, IsFaultyPlain, IsFaultyEnum, IsFaultyBody, IsFaultyDeclaration, IsFaultyItem, AreFaultyItems}
 use Rattle.derive_decl.specs.Whole.{resolved_among, resolved_declarations}
 use Rattle.derive_decl.proofs.EnumLaws.{units-unnamed}
 use Rattle.derive_decl.proofs.Parts.{member_parts, member_texts, variant_parts, variants_named, telling_texts}

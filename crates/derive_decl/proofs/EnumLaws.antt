@@ -14,8 +14,10 @@ use Rattle.scopes.specs.Names.{texts}
 use Rattle.shapes.specs.declared.tagging.Tagging.{Tagging}
 use Rattle.shapes.specs.Declarations.{no_fields, BodyOf, variant_names}
 use Rattle.derive_decl.specs.declared.written_variant.WrittenVariant.{WrittenVariant}
-use Rattle.derive_decl.specs.Fields.{named_at, are_allowed}
-use Rattle.derive_decl.specs.Variants.{tagging_in, is_unit, are_units, is_kept_variant, kept_variants}
+use Rattle.serde_names.specs.Kept.{is_kept_variant, kept_variants}
+use Rattle.serde_names.specs.Names.{named_at}
+use Rattle.derive_decl.specs.Fields.{are_allowed}
+use Rattle.derive_decl.specs.Variants.{tagging_in, is_unit, are_units}
 use Rattle.derive_decl.specs.Resolved.{Around, form_of, enum_by}
 use Rattle.derive_decl.specs.Faults.{AreFaultyFields, IsUnnamed, IsFaultyVariant, AreUnnamed, AreFaultyVariants, IsFaultyEnum}
 use Rattle.derive_decl.specs.Tags.{IsMisplacedTag}

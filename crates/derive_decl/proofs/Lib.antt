@@ -13,3 +13,4 @@ pub mod Clear
 pub mod Resolved
 pub mod Exact
 pub mod Apart
+pub mod Rowless

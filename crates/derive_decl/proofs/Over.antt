@@ -17,10 +17,11 @@ use Rattle.scopes.specs.Names.{declared_names, texts, place_among}
 use Rattle.shapes.specs.Declarations.{MemberOf, FormOf, named_fields, unnamed_fields, no_fields, VariantOf, BodyOf, fields, units, variants, DeclarationOf, member_types, form_types, variant_types, body_types, declaration_names, declaration_at, parameters_in, AreFitting}
 use Rattle.shapes.specs.declared.tagging.Tagging.{Tagging}
 use Rattle.derive_decl.specs.Attributed.{attributes_with, are_derivable}
-use Rattle.derive_decl.specs.Fields.{FieldRules, field_rules, are_allowed, kept}
+use Rattle.serde_names.specs.Kept.{kept, kept_variants}
+use Rattle.derive_decl.specs.Fields.{FieldRules, field_rules, are_allowed}
 use Rattle.derive_decl.specs.Lifetimes.{parameters_are_distinct}
 use Rattle.derive_decl.specs.Tags.{tag_stands}
-use Rattle.derive_decl.specs.Variants.{tagging_in, are_units, are_told, kept_variants, variant_name}
+use Rattle.derive_decl.specs.Variants.{tagging_in, are_units, are_told, variant_name}
 use Rattle.derive_decl.specs.Resolved.{Around, around_of, all_of, passing, member_of, members_are_distinct, named_form, form_of, variant_of, variants_are_told, units_of, mixed_of, enum_of, body_of, derived_body, declaration_from, declaration_of, resolved_of}
 use Rattle.derive_decl.specs.Whole.{resolved_declarations, resolved_among}
 use Rattle.derive_decl.proofs.Parts.{member_parts, variant_parts}

@@ -34,12 +34,14 @@ use Rattle.shapes.specs.Declarations.{FormOf, named_fields, unnamed_fields, no_f
 use Rattle.shapes.specs.declared.tagging.Tagging.{Tagging}
 use Rattle.shapes.specs.declared.tagging.Tagging.TheVariants.{External, Internal, Adjacent, Untagged}
 use Rattle.derive_decl.specs.Attributed.{attributes_with, first_other}
-use Rattle.derive_decl.specs.Fields.{FieldRules, field_rules, are_allowed, value_of, kept, is_kept, or_as_it_was, name_by, written_idents}
+use Rattle.serde_names.specs.Kept.{value_of, kept, is_kept, is_kept_variant, kept_variants, value_of_variant}
+use Rattle.serde_names.specs.Names.{or_as_it_was, name_by, row_message, IsUnwritten}
+use Rattle.derive_decl.specs.Fields.{FieldRules, field_rules, are_allowed, written_idents}
 use Rattle.derive_decl.specs.Lifetimes.{lifetimes_of}
 use Rattle.derive_decl.specs.Tags.{can_be_tagged, tag_is_taken, tag_stands, tag_of, tuple_message, tuple_help, IsMisplacedTag}
-use Rattle.derive_decl.specs.Variants.{tagging_by, tagging_in, are_units, are_told, is_kept_variant, kept_variants, value_of_variant, variant_name, telling_idents}
+use Rattle.derive_decl.specs.Variants.{tagging_by, tagging_in, are_units, are_told, variant_name, telling_idents}
 use Rattle.derive_decl.specs.Resolved.{Around, around_of, all_of, member_from, member_as, member_of, members_are_distinct, named_form, form_of, variant_from, variant_of, variants_are_told, units_of, mixed_of, enum_of, enum_by, plain_body, mixed_body, body_of, derived_body, declaration_from, declaration_of, resolved_of}
-use Rattle.derive_decl.specs.Faults.{row_message, fieldless_message, tagless_message, IsFaultyType, IsUnwritten, IsFaultyMember, AreFaultyMembers, AreFaultyFields, IsFaultyTagging, IsUnnamed, AreUnnamed, IsFaultyVariant, AreFaultyVariants, IsFaultyBy, IsFaultyPlain, IsFaultyEnum, IsFaultyBody, IsFaultyDeclaration, IsFaultyItem, AreFaultyItems}
+use Rattle.derive_decl.specs.Faults.{fieldless_message, tagless_message, IsFaultyType, IsFaultyMember, AreFaultyMembers, AreFaultyFields, IsFaultyTagging, IsUnnamed, AreUnnamed, IsFaultyVariant, AreFaultyVariants, IsFaultyBy, IsFaultyPlain, IsFaultyEnum, IsFaultyBody, IsFaultyDeclaration, IsFaultyItem, AreFaultyItems}
 use Rattle.derive_decl.specs.Whole.{resolved_among, resolved_declarations}
 use Rattle.derive_decl.proofs.EnumLaws.{unnamed-faulty}
 use Rattle.derive_decl.proofs.Parts.{member_texts, variants_named, telling_texts}

@@ -9,7 +9,7 @@ use Rattle.syntax.specs.Items.{VariantItem}
 use Rattle.scopes.specs.Names.{texts}
 use Rattle.shapes.specs.declared.tagging.Tagging.{Tagging}
 use Rattle.shapes.specs.declared.tagging.Tagging.TheVariants.{External, Internal, Adjacent, Untagged}
-use Rattle.derive_decl.specs.Fields.{named_at}
+use Rattle.serde_names.specs.Names.{named_at}
 use Rattle.derive_decl.specs.Variants.{are_told, variant_name, variant_ident}
 use Rattle.derive_decl.specs.Resolved.{all_of}
 use Rattle.derive_decl.proofs.Values.{are_distinct_from}

@@ -1,19 +1,16 @@
 -- Why a declaration has no schema: an attribute that nothing is derived from, a generic parameter given twice, serde's items that contradict each other, name a content and no tag, or name a rename rule that there is not, a tag that cannot stand where it should, a name that has no row or that two fields or variants have, a type that stands for nothing or is too large, a form of unnamed fields without a field.
-use Rattle.std.specs.Prelude.{◌≡◌, ◌⊎◌, ℕ, List, [], ◌++◌, Option, Some, None, Ok, codes}
+use Rattle.std.specs.Prelude.{◌≡◌, ◌⊎◌, ℕ, List, [], Option, Some, None, Ok, codes}
 use Rattle.diag.specs.Refusal.{IsRefusal, IsSyntaxRefusal, RefusesNone}
 use Rattle.diag.specs.declared.error.DeriveError.{DeriveError}
-use Rattle.diag.specs.declared.kind.Kind.TheVariants.{MissingRow, Arity, SerdeTag}
+use Rattle.diag.specs.declared.kind.Kind.TheVariants.{Arity, SerdeTag}
 use Rattle.diag.specs.declared.rename_rule.RenameRule.{RenameRule}
 use Rattle.diag.specs.declared.rename_row.RenameRow.{RenameRow}
-use Rattle.diag.specs.declared.rename_row.RenamePlace.{RenamePlace}
 use Rattle.diag.specs.declared.rename_row.RenamePlace.TheVariants.{Field, Variant}
-use Rattle.diag.specs.RenameRules.{name_of}
 use Rattle.texts.specs.Lists.{Somewhere}
 use Rattle.texts.specs.declared.span.Span.{Span}
 use Rattle.written_types.specs.declared.written.Ident.{Ident}
 use Rattle.attributes.specs.Attributes.{AttributeItem, serde_items}
 use Rattle.attributes.specs.declared.serde_item.SerdeItem.{SerdeItem}
-use Rattle.serde_rules.specs.declared.value.SerdeValue.{SerdeValue}
 use Rattle.serde_rules.specs.declared.enum_repr.SerdeEnumRepr.TheVariants.{UnfinishedAdjacentlyTagged}
 use Rattle.serde_rules.specs.Container.{representation, rename_rule, IsContainerRefusal}
 use Rattle.syntax.specs.Items.{FieldItem, FieldItems, named, unnamed, unit, VariantItem, ParameterItem, BodyItem, struct_body, enum_body, DeclaredItem}
@@ -24,8 +21,10 @@ use Rattle.shapes.specs.declared.tagging.Tagging.{Tagging}
 use Rattle.shapes.specs.declared.tagging.Tagging.TheVariants.{External, Internal, Adjacent, Untagged}
 use Rattle.derive_decl.specs.Attributed.{attributes_with, attributes_among, first_other}
 use Rattle.derive_decl.specs.Lifetimes.{lifetimes_of}
-use Rattle.derive_decl.specs.Variants.{tagging_in, value_of_variant, kept_variants, telling_idents}
-use Rattle.derive_decl.specs.Fields.{FieldRules, field_rules, value_of, kept, name_by, written_idents}
+use Rattle.serde_names.specs.Kept.{value_of, kept, value_of_variant, kept_variants}
+use Rattle.serde_names.specs.Names.{IsUnwritten}
+use Rattle.derive_decl.specs.Variants.{tagging_in, telling_idents}
+use Rattle.derive_decl.specs.Fields.{FieldRules, field_rules, written_idents}
 use Rattle.derive_decl.specs.Resolved.{Around, around_of, form_of}
 use Rattle.derive_decl.specs.Tags.{IsMisplacedTag}
 use Rattle.scopes.specs.Parameters.{parameters_of}
@@ -33,9 +32,6 @@ use Rattle.scopes.specs.declared.parameters.ParameterKind.TheVariants.{TypesAndC
 
 abbrev pub fieldless_message : List ℕ
 fieldless_message = codes "a tuple form without a field"
-
-abbrev pub row_message : RenameRule → List ℕ → List ℕ
-row_message rule name = codes "no row for " ++ (name_of rule ++ (codes " of " ++ name))
 
 -- ---- the answers
 
@@ -54,11 +50,6 @@ AreDerivable ds = first_other (attributes_among ds) ≡ None
 -- the error refuses the field's type
 abbrev pub IsFaultyType : Around → FieldItem → DeriveError → Type 0
 IsFaultyType around f e = (fault : Fault) × IsFault around.known f.ty fault × IsRefusedFor fault e
-
--- the error refuses the identifier: the row of the rule is needed and missing
-abbrev pub IsUnwritten : RenamePlace → List RenameRow → Option RenameRule → SerdeValue → Ident → DeriveError → Type 0
-IsUnwritten place rows None value x e = ⊥
-IsUnwritten place rows (Some rule) value x e = (name_by place rows (Some rule) value x ≡ None) × IsRefusal MissingRow x.span (row_message rule x.text) e
 
 -- the error refuses the field's name
 abbrev pub IsFaultyName : List RenameRow → Option RenameRule → FieldItem → DeriveError → Type 0

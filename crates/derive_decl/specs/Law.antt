@@ -1,11 +1,14 @@
--- The laws: what is resolved to something has no fault, and what has no fault is; in what is resolved names are apart.
-use Rattle.std.specs.Prelude.{◌≡◌, ◌↔◌, List, Option, Some, IsSome}
+-- The laws: what is resolved to something has no fault, and what has no fault is; in what is resolved names are apart; what is refused for a missing row is a name that has none.
+use Rattle.std.specs.Prelude.{◌≡◌, ◌↔◌, ℕ, List, Option, Some, None, IsSome}
 use Rattle.std.specs.List.{AllByRecursion}
-use Rattle.diag.specs.Refusal.{RefusesNone}
+use Rattle.diag.specs.Refusal.{IsRefusal, RefusesNone}
 use Rattle.diag.specs.declared.error.DeriveError.{DeriveError}
+use Rattle.diag.specs.declared.kind.Kind.TheVariants.{MissingRow}
 use Rattle.diag.specs.declared.rename_rule.RenameRule.{RenameRule}
 use Rattle.diag.specs.declared.rename_row.RenameRow.{RenameRow}
+use Rattle.texts.specs.Lists.{Somewhere}
 use Rattle.texts.specs.Names.{IsDistinct}
+use Rattle.texts.specs.declared.span.Span.{Span}
 use Rattle.written_types.specs.declared.written.Ident.{Ident}
 use Rattle.attributes.specs.Attributes.{AttributeItem}
 use Rattle.attributes.specs.declared.serde_item.SerdeItem.{SerdeItem}
@@ -13,6 +16,8 @@ use Rattle.syntax.specs.Items.{FieldItems, VariantItem, BodyItem, DeclaredItem}
 use Rattle.syntax.specs.Named.{HaveNames, IsNamedBody, AreNamed}
 use Rattle.shapes.specs.declared.tagging.Tagging.{Tagging}
 use Rattle.shapes.specs.Declarations.{FormOf, BodyOf, DeclarationOf, form_names, IsApartBody, AreApartBodies}
+use Rattle.serde_names.specs.Asked.{IsRowlessItem}
+use Rattle.derive_decl.specs.Attributed.{first_other, attributes_in}
 use Rattle.derive_decl.specs.Resolved.{Around, form_of, units_of, mixed_of, plain_body, mixed_body, body_of, derived_body, resolved_of}
 use Rattle.derive_decl.specs.Faults.{AreFaultyFields, AreUnnamed, AreFaultyVariants, IsFaultyPlain, IsFaultyEnum, IsFaultyBody, IsFaultyDeclaration, IsFaultyItem, AreFaultyItems}
 use Rattle.derive_decl.specs.Whole.{resolved_declarations}
@@ -83,3 +88,20 @@ ItemsAreApart = (around : Around) (d : DeclaredItem) (s : DeclarationOf) → res
 
 abbrev pub DeclarationsAreApart : Type 0
 DeclarationsAreApart = (rows : List RenameRow) (ds : List DeclaredItem) (ss : List DeclarationOf) → resolved_declarations rows ds ≡ Some ss → AreApartBodies ss
+
+-- ---- rows
+
+-- the error is a refusal for a missing row
+abbrev pub IsMissingRow : DeriveError → Type 0
+IsMissingRow e = (span : Span) × (message : List ℕ) × IsRefusal MissingRow span message e
+
+-- something is derived from each attribute of the declaration, and the error refuses one of its names, which has no row
+abbrev pub IsRowlessDerived : List RenameRow → DeclaredItem → DeriveError → Type 0
+IsRowlessDerived rows d e = (first_other (attributes_in d) ≡ None) × IsRowlessItem rows d e
+
+-- A declaration is refused for a missing row exactly so.
+abbrev pub ItemsLookUpRows : Type 0
+ItemsLookUpRows = (around : Around) (d : DeclaredItem) (e : DeriveError) → (IsFaultyItem around d e × IsMissingRow e) ↔ IsRowlessDerived around.rows d e
+
+abbrev pub DeclarationsLookUpRows : Type 0
+DeclarationsLookUpRows = (rows : List RenameRow) (ds : List DeclaredItem) (e : DeriveError) → (AreFaultyItems rows ds e × IsMissingRow e) ↔ Somewhere (λ d. IsRowlessDerived rows d e) ds

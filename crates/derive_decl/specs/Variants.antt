@@ -1,23 +1,21 @@
 -- What serde's attributes say of an enum and of its variants (serde.rs, "Enum representations", "Variant attributes").
-use Rattle.std.specs.Prelude.{ℕ, List, Bool, true, false, not, Option, Some, None, option_map, Result, Ok, Err, filter, filter_map}
+use Rattle.std.specs.Prelude.{ℕ, List, Bool, true, false, Option, Some, None, option_map, Result, Ok, Err, filter_map}
 use Rattle.std.specs.List.{list_all}
 use Rattle.diag.specs.declared.rename_rule.RenameRule.{RenameRule}
 use Rattle.diag.specs.declared.rename_row.RenameRow.{RenameRow}
 use Rattle.diag.specs.declared.rename_row.RenamePlace.TheVariants.{Variant}
 use Rattle.written_types.specs.declared.written.Ident.{Ident}
-use Rattle.attributes.specs.Attributes.{serde_items}
 use Rattle.attributes.specs.declared.serde_item.SerdeItem.{SerdeItem}
-use Rattle.serde_rules.specs.declared.value.SerdeValue.{SerdeValue}
 use Rattle.serde_rules.specs.declared.enum_repr.SerdeEnumRepr.{SerdeEnumRepr}
 use Rattle.serde_rules.specs.declared.enum_repr.SerdeEnumRepr.TheVariants as serde
 use Rattle.serde_rules.specs.Container.{TagFault, representation}
-use Rattle.serde_rules.specs.Value.{value_rules}
 use Rattle.syntax.specs.Items.{FieldItems, named, unnamed, unit, VariantItem}
 use Rattle.scopes.specs.Names.{are_distinct}
 use Rattle.shapes.specs.declared.tagging.Tagging.{Tagging}
 use Rattle.shapes.specs.declared.tagging.Tagging.TheVariants.{External, Internal, Adjacent, Untagged}
 use Rattle.shapes.specs.Declarations.{telling}
-use Rattle.derive_decl.specs.Fields.{name_by, named_at}
+use Rattle.serde_names.specs.Kept.{value_of_variant}
+use Rattle.serde_names.specs.Names.{name_by, named_at}
 
 -- how the values of an enum tell their variant; nothing says it where a content is named and no tag
 abbrev pub tagging_of : SerdeEnumRepr → Option Tagging
@@ -43,17 +41,6 @@ is_unit unit = true
 -- no variant has braces or parentheses, even empty ones; skipped variants count too
 abbrev pub are_units : List VariantItem → Bool
 are_units vs = list_all (λ v. is_unit v.fields) vs
-
--- what serde's items before a variant say of it
-abbrev pub value_of_variant : VariantItem → SerdeValue
-value_of_variant v = value_rules (serde_items v.attrs)
-
--- a variant that serde skips is left out
-abbrev pub is_kept_variant : VariantItem → Bool
-is_kept_variant v = not (value_of_variant v).skip
-
-abbrev pub kept_variants : List VariantItem → List VariantItem
-kept_variants vs = filter is_kept_variant vs
 
 -- the name of a variant in JSON, by the enum's rule; that of an untagged enum stands nowhere, so it needs no row
 abbrev pub variant_name : List RenameRow → Option RenameRule → Tagging → VariantItem → Option (List ℕ)

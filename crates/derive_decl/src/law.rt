@@ -1,6 +1,6 @@
 //! What rests on the definitions alone: laws that callers rely on, as contracts of functions that do nothing.
 
-ghost use Rattle.derive_decl.specs.Law.{FormsAreExact, UnitsAreExact, VariantsAreExact, PlainAreExact, MixedAreExact, BodiesAreExact, DerivedAreExact, ItemsAreExact, DeclarationsAreExact, FormsAreApart, UnitsAreApart, VariantsAreApart, PlainAreApart, MixedAreApart, BodiesAreApart, ItemsAreApart, DeclarationsAreApart};
+ghost use Rattle.derive_decl.specs.Law.{FormsAreExact, UnitsAreExact, VariantsAreExact, PlainAreExact, MixedAreExact, BodiesAreExact, DerivedAreExact, ItemsAreExact, DeclarationsAreExact, FormsAreApart, UnitsAreApart, VariantsAreApart, PlainAreApart, MixedAreApart, BodiesAreApart, ItemsAreApart, DeclarationsAreApart, ItemsLookUpRows, DeclarationsLookUpRows};
 
 use scopes::names_repeat_or_not;
 use serde_rules::container_rules_are_one;
@@ -34,4 +34,11 @@ pub fn resolved_are_apart()
     ensures bodies { BodiesAreApart }
     ensures items { ItemsAreApart }
     ensures declarations { DeclarationsAreApart }
+{}
+
+/// A derivation is refused for a missing row exactly where one of the names that `serde_names` says to need a row has none,
+/// and with the refusal of that name.
+pub fn rows_are_looked_up()
+    ensures items { ItemsLookUpRows }
+    ensures declarations { DeclarationsLookUpRows }
 {}

@@ -8,15 +8,16 @@ ghost use Rattle.serde_rules.specs.declared.enum_repr.SerdeEnumRepr.TheVariants.
 ghost use Rattle.syntax.specs.Items.{variant_view};
 ghost use Rattle.scopes.specs.Names.{texts, IsGivenTwice};
 ghost use Rattle.shapes.specs.Declarations.{telling};
-ghost use Rattle.derive_decl.specs.Variants.{tagging_of, are_told, value_of_variant, kept_variants, variant_name, variant_ident};
+ghost use Rattle.serde_names.specs.Kept.{value_of_variant, kept_variants};
+ghost use Rattle.derive_decl.specs.Variants.{tagging_of, are_told, variant_name, variant_ident};
 ghost use Rattle.derive_decl.specs.Resolved.{all_of, passing};
 ghost use Rattle.derive_decl.specs.Faults.{IsUnnamed, AreUnnamed, tagless_message};
 
-use crate::names::written_ident;
 use crate::push_some::push_some;
 use configuration::Config;
 use diag::{DeriveError, Kind, RenameRule};
 use scopes::{Named, places_of};
+use serde_names::written_ident;
 use serde_rules::{SerdeEnumRepr, SerdeValue, VariantRename, parse_value};
 use shapes::Tagging;
 use std::alloc::{AllocError, Global};
@@ -65,7 +66,7 @@ pub(crate) fn kept_name(
     match tagging {
         Tagging::Untagged => Ok(variant.ident.copy(alloc)?),
         Tagging::External | Tagging::Internal { .. } | Tagging::Adjacent { .. } => {
-            written_ident::<VariantRename>(alloc, config, rule, value, &variant.ident)
+            written_ident::<VariantRename>(alloc, config.renames(), rule, value, &variant.ident)
         }
     }
 }

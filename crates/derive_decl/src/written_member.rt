@@ -8,16 +8,17 @@ ghost use Rattle.texts.specs.Lists.{Somewhere};
 ghost use Rattle.syntax.specs.Items.{field_view};
 ghost use Rattle.syntax.specs.Named.{HasName};
 ghost use Rattle.shapes.specs.Views.{member_view};
-ghost use Rattle.derive_decl.specs.Fields.{kept, rules_view, value_of, written_ident, written_idents};
+ghost use Rattle.serde_names.specs.Kept.{kept, value_of};
+ghost use Rattle.derive_decl.specs.Fields.{rules_view, written_ident, written_idents};
 ghost use Rattle.derive_decl.specs.Resolved.{all_of, is_option, member_of, member_from};
 ghost use Rattle.derive_decl.specs.Faults.{IsFaultyMember};
 ghost use Rattle.derive_decl.specs.Views.{known, written_member_view};
 
 use crate::annotations::annotations_of;
-use crate::names::written_ident;
 use diag::DeriveError;
 use open_types::OpenType;
 use scopes::{Container, Named, resolve};
+use serde_names::written_ident;
 use serde_rules::{FieldRename, SerdeContainer, SerdeValue, is_required, parse_value};
 use shapes::{Annotations, Member};
 use std::alloc::{AllocError, Global};
@@ -127,7 +128,7 @@ fn kept_member(
     };
     let name = written_ident::<FieldRename>(
         alloc,
-        container.config,
+        container.config.renames(),
         rules.rename_all,
         value,
         ident,

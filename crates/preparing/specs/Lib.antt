@@ -24,6 +24,7 @@ pub use Rattle.reporting.specs.Numbers
 pub use Rattle.reporting.specs.Owed as RunsOwed
 pub use Rattle.reporting.specs.Program
 pub use Rattle.reporting.specs.Report
+pub use Rattle.serde_names.specs.Asked
 pub use Rattle.streams.specs.Faults as StreamFaults
 pub use Rattle.streams.specs.Memory
 pub use Rattle.streams.specs.Told

@@ -1,8 +1,7 @@
 mod DocumentLaws
 mod Keys
 mod Lists
+mod Rowless
 mod Serving
-mod Sufficing
 mod Tables
 mod Walks
-mod Wanted

@@ -51,13 +51,3 @@ module _ {A : Type 0} (P : A → Type 0) where
 pub all-flat_map : {A B : Type 0} (P : B → Type 0) (f : A → List B) (xs : List A) → AllByRecursion P (flat_map f xs) → AllByRecursion (λ x. AllByRecursion P (f x)) xs
 all-flat_map P f [] all = tt
 all-flat_map P f (x ∷ xs) all = (all_front P (f x) (flat_map f xs) all, all-flat_map P f xs (all_back P (f x) (flat_map f xs) all))
-
--- what follows of each item of a part follows of the whole
-pub all_lifted : {A B E : Type 0} (P : B → E → Type 0) (R : A → E → Type 0) (f : A → List B) (xs : List A)
-    → ((x : A) → AllByRecursion (λ b. (e : E) → P b e → R x e) (f x))
-    → AllByRecursion (λ b. (e : E) → P b e → Somewhere (λ x. R x e) xs) (flat_map f xs)
-all_lifted P R f [] h = tt
-all_lifted {A} {B} {E} P R f (x ∷ xs) h =
-    all-append (λ b. (e : E) → P b e → Somewhere (λ y. R y e) (x ∷ xs)) (f x) (flat_map f xs)
-    (all_weaker (λ b. (e : E) → P b e → R x e) (λ b. (e : E) → P b e → Somewhere (λ y. R y e) (x ∷ xs)) (f x) (λ b follows e p. inl (follows e p)) (h x))
-    (all_weaker (λ b. (e : E) → P b e → Somewhere (λ y. R y e) xs) (λ b. (e : E) → P b e → Somewhere (λ y. R y e) (x ∷ xs)) (flat_map f xs) (λ b follows e p. inr (follows e p)) (all_lifted P R f xs h))

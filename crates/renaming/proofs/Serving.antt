@@ -13,10 +13,11 @@ use Rattle.diag.specs.RenameRows.{same_place, is_for, row_to}
 use Rattle.texts.specs.Lists.{Somewhere}
 use Rattle.serde_rules.specs.declared.value.SerdeValue.{SerdeValue}
 use Rattle.serde_rules.specs.Names.{by_row, new_name}
-use Rattle.derive_decl.specs.Fields.{or_as_it_was}
-use Rattle.renaming.specs.declared.asked.Asked.{Asked}
+use Rattle.serde_names.specs.Asked.{is_given}
+use Rattle.serde_names.specs.Names.{or_as_it_was}
+use Rattle.serde_names.specs.declared.asked.Asked.{Asked}
 use Rattle.renaming.specs.declared.row_key.RowKey.{RowKey}
-use Rattle.renaming.specs.Asked.{is_given, IsNameless}
+use Rattle.renaming.specs.Refusals.{IsNameless}
 use Rattle.renaming.specs.Cases.{renamed}
 use Rattle.renaming.specs.Law.{Serve, RowsServe}
 use Rattle.renaming.specs.Rows.{key_of, key_in, name_for, row_with, row_of, AreRowsOf}
@@ -79,7 +80,7 @@ row_named [] row some = absurd some
 row_named (a ∷ names) row (inl made) = let says = row_says a row (name_for (key_of a)) refl made in ap name_for (sym says.0) ∙ says.1
 row_named (a ∷ names) row (inr some) = row_named names row some
 
-pub as_row-is : (text : List ℕ) (o : Option (List ℕ)) → or_as_it_was text (by_row o) ≡ o
+as_row-is : (text : List ℕ) (o : Option (List ℕ)) → or_as_it_was text (by_row o) ≡ o
 as_row-is text None = refl
 as_row-is text (Some to) = refl
 

@@ -11,7 +11,7 @@ use Rattle.std.proofs.lemmas.Bool.{cases_Bool, or_right}
 use Rattle.std.proofs.lemmas.List.Folds.{list_any-append}
 use Rattle.diag.specs.declared.rename_row.RenameRow.{RenameRow}
 use Rattle.texts.specs.Lists.{Somewhere}
-use Rattle.renaming.specs.declared.asked.Asked.{Asked}
+use Rattle.serde_names.specs.declared.asked.Asked.{Asked}
 use Rattle.renaming.specs.declared.row_key.RowKey.{RowKey}
 use Rattle.renaming.specs.Rows.{key_cmp, key_of, key_in, name_for, row_with, row_of, is_asked, IsTableOf, AreRowsOf}
 use Rattle.renaming.proofs.Keys.{RulesHaveOwnNames, key_found, key_itself, key_turned}

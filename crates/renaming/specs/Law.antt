@@ -1,20 +1,16 @@
--- Rows of names serve: a derivation asks for none that is not there, and without them for each.
-use Rattle.std.specs.Prelude.{◌≡◌, ℕ, List, [], false, Some, None}
+-- Rows of names serve: no name misses its row with them, and each does without.
+use Rattle.std.specs.Prelude.{◌≡◌, List, [], false, Some}
 use Rattle.std.specs.List.{AllByRecursion}
-use Rattle.diag.specs.Refusal.{IsRefusal}
+use Rattle.diag.specs.Refusal.{IsRefusal, RefusesNone}
 use Rattle.diag.specs.declared.error.DeriveError.{DeriveError}
 use Rattle.diag.specs.declared.kind.Kind.TheVariants.{MissingRow}
 use Rattle.diag.specs.declared.rename_row.RenameRow.{RenameRow}
 use Rattle.diag.specs.RenameRows.{row_to}
-use Rattle.texts.specs.declared.span.Span.{Span}
 use Rattle.serde_rules.specs.declared.value.SerdeValue.{SerdeValue}
 use Rattle.syntax.specs.Items.{DeclaredItem}
-use Rattle.derive_decl.specs.Fields.{name_by}
-use Rattle.derive_decl.specs.Attributed.{first_other, attributes_in}
-use Rattle.derive_decl.specs.Faults.{AreFaultyItems, IsFaultyItem, row_message}
-use Rattle.derive_decl.specs.Resolved.{around_of}
-use Rattle.renaming.specs.declared.asked.Asked.{Asked}
-use Rattle.renaming.specs.Asked.{is_given, asked_of, asked_of_item}
+use Rattle.serde_names.specs.declared.asked.Asked.{Asked}
+use Rattle.serde_names.specs.Asked.{is_given, asked_of, asked_of_item, IsRowlessItem, AreRowlessItems}
+use Rattle.serde_names.specs.Names.{name_by, row_message}
 use Rattle.renaming.specs.Cases.{renamed}
 use Rattle.renaming.specs.Rows.{AreRowsOf}
 
@@ -27,19 +23,18 @@ pub record Serve (rows : List RenameRow) (a : Asked) : Type 0 where
 abbrev pub RowsServe : Type 0
 RowsServe = (names : List Asked) (rows : List RenameRow) → AreRowsOf names rows → AllByRecursion (Serve rows) names
 
--- no refusal of the declarations with these rows is for a row that is missing
+-- with these rows no name in the declarations misses its row
 abbrev pub MissNoRow : List DeclaredItem → List RenameRow → Type 0
-MissNoRow ds rows = (e : DeriveError) (span : Span) (message : List ℕ) → AreFaultyItems rows ds e → ¬ IsRefusal MissingRow span message e
+MissNoRow ds rows = RefusesNone (AreRowlessItems rows ds)
 
--- The law: a derivation with the rows of its names is not refused for one that is missing.
+-- The law: with the rows of its names no name misses its row.
 abbrev pub RowsSuffice : Type 0
 RowsSuffice = (ds : List DeclaredItem) (rows : List RenameRow) → AreRowsOf (asked_of ds) rows → MissNoRow ds rows
 
--- without rows the declaration is refused for the one of the name
-abbrev pub IsWanted : List DeclaredItem → DeclaredItem → Asked → Type 0
-IsWanted ds d a =
-    (e : DeriveError) → IsRefusal MissingRow a.ident.span (row_message a.rule a.ident.text) e → IsFaultyItem (around_of [] ds d.generics) d e
+-- without rows the name misses its row
+abbrev pub IsWanted : DeclaredItem → Asked → Type 0
+IsWanted d a = (e : DeriveError) → IsRefusal MissingRow a.ident.span (row_message a.rule a.ident.text) e → IsRowlessItem [] d e
 
--- The law: no row is idle. Without rows, a declaration from whose attributes all is derived is refused for each of its names.
+-- The law: no row is idle. Without rows each name of a declaration misses its row.
 abbrev pub RowsAreWanted : Type 0
-RowsAreWanted = (ds : List DeclaredItem) (d : DeclaredItem) → first_other (attributes_in d) ≡ None → AllByRecursion (IsWanted ds d) (asked_of_item d)
+RowsAreWanted = (d : DeclaredItem) → AllByRecursion (IsWanted d) (asked_of_item d)

@@ -1,6 +1,6 @@
-pub mod Asked
 pub mod Cases
 pub mod Document
 pub mod Law
+pub mod Refusals
 pub mod Rows
 pub mod Whole

@@ -4,7 +4,8 @@ use Rattle.diag.specs.declared.error.DeriveError.{DeriveError}
 use Rattle.diag.specs.declared.rename_row.RenameRow.{RenameRow}
 use Rattle.syntax.specs.Items.{DeclaredItem}
 use Rattle.syntax.specs.Source.{Reads, IsTooDeep, IsUnreadable}
-use Rattle.renaming.specs.Asked.{asked_of, HaveNoRows}
+use Rattle.serde_names.specs.Asked.{asked_of}
+use Rattle.renaming.specs.Refusals.{HaveNoRows}
 use Rattle.renaming.specs.Document.{renames_text}
 use Rattle.renaming.specs.Rows.{AreRowsOf}
 

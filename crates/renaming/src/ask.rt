@@ -5,12 +5,13 @@ ghost use Rattle.std.specs.List.{flat_map};
 ghost use Rattle.diag.specs.Refusal.{Refuses, RefusesNone};
 ghost use Rattle.attributes.specs.Attributes.{attribute_view, serde_items};
 ghost use Rattle.syntax.specs.Items.{field_view, fields_view, variant_view, body_view, declaration_view, declarations_view};
-ghost use Rattle.derive_decl.specs.Fields.{kept};
-ghost use Rattle.renaming.specs.Asked.{is_given, asked_for, asked_of_field, asked_of_fields, asked_of_variants, asked_told_by, asked_of_body, asked_of_item, asked_of, AreRefusedFields, AreRefusedVariants, IsRefusedToldBy, IsRefusedBody, IsRefusedItem, AreRefusedItems};
+ghost use Rattle.serde_names.specs.Asked.{is_given, asked_for, asked_of_field, asked_of_fields, asked_of_variants, asked_told_by, asked_of_body, asked_of_item, asked_of};
+ghost use Rattle.serde_names.specs.Kept.{kept};
+ghost use Rattle.renaming.specs.Refusals.{AreRefusedFields, AreRefusedVariants, IsRefusedToldBy, IsRefusedBody, IsRefusedItem, AreRefusedItems};
 
-use crate::asked::Asked;
 use attributes::Attribute;
 use diag::{DeriveError, RenamePlace, RenameRule};
+use serde_names::Asked;
 use serde_rules::{SerdeEnumRepr, SerdeValue, parse_container, parse_value};
 use std::alloc::{AllocError, Global};
 use syntax::{Body, Declaration, Declarations, Field, Fields, Ident, Variant};

@@ -11,14 +11,15 @@ pub fn rows_serve()
     rules_have_own_names();
 }
 
-/// A derivation with the rows of its names is not refused for one that is missing.
+/// With the rows of their names no name of declarations misses its row. `derive_decl::rows_are_looked_up` says that a
+/// derivation is refused for a missing row exactly where one does.
 pub fn rows_suffice()
     ensures { RowsSuffice }
 {
     rules_have_own_names();
 }
 
-/// Without rows a derivation is refused for each of the names that `asked_names` answers.
+/// Without rows each name that `asked_names` answers misses its row.
 pub fn rows_are_wanted()
     ensures { RowsAreWanted }
 {}

@@ -5,7 +5,6 @@
 #![tactic(auto)]
 
 mod ask;
-mod asked;
 mod by_rule;
 mod cases;
 mod document;
@@ -15,10 +14,10 @@ mod rows;
 mod whole;
 
 pub use ask::asked_names;
-pub use asked::Asked;
 pub use by_rule::renamed;
 pub use document::rows_text;
 pub use law::{rows_are_wanted, rows_serve, rows_suffice};
 pub use row_key::RowKey;
 pub use rows::{rows_of, rows_of_names};
+pub use serde_names::Asked;
 pub use whole::renames_of;

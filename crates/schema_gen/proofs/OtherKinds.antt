@@ -28,10 +28,11 @@ use Rattle.configuration.specs.Form.{IsBadConfig}
 use Rattle.shapes.specs.Declarations.{DeclarationOf}
 use Rattle.shapes.specs.declared.tagging.Tagging.{Tagging}
 use Rattle.shapes.specs.declared.tagging.Tagging.TheVariants.{External, Internal, Adjacent, Untagged}
-use Rattle.derive_decl.specs.Fields.{FieldRules, field_rules, value_of, kept}
-use Rattle.derive_decl.specs.Variants.{value_of_variant, kept_variants}
+use Rattle.serde_names.specs.Kept.{value_of, kept, value_of_variant, kept_variants}
+use Rattle.serde_names.specs.Names.{IsUnwritten}
+use Rattle.derive_decl.specs.Fields.{FieldRules, field_rules}
 use Rattle.derive_decl.specs.Resolved.{Around, around_of}
-use Rattle.derive_decl.specs.Faults.{AreFaultyFields, IsUnwritten, IsFaultyType, IsFaultyMember, IsUnnamed, IsFaultyVariant, IsFaultyBody, IsFaultyItem}
+use Rattle.derive_decl.specs.Faults.{AreFaultyFields, IsFaultyType, IsFaultyMember, IsUnnamed, IsFaultyVariant, IsFaultyBody, IsFaultyItem}
 use Rattle.compose.specs.Bounds.{IsRefusalOf, IsUnbounded}
 use Rattle.compose.specs.Faults.{AreFaultyDeclarations, AreAtFault, IsBeyond, IsRefused}
 use Rattle.schema_gen.specs.Refusals.{IsRefusedSource}

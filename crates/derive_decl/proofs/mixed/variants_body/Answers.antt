@@ -4,7 +4,8 @@ use Rattle.syntax.specs.Items.{variant_view}
 use Rattle.scopes.specs.Names.{texts, IsGivenTwice}
 use Rattle.shapes.specs.Declarations.{variants, variant_names, telling}
 use Rattle.derive_decl.specs.declared.written_variant.WrittenVariant.{WrittenVariant}
-use Rattle.derive_decl.specs.Variants.{are_told, kept_variants, variant_ident}
+use Rattle.serde_names.specs.Kept.{kept_variants}
+use Rattle.derive_decl.specs.Variants.{are_told, variant_ident}
 use Rattle.derive_decl.specs.Resolved.{all_of, variant_of, variants_are_told}
 use Rattle.derive_decl.specs.Views.{known, written_variant_view}
 use Rattle.derive_decl.proofs.EnumLaws.{variant_names-are}

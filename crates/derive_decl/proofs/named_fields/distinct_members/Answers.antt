@@ -5,7 +5,8 @@ use Rattle.syntax.specs.Items.{field_view}
 use Rattle.shapes.specs.Declarations.{member_names}
 use Rattle.scopes.specs.Names.{texts, IsGivenTwice}
 use Rattle.derive_decl.specs.declared.written_member.WrittenMember.{WrittenMember}
-use Rattle.derive_decl.specs.Fields.{kept, written_idents}
+use Rattle.serde_names.specs.Kept.{kept}
+use Rattle.derive_decl.specs.Fields.{written_idents}
 use Rattle.derive_decl.specs.Resolved.{members_are_distinct}
 use Rattle.derive_decl.specs.Views.{written_member_view}
 use Rattle.derive_decl.proofs.Growing.{member_names-are}

@@ -6,7 +6,8 @@ use Rattle.std.specs.List.{cons_option}
 use Rattle.syntax.specs.Items.{field_view}
 use Rattle.syntax.specs.Named.{HasName}
 use Rattle.derive_decl.specs.declared.written_member.WrittenMember.{WrittenMember}
-use Rattle.derive_decl.specs.Fields.{is_kept, kept, rules_view, written_ident, written_idents}
+use Rattle.serde_names.specs.Kept.{is_kept, kept}
+use Rattle.derive_decl.specs.Fields.{rules_view, written_ident, written_idents}
 use Rattle.derive_decl.specs.Resolved.{all_of, member_of}
 use Rattle.derive_decl.specs.Faults.{IsFaultyMember}
 use Rattle.derive_decl.specs.Views.{known, written_member_view}

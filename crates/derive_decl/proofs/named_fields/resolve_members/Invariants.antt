@@ -1,6 +1,7 @@
 use Rattle.std.proofs.Common.{◌≡◌, map, take, Some}
 use Rattle.syntax.specs.Items.{field_view}
-use Rattle.derive_decl.specs.Fields.{kept, rules_view, written_idents}
+use Rattle.serde_names.specs.Kept.{kept}
+use Rattle.derive_decl.specs.Fields.{rules_view, written_idents}
 use Rattle.derive_decl.specs.Resolved.{all_of, member_of}
 use Rattle.derive_decl.specs.Views.{known, written_member_view}
 use Rattle.derive_decl.proofs.named_fields.resolve_members.Given as goal

@@ -5,7 +5,8 @@ use Rattle.written_types.specs.declared.written.Ident.{Ident}
 use Rattle.syntax.specs.Items.{variant_view}
 use Rattle.scopes.specs.Names.{texts, IsGivenTwice}
 use Rattle.shapes.specs.Declarations.{telling}
-use Rattle.derive_decl.specs.Variants.{are_told, kept_variants, variant_name, variant_ident}
+use Rattle.serde_names.specs.Kept.{kept_variants}
+use Rattle.derive_decl.specs.Variants.{are_told, variant_name, variant_ident}
 use Rattle.derive_decl.specs.Resolved.{all_of}
 use Rattle.derive_decl.proofs.Growing.{all-given}
 use Rattle.derive_decl.proofs.Texts.{names-are, texts_are}

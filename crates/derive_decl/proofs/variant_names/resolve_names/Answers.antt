@@ -3,7 +3,8 @@ use Rattle.std.proofs.lemmas.Grind.{common_steps}
 use Rattle.std.proofs.lemmas.Result.{err_from_is_err_and}
 use Rattle.std.specs.List.{cons_option}
 use Rattle.syntax.specs.Items.{variant_view}
-use Rattle.derive_decl.specs.Variants.{is_kept_variant, kept_variants, variant_ident}
+use Rattle.serde_names.specs.Kept.{is_kept_variant, kept_variants}
+use Rattle.derive_decl.specs.Variants.{variant_ident}
 use Rattle.derive_decl.specs.Resolved.{all_of}
 use Rattle.derive_decl.specs.Faults.{IsUnnamed}
 use Rattle.derive_decl.proofs.Growing.{all_kept_more, somewhere_kept}

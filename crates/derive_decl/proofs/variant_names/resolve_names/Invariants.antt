@@ -1,6 +1,7 @@
 use Rattle.std.proofs.Common.{◌≡◌, map, take, Some}
 use Rattle.syntax.specs.Items.{variant_view}
-use Rattle.derive_decl.specs.Variants.{kept_variants, variant_ident}
+use Rattle.serde_names.specs.Kept.{kept_variants}
+use Rattle.derive_decl.specs.Variants.{variant_ident}
 use Rattle.derive_decl.specs.Resolved.{all_of}
 use Rattle.derive_decl.proofs.variant_names.resolve_names.Given as goal
 

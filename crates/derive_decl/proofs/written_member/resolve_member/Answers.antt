@@ -6,7 +6,8 @@ use Rattle.serde_rules.specs.declared.value.SerdeValue.{SerdeValue}
 use Rattle.serde_rules.specs.Value.{value_rules}
 use Rattle.syntax.specs.Items.{field_view}
 use Rattle.texts.specs.Lists.{Somewhere}
-use Rattle.derive_decl.specs.Fields.{is_kept, rules_view}
+use Rattle.serde_names.specs.Kept.{is_kept}
+use Rattle.derive_decl.specs.Fields.{rules_view}
 use Rattle.derive_decl.specs.Faults.{IsFaultyMember}
 use Rattle.derive_decl.specs.Views.{known}
 use Rattle.derive_decl.proofs.written_member.resolve_member.Goals as goal

@@ -6,7 +6,8 @@ use Rattle.std.specs.List.{cons_option}
 use Rattle.syntax.specs.Items.{variant_view}
 use Rattle.syntax.specs.Named.{HaveNames}
 use Rattle.derive_decl.specs.declared.written_variant.WrittenVariant.{WrittenVariant}
-use Rattle.derive_decl.specs.Variants.{is_kept_variant, kept_variants, variant_ident}
+use Rattle.serde_names.specs.Kept.{is_kept_variant, kept_variants}
+use Rattle.derive_decl.specs.Variants.{variant_ident}
 use Rattle.derive_decl.specs.Resolved.{all_of, variant_of}
 use Rattle.derive_decl.specs.Faults.{IsFaultyVariant}
 use Rattle.derive_decl.specs.Views.{known, written_variant_view}

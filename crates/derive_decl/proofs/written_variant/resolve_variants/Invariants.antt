@@ -1,7 +1,8 @@
 use Rattle.std.proofs.Common.{◌≡◌, map, filter_map, take, Some}
 use Rattle.syntax.specs.Items.{variant_view}
 use Rattle.derive_decl.specs.declared.written_variant.WrittenVariant.{WrittenVariant}
-use Rattle.derive_decl.specs.Variants.{kept_variants, variant_ident}
+use Rattle.serde_names.specs.Kept.{kept_variants}
+use Rattle.derive_decl.specs.Variants.{variant_ident}
 use Rattle.derive_decl.specs.Resolved.{all_of, variant_of}
 use Rattle.derive_decl.specs.Views.{known, written_variant_view}
 use Rattle.derive_decl.proofs.written_variant.resolve_variants.Given as goal

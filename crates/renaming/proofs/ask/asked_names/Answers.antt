@@ -1,7 +1,7 @@
 use Rattle.std.proofs.Common.{IfOk, map, subst}
 use Rattle.diag.specs.Refusal.{RefusesNone}
 use Rattle.syntax.specs.Items.{declaration_view}
-use Rattle.renaming.specs.Asked.{AreRefusedItems}
+use Rattle.renaming.specs.Refusals.{AreRefusedItems}
 use Rattle.renaming.proofs.ask.asked_names.Goals as goal
 
 pub returns-clause-faultless : goal.returns-clause-faultless

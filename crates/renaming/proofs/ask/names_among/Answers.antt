@@ -3,7 +3,8 @@ use Rattle.std.proofs.lemmas.Grind.{common_steps}
 use Rattle.std.proofs.lemmas.Result.{err_from_is_err_and}
 use Rattle.diag.specs.Refusal.{RefusesNone}
 use Rattle.syntax.specs.Items.{declaration_view}
-use Rattle.renaming.specs.Asked.{asked_of, asked_of_item, IsRefusedItem, AreRefusedItems}
+use Rattle.serde_names.specs.Asked.{asked_of, asked_of_item}
+use Rattle.renaming.specs.Refusals.{IsRefusedItem, AreRefusedItems}
 use Rattle.renaming.proofs.Walks.{map_more, somewhere_at, flat_map-more, nowhere_more, nowhere_one}
 use Rattle.renaming.proofs.ask.names_among.Goals as goal
 

@@ -1,7 +1,8 @@
 use Rattle.std.proofs.Common.{◌≡◌, map, take}
 use Rattle.diag.specs.Refusal.{RefusesNone}
 use Rattle.syntax.specs.Items.{declaration_view}
-use Rattle.renaming.specs.Asked.{asked_of, AreRefusedItems}
+use Rattle.serde_names.specs.Asked.{asked_of}
+use Rattle.renaming.specs.Refusals.{AreRefusedItems}
 use Rattle.renaming.proofs.ask.names_among.Given as goal
 
 -- the names so far are those of the declarations so far, of which none is refused

@@ -2,7 +2,7 @@ use Rattle.std.proofs.Common.{Result, Ok, Err, OnOk, map, sym, subst, inl, inr}
 use Rattle.diag.specs.Refusal.{RefusesNone}
 use Rattle.attributes.specs.Attributes.{attribute_view, serde_items}
 use Rattle.syntax.specs.Items.{variant_view, body_view}
-use Rattle.renaming.specs.Asked.{IsRefusedTold, IsRefusedToldBy, IsRefusedBody}
+use Rattle.renaming.specs.Refusals.{IsRefusedTold, IsRefusedToldBy, IsRefusedBody}
 use Rattle.renaming.proofs.ask.push_body.Goals as goal
 
 weaker : {T E P Q : Type 0} (r : Result T E) → (P → Q) → OnOk r P → OnOk r Q

@@ -1,7 +1,7 @@
 use Rattle.std.proofs.Common.{subst, map}
 use Rattle.attributes.specs.Attributes.{attribute_view, serde_items}
 use Rattle.syntax.specs.Items.{fields_view}
-use Rattle.renaming.specs.Asked.{AreRefusedFields}
+use Rattle.renaming.specs.Refusals.{AreRefusedFields}
 use Rattle.renaming.proofs.ask.push_fields.Goals as goal
 
 pub returns-in_ok-push_named-in-Named-clause-faultless : goal.returns-in_ok-push_named-in-Named-clause-faultless

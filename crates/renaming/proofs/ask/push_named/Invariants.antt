@@ -1,8 +1,8 @@
 use Rattle.std.proofs.Common.{◌≡◌, ◌++◌, map, take}
 use Rattle.std.specs.List.{flat_map}
 use Rattle.syntax.specs.Items.{field_view}
-use Rattle.derive_decl.specs.Fields.{kept}
-use Rattle.renaming.specs.Asked.{asked_of_field}
+use Rattle.serde_names.specs.Asked.{asked_of_field}
+use Rattle.serde_names.specs.Kept.{kept}
 use Rattle.renaming.proofs.ask.push_named.Given as goal
 
 -- the names so far are those of the fields so far

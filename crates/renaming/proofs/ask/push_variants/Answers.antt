@@ -3,8 +3,9 @@ use Rattle.std.proofs.lemmas.Grind.{common_steps}
 use Rattle.std.proofs.lemmas.Result.{err_from_is_err_and}
 use Rattle.diag.specs.Refusal.{RefusesNone}
 use Rattle.syntax.specs.Items.{variant_view}
-use Rattle.derive_decl.specs.Variants.{is_kept_variant, kept_variants}
-use Rattle.renaming.specs.Asked.{asked_of_variant, asked_of_variants, IsRefusedVariant, AreRefusedVariants}
+use Rattle.serde_names.specs.Asked.{asked_of_variant, asked_of_variants}
+use Rattle.serde_names.specs.Kept.{is_kept_variant, kept_variants}
+use Rattle.renaming.specs.Refusals.{IsRefusedVariant, AreRefusedVariants}
 use Rattle.renaming.proofs.Walks.{kept_more, somewhere_kept, flat_map-more, nowhere_more}
 use Rattle.renaming.proofs.ask.push_variants.Goals as goal
 

@@ -1,7 +1,8 @@
 use Rattle.std.proofs.Common.{◌≡◌, ◌++◌, map, take}
 use Rattle.diag.specs.Refusal.{RefusesNone}
 use Rattle.syntax.specs.Items.{variant_view}
-use Rattle.renaming.specs.Asked.{asked_of_variants, AreRefusedVariants}
+use Rattle.serde_names.specs.Asked.{asked_of_variants}
+use Rattle.renaming.specs.Refusals.{AreRefusedVariants}
 use Rattle.renaming.proofs.ask.push_variants.Given as goal
 
 -- the names so far are those of the variants so far, of which none is refused

@@ -1,5 +1,5 @@
-use Rattle.renaming.proofs.Wanted as wanted
+use Rattle.renaming.proofs.Rowless as rowless
 use Rattle.renaming.proofs.law.rows_are_wanted.Goals as goal
 
 pub returns : goal.returns
-returns c = wanted.rows_are_wanted
+returns c = rowless.rows_are_wanted

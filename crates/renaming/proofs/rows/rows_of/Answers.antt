@@ -2,8 +2,9 @@ use Rattle.std.proofs.Common.{◌≡◌, ◌∙◌, Result, Ok, Err, IfOk, List,
 use Rattle.diag.specs.Refusal.{RefusesNone}
 use Rattle.texts.specs.Lists.{Somewhere}
 use Rattle.syntax.specs.Items.{declarations_view}
-use Rattle.renaming.specs.declared.asked.Asked.{Asked}
-use Rattle.renaming.specs.Asked.{asked_of, IsNameless}
+use Rattle.serde_names.specs.declared.asked.Asked.{Asked}
+use Rattle.serde_names.specs.Asked.{asked_of}
+use Rattle.renaming.specs.Refusals.{IsNameless}
 use Rattle.renaming.proofs.rows.rows_of.Goals as goal
 
 weaker : {T E P Q : Type 0} (r : Result T E) → (P → Q) → IfOk r (λ _. P) → IfOk r (λ _. Q)

@@ -1,6 +1,6 @@
 use Rattle.std.proofs.Common.{◌<◌, length, arith, inl, inr}
 use Rattle.std.proofs.lemmas.Result.{err_from_is_err_and}
-use Rattle.renaming.specs.Asked.{IsNameless}
+use Rattle.renaming.specs.Refusals.{IsNameless}
 use Rattle.renaming.proofs.Walks.{somewhere_in}
 use Rattle.renaming.proofs.rows.table_of.Goals as goal
 

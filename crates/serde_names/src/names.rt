@@ -1,12 +1,10 @@
-//! The names of fields and variants in JSON.
+//! The names of identifiers in JSON.
 
 ghost use Rattle.std.specs.Prelude.{◌≡◌, option_map, IfOk, Some};
 ghost use Rattle.diag.specs.Refusal.{IsErrorFor, IsRefusal, Refuses};
-ghost use Rattle.derive_decl.specs.Fields.{name_by, named_at};
-ghost use Rattle.derive_decl.specs.Faults.{IsUnwritten, row_message};
+ghost use Rattle.serde_names.specs.Names.{name_by, named_at, row_message, IsUnwritten};
 
-use configuration::Config;
-use diag::{DeriveError, Kind, RenameRule};
+use diag::{DeriveError, Kind, RenameRule, RenameTable};
 use serde_rules::names::rename;
 use serde_rules::{Rename, SerdeValue};
 use std::alloc::{AllocError, Global};
@@ -24,21 +22,22 @@ fn missing_row(alloc: Global, rule: &RenameRule, ident: &Ident) -> Result<Derive
     Ok(DeriveError::refusal(alloc, kind, ident.span, message.as_str()))
 }
 
-/// The name of the identifier in JSON, where the identifier stands.
-pub(crate) fn written_ident<R: Rename>(
+/// The name of an identifier in JSON, where the identifier stands: the name that `value` gives, or that the table's row of the
+/// rule says, or that of the identifier. A row that is needed and missing is refused with the kind `MissingRow`, there.
+pub fn written_ident<R: Rename>(
     alloc: Global,
-    config: &Config,
+    table: &RenameTable,
     rule: Option<RenameRule>,
     value: &SerdeValue,
     ident: &Ident,
 ) -> Result<Ident, DeriveError>
     ensures written { IfOk result (λ x. option_map (named_at ident.now)
-        (name_by R.place config.now.renames rule value.now ident.now) ≡ Some x) }
+        (name_by R.place table.now rule value.now ident.now) ≡ Some x) }
     ensures refused { Refuses result
-        (IsUnwritten R.place config.now.renames rule value.now ident.now) }
+        (IsUnwritten R.place table.now rule value.now ident.now) }
 {
     let given = value.rename.as_ref().map(|text| text.as_str());
-    let renamed = rename::<R>(config.renames(), ident.text.as_str(), given, rule.as_ref());
+    let renamed = rename::<R>(table, ident.text.as_str(), given, rule.as_ref());
     match (renamed, rule) {
         (Ok(Some(name)), _) => Ok(Ident {
             text: Text::new(alloc, name)?,
