@@ -9,11 +9,11 @@ use Rattle.diag.specs.RenameRules.{name_of}
 use Rattle.configuration.specs.declared.collect.SchemaCollect.{SchemaCollect}
 use Rattle.configuration.specs.declared.collect.SchemaCollect.TheVariants.{NonInlined, All}
 use Rattle.configuration.specs.Configuration.{Configuration}
-use Rattle.configuration.specs.Form.{IsGiven, IsWhole, IsCollect, IsRow, AreRows, IsRenames, IsConfiguration, IsConfigurationText, collect_name, place_name}
+use Rattle.configuration.specs.Form.{SaysOrDefault, IsWhole, IsCollect, IsRow, AreRows, IsRenames, IsConfiguration, IsConfigurationText, collect_name, place_name}
 
-one_given : {A : Type 0} (says : Data → A → Type 0) (standard : A) (o : Option Data) (x y : A) → ((value : Data) → says value x → says value y → x ≡ y) → IsGiven says standard o x → IsGiven says standard o y → x ≡ y
-one_given says standard None x y one p q = p ∙ sym q
-one_given says standard (Some value) x y one p q = one value p q
+one_given : {A : Type 0} (says : Data → A → Type 0) (default : A) (o : Option Data) (x y : A) → ((value : Data) → says value x → says value y → x ≡ y) → SaysOrDefault says default o x → SaysOrDefault says default o y → x ≡ y
+one_given says default None x y one p q = p ∙ sym q
+one_given says default (Some value) x y one p q = one value p q
 
 one_whole : (least most : ℕ) (n m : ℕ) (value : Data) → IsWhole least most value n → IsWhole least most value m → n ≡ m
 one_whole least most n m value p q = let e : number _ ≡ number _ = sym p.0 ∙ q.0 in cc

@@ -27,10 +27,10 @@ abbrev pub IsObjectOf : List (List ℕ) → Data → Type 0
 IsObjectOf names (object ms) = IsTrue (list_all (λ name. list_any (bytes_eq name) names) (names_of ms))
 IsObjectOf names _ = ⊥
 
--- what a member says, or where it is absent the standard value
-abbrev pub IsGiven : {A : Type 0} → (Data → A → Type 0) → A → Option Data → A → Type 0
-IsGiven says standard None x = x ≡ standard
-IsGiven says standard (Some value) x = says value x
+-- what a member says, or its default where it is absent
+abbrev pub SaysOrDefault : {A : Type 0} → (Data → A → Type 0) → A → Option Data → A → Type 0
+SaysOrDefault says default None x = x ≡ default
+SaysOrDefault says default (Some value) x = says value x
 
 -- a whole number from the least to the most; `10.0` and `-0` are no whole numbers
 abbrev pub IsWhole : ℕ → ℕ → Data → ℕ → Type 0
@@ -87,11 +87,11 @@ pub record KeepsEmpty (value : Data) : Type 0 where
 -- an object of these members, each of which may be absent, that says this configuration
 pub record IsConfiguration (value : Data) (c : Configuration) : Type 0 where
   pub members : IsObjectOf configuration_members value
-  pub version : IsGiven (IsWhole 1 1) 1 (get (codes "version") value) 1
-  pub limit : IsGiven (IsWhole 1 4096) 1000 (get (codes "limit") value) c.limit
-  pub copies : IsGiven (IsWhole 1 100000) 10000 (get (codes "copies") value) c.copies
-  pub collect : IsGiven IsCollect NonInlined (get (codes "schema_collect") value) c.collect
-  pub renames : IsGiven IsRenames [] (get (codes "renames") value) c.renames
+  pub version : SaysOrDefault (IsWhole 1 1) 1 (get (codes "version") value) 1
+  pub limit : SaysOrDefault (IsWhole 1 4096) 1000 (get (codes "limit") value) c.limit
+  pub copies : SaysOrDefault (IsWhole 1 100000) 10000 (get (codes "copies") value) c.copies
+  pub collect : SaysOrDefault IsCollect NonInlined (get (codes "schema_collect") value) c.collect
+  pub renames : SaysOrDefault IsRenames [] (get (codes "renames") value) c.renames
   pub empty : KeepsEmpty value
 
 -- a text of at most 1,048,576 bytes that serde_json reads as a value that says this configuration

@@ -5,7 +5,7 @@ ghost use Rattle.std.specs.List.{list_any, list_all};
 ghost use Rattle.serde_json.specs.Data.{string, object, array, no_members, no_items};
 ghost use Rattle.serde_json.specs.Find.{get};
 ghost use Rattle.serde_json.specs.View.{view, members_view};
-ghost use Rattle.configuration.specs.Form.{names_of, IsObjectOf, IsGiven, IsWhole, IsCollect};
+ghost use Rattle.configuration.specs.Form.{names_of, IsObjectOf, SaysOrDefault, IsWhole, IsCollect};
 ghost use Rattle.configuration.specs.declared.collect.SchemaCollect.{SchemaCollect as AnyCollect};
 ghost use Rattle.configuration.specs.declared.collect.SchemaCollect.TheVariants.{NonInlined};
 
@@ -78,21 +78,21 @@ fn whole_of(value: &Value, least: usize, most: usize) -> Option<usize>
     }
 }
 
-/// The whole number of the member, where it is one from the least to the most, or the standard one without the member.
+/// The whole number of the member, where it is one from the least to the most, or the default without the member.
 pub fn whole_at(
     value: &Value,
     name: &str,
     least: usize,
     most: usize,
-    standard: usize,
+    default: usize,
 ) -> Option<usize>
     ensures { MatchOption result ((n : ℕ)
-        → ¬ IsGiven (IsWhole least most) standard (get name.now (view value.now)) n)
-        (IsGiven (IsWhole least most) standard (get name.now (view value.now))) }
+        → ¬ SaysOrDefault (IsWhole least most) default (get name.now (view value.now)) n)
+        (SaysOrDefault (IsWhole least most) default (get name.now (view value.now))) }
 {
     match value.get(name) {
         Some(member) => whole_of(member, least, most),
-        None => Some(standard),
+        None => Some(default),
     }
 }
 
@@ -111,8 +111,8 @@ fn collect_of(value: &Value) -> Option<SchemaCollect>
 /// Which instances get a component, or without the member those that references reach.
 pub fn collect_at(value: &Value, name: &str) -> Option<SchemaCollect>
     ensures { MatchOption result ((collect : AnyCollect)
-        → ¬ IsGiven IsCollect NonInlined (get name.now (view value.now)) collect)
-        (IsGiven IsCollect NonInlined (get name.now (view value.now))) }
+        → ¬ SaysOrDefault IsCollect NonInlined (get name.now (view value.now)) collect)
+        (SaysOrDefault IsCollect NonInlined (get name.now (view value.now))) }
 {
     match value.get(name) {
         Some(member) => collect_of(member),

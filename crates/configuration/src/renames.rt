@@ -8,7 +8,7 @@ ghost use Rattle.diag.specs.RenameRules.{name_of};
 ghost use Rattle.diag.specs.declared.rename_rule.RenameRule.{RenameRule as AnyRule};
 ghost use Rattle.diag.specs.declared.rename_row.RenamePlace.{RenamePlace as AnyPlace};
 ghost use Rattle.diag.specs.declared.rename_row.RenameRow.{RenameRow as AnyRow};
-ghost use Rattle.configuration.specs.Form.{place_name, IsGiven, IsRow, AreRows, IsRenames};
+ghost use Rattle.configuration.specs.Form.{place_name, SaysOrDefault, IsRow, AreRows, IsRenames};
 
 use crate::members::{is_object_of, text_at};
 use diag::{RenamePlace, RenameRow, RenameRule, RenameTable};
@@ -115,8 +115,8 @@ pub fn renames_at(
 ) -> Result<Option<RenameTable>, AllocError>
     ensures { IfOk result
         (λ found. MatchOption found ((rows : List AnyRow)
-        → ¬ IsGiven IsRenames [] (get name.now (view value.now)) rows)
-        (IsGiven IsRenames [] (get name.now (view value.now)))) }
+        → ¬ SaysOrDefault IsRenames [] (get name.now (view value.now)) rows)
+        (SaysOrDefault IsRenames [] (get name.now (view value.now)))) }
 {
     match value.get(name) {
         Some(member) => renames_of(alloc, member),
