@@ -1,51 +1,10 @@
 -- What is accepted at a depth is accepted at each greater depth.
-use Rattle.std.proofs.Common.{ℕ, zero, suc, List, [], ◌∷◌, Bool, true, false, ◌&&◌, ◌||◌, ◌≤◌, Option, Some, None, drop, ◌≡◌, ◌∙◌, refl, ap, arith}
-use Rattle.std.specs.List.{list_all}
-use Rattle.acceptance.specs.Json.{Json, null, boolean, number, text, list, map, Items, no_items, item, Members, no_members, member, elements, entries, look, on_map, on_list, if_there}
-use Rattle.texts.specs.Names.{is_in}
+use Rattle.std.proofs.Common.{ℕ, zero, suc, List, [], ◌∷◌, Bool, true, ◌≤◌, Option, Some, None, drop, ◌≡◌, arith}
+use Rattle.acceptance.specs.Json.{Json, null, boolean, number, text, list, map, Items, no_items, item, Members, no_members, member, look}
 use Rattle.acceptance.specs.Keyword.{Keyword, keyword_of}
 use Rattle.acceptance.specs.Keyword as keyword
-use Rattle.acceptance.specs.Acceptance.{Readings, keyword_holds, others_pass, names_pass, named, prefix_count, target_of, at_target, reference_holds, accepts_with, members_hold, properties_accept, each_property, prefix_accepts, in_order, all_accept, each_accepts, one_accepts, some_accepts, component_schema, if_component, component_accepts, accepts}
-
--- q holds wherever p does
-abbrev pub Below : {A : Type 0} → (A → Bool) → (A → Bool) → Type 0
-Below {A} p q = (x : A) → p x ≡ true → q x ≡ true
-
-pub and-below : (a b c d : Bool) → (a ≡ true → c ≡ true) → (b ≡ true → d ≡ true) → (a && b) ≡ true → (c && d) ≡ true
-and-below true true c d f g e = ap (λ x. x && d) (f refl) ∙ g refl
-and-below true false c d f g e = cc
-and-below false b c d f g e = cc
-
-pub or-below : (a b c d : Bool) → (a ≡ true → c ≡ true) → (b ≡ true → d ≡ true) → (a || b) ≡ true → (c || d) ≡ true
-or-below true b c d f g e = ap (λ x. x || d) (f refl)
-or-below false true true d f g e = refl
-or-below false true false d f g e = g refl
-or-below false false c d f g e = cc
-
-list_all-below : {A : Type 0} (p q : A → Bool) → Below p q → (xs : List A) → list_all p xs ≡ true → list_all q xs ≡ true
-list_all-below p q h [] e = refl
-list_all-below p q h (x ∷ xs) e = and-below (p x) (list_all p xs) (q x) (list_all q xs) (h x) (list_all-below p q h xs) e
-
-on_map-below : (p q : List (List ℕ × Json) → Bool) → Below p q → (v : Json) → on_map v p ≡ true → on_map v q ≡ true
-on_map-below p q h (map ms) e = h (entries ms) e
-on_map-below p q h null e = refl
-on_map-below p q h _ e = refl
-
-on_list-below : (p q : List Json → Bool) → Below p q → (v : Json) → on_list v p ≡ true → on_list v q ≡ true
-on_list-below p q h (list vs) e = h (elements vs) e
-on_list-below p q h null e = refl
-on_list-below p q h _ e = refl
-
-if_there-below : (p q : Json → Bool) → Below p q → (o : Option Json) → if_there o p ≡ true → if_there o q ≡ true
-if_there-below p q h (Some v) e = h v e
-if_there-below p q h None e = refl
-
-others-below : (ks : List (List ℕ)) (p q : Json → Bool) → Below p q → Below (others_pass ks p) (others_pass ks q)
-others-below ks p q h = list_all-below (λ e. is_in e.0 ks || p e.1) (λ e. is_in e.0 ks || q e.1)
-    (λ x. or-below (is_in x.0 ks) (p x.1) (is_in x.0 ks) (q x.1) (λ y. y) (h x.1))
-
-names-below : (p q : Json → Bool) → Below p q → Below (names_pass p) (names_pass q)
-names-below p q h = list_all-below (λ e. p (text e.0)) (λ e. q (text e.0)) (λ x. h (text x.0))
+use Rattle.acceptance.specs.Acceptance.{Readings, keyword_holds, named, prefix_count, target_of, at_target, reference_holds, accepts_with, members_hold, properties_accept, each_property, prefix_accepts, in_order, all_accept, each_accepts, one_accepts, some_accepts, component_schema, if_component, component_accepts, accepts}
+use Rattle.acceptance.proofs.Laws.{Below, and-below, or-below, list_all-below, on_map-below, on_list-below, if_there-below, others-below, names-below}
 
 pub record ReadingsBelow (p q : Readings) : Type 0 where
   pub schema : Below p.as_schema q.as_schema

@@ -1,2 +1,3 @@
 mod Below
 mod Components
+pub mod Laws

@@ -8,8 +8,7 @@ use Rattle.words.specs.declared.stopping.Stop.TheVariants as stop
 use Rattle.words.specs.declared.vocabulary.Sign.TheVariants.{Colons}
 use Rattle.words.specs.Words.{Word, sign}
 use Rattle.words.specs.Reading.{Fault, deep, wrong, Read, ◌>>=◌, taken, as_sign, sign_at, Fails}
-use Rattle.words.proofs.Read.{bind_ok, bind_err, along, first_shallow}
-use Rattle.words.proofs.Stands.{sign-is, as_sign-is}
+use Rattle.words.proofs.Laws.{bind_ok, bind_err, along, first_shallow, sign-is, as_sign-is}
 use Rattle.written_types.specs.Written.{WrittenPath}
 use Rattle.attributes.specs.AttributeWords.{as_ident, path_item}
 use Rattle.attributes.specs.AttributeGrammar.{IsPath, last_ident, more_idents}
@@ -35,12 +34,6 @@ first_fails stop.Memory r f e = tt
 first_fails stop.Ended r f e = ap (λ q. q >>= f) e
 first_fails (stop.Unexpected at) r f e = ap (λ q. q >>= f) e
 first_fails (stop.Deep at) r f e = ap (λ q. q >>= f) e
-
-pub like_fails : {A : Type 0} (s : Stop) {r q : Result A Fault} → r ≡ q → Fails s q → Fails s r
-like_fails stop.Memory e f = tt
-like_fails stop.Ended e f = e ∙ f
-like_fails (stop.Unexpected at) e f = e ∙ f
-like_fails (stop.Deep at) e f = e ∙ f
 
 -- ---- identifiers and `::`
 ident_then : (o : Option Ident) (ws : List Word) → ident_before o (more_idents_at ws) ≡ (taken o ws >>= λ x. with_before (x.0 ∷ []) (more_idents_at x.1))

@@ -5,3 +5,4 @@ pub mod Idents
 pub mod Serde
 pub mod Whole
 pub mod Listed
+pub mod Laws

@@ -5,7 +5,7 @@ use Rattle.std.proofs.lemmas.List.Elements.{All-nil, All-cons, All-append}
 use Rattle.texts.specs.declared.span.Span.{Span}
 use Rattle.written_types.specs.Written.{WrittenPath}
 use Rattle.words.specs.Words.{Word, name, underscore, keyword, sign, lifetime, literal, doc, group}
-use Rattle.words.proofs.Read.{ok_is}
+use Rattle.words.proofs.Laws.{ok_is}
 use Rattle.attributes.specs.declared.serde_item.SerdeItem.{SerdeItem}
 use Rattle.attributes.specs.Attributes.{MetaItem, AttributeItem, is_word}
 use Rattle.attributes.specs.AttributeWords.{outer_text, doc_attribute, as_outer_doc}

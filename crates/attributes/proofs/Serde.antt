@@ -7,12 +7,8 @@ use Rattle.words.specs.declared.vocabulary.Sign.TheVariants.{Comma, Equals}
 use Rattle.words.specs.Words.{Word, name, underscore, keyword, sign, lifetime, literal, doc, group}
 use Rattle.words.specs.Reading.{Fault, deep, wrong, Read, ◌>>=◌, taken, first_as, as_literal, as_sign, literal_at}
 use Rattle.words.specs.Lists.{IsList, after_comma, turn_at, many_at, many_of, itself, list_of}
-use Rattle.words.proofs.Read.{bind_ok, along, first_is, first_shallow}
-use Rattle.words.proofs.Stands.{as_sign-is}
-use Rattle.words.proofs.Many.{Shortens}
-use Rattle.words.proofs.Sound.{list_sound}
-use Rattle.words.proofs.Complete as complete
-use Rattle.words.proofs.Complete.{Ends, at_end, at_comma}
+use Rattle.words.proofs.Laws.{bind_ok, along, first_is, first_shallow, as_sign-is, Shortens, list_sound, Ends, at_end, at_comma}
+use Rattle.words.proofs.Laws as complete
 use Rattle.literal_values.specs.Values.{text_value}
 use Rattle.attributes.specs.declared.serde_item.SerdeItem.{SerdeItem}
 use Rattle.attributes.specs.declared.serde_item.SerdeText.{SerdeText}

@@ -9,15 +9,14 @@ use Rattle.words.specs.declared.stopping.Stop.{Stop}
 use Rattle.words.specs.declared.vocabulary.Sign.TheVariants.{Equals, Hash}
 use Rattle.words.specs.Words.{Word, name, underscore, keyword, sign, lifetime, literal, doc, group, words_of, cover}
 use Rattle.words.specs.Reading.{Fault, Read, ◌>>=◌, as_group, as_sign, sign_at, group_at, Fails}
-use Rattle.words.proofs.Read.{bind_ok, ok_is, along}
-use Rattle.words.proofs.Stands.{sign-is, as_sign-is, group-is}
+use Rattle.words.proofs.Laws.{bind_ok, ok_is, along, sign-is, as_sign-is, group-is, like_fails}
 use Rattle.attributes.specs.declared.serde_item.SerdeItem.{SerdeItem}
 use Rattle.attributes.specs.Attributes.{MetaItem, value, items, AttributeItem, is_word}
 use Rattle.attributes.specs.Attributes as item
 use Rattle.attributes.specs.AttributeWords.{as_outer_doc, path_item, attribute_item, kept}
 use Rattle.attributes.specs.AttributeGrammar.{IsMeta, no_meta, valued, listed, IsSerdeList, HasItems, of_serde, of_another, IsAttribute, outer_doc, in_brackets, IsAttributes, no_attributes, more_attributes}
 use Rattle.attributes.specs.AttributeReading.{with_before, more_idents_at, path_at, group_meta, value_meta, meta_of, serde_list, items_of, attribute_in, begins_attribute, begin_attributes, attribute_behind, attribute_at, attributes_within, attributes_at}
-use Rattle.attributes.proofs.Idents.{before_nothing, before_before, before_fails, first_fails, like_fails, before_deep, idents_complete, path_given, path_sound, path_shallow}
+use Rattle.attributes.proofs.Idents.{before_nothing, before_before, before_fails, first_fails, before_deep, idents_complete, path_given, path_sound, path_shallow}
 use Rattle.attributes.proofs.Serde.{items_sound, items_complete, items_shallow, Shallow, then_shallow, ok_shallow, wrong_shallow, cond_shallow, word_shallow}
 
 -- ---- what stands behind a path

@@ -5,7 +5,7 @@ use Rattle.written_types.specs.declared.written.PathSegment.{PathSegment}
 use Rattle.written_types.specs.Written.{WrittenPath, Segment, plain, applied, Segments, more_segments, segment_view, segments_view}
 use Rattle.words.specs.declared.vocabulary.Sign.TheVariants.{Equals}
 use Rattle.words.specs.Reading.{sign_at}
-use Rattle.words.proofs.Stands.{sign-is}
+use Rattle.words.proofs.Laws.{sign-is}
 use Rattle.attributes.specs.AttributeReading.{meta_of}
 use Rattle.words.specs.Words.{Word, name, underscore, keyword, sign, lifetime, literal, doc, group}
 use Rattle.attributes.specs.Attributes.{value, is_only}

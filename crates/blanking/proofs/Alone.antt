@@ -15,6 +15,7 @@ use Rattle.prepare.specs.Masked.{masked}
 use Rattle.prepare.specs.Standing.{StandInside}
 use Rattle.prepare.specs.Choices.{IsChosen, AreSpansOf, no_spans, taken, left, AreChosen}
 use Rattle.prepare.specs.Prepared.{IsFile, IsPrepared}
+use Rattle.prepare.proofs.Laws.{listed_same}
 use Rattle.syntax.specs.ItemGrammar.{IsSource}
 use Rattle.blanking.specs.Kept.{kept, IsChosenOf, AreCutAlone, AreReadAlone, AreThose, no_others, one_holds, one_fails, IsChosenFile}
 use Rattle.blanking.proofs.Blanks.{masked_chars, masked_bytes, masked_is, masked_again}
@@ -26,7 +27,7 @@ use Rattle.blanking.proofs.Nesting.{settled_trees}
 use Rattle.blanking.proofs.Placing.{IsPlaced, placed_told, placed_apart}
 use Rattle.blanking.proofs.Settling.{IsAmong, trees_settled, placed_fits, pieces_parted}
 use Rattle.blanking.proofs.Items.{chosen_placed}
-use Rattle.blanking.proofs.Filing.{listed_of, kept_file}
+use Rattle.blanking.proofs.Filing.{kept_file}
 
 pub kept_cut : LiteralsBegin → LiteralsFound → (choice : Choice) (source text : List ℕ) (trees : Trees) (standing : List Standing) (spans : List Span) → IsUtf8 source → IsCut source trees → StandInside (listed trees) standing
     → AreChosen choice standing spans → text ≡ masked spans 0 (chars source) → IsCut text (trees_of (kept spans trees))
@@ -83,7 +84,7 @@ prepared begins found choice source text utf8 p =
     let behind = lie_between 0 (chars source) file.1.2 file.1.1 in
     let left = kept_file (IsChosen choice p.0) trees p.0 spans 0 behind.stop file.2 p.3 behind.between in
     let cut = kept_cut begins found choice source text trees p.0 spans utf8 file.1 file.2 p.3 p.4 in
-    record { chosen = left.0; those = left.1; file = (trees_of (kept spans trees), cut, subst (λ v. StandInside v left.0) (sym (listed_of (kept spans trees))) left.2) }
+    record { chosen = left.0; those = left.1; file = (trees_of (kept spans trees), cut, subst (λ v. StandInside v left.0) (sym (listed_same (kept spans trees))) left.2) }
 
 pub chosen_file : LiteralsBegin → LiteralsFound → (choice : Choice) (source text : List ℕ) → IsUtf8 source → IsPrepared choice source text → IsChosenFile choice source text
 chosen_file begins found choice source text utf8 p = let r = prepared begins found choice source text utf8 p in (p.0, r.chosen, p.2, r.those, r.file)

@@ -8,6 +8,7 @@ use Rattle.std.specs.Prelude.{encode_utf8}
 use Rattle.std.specs.Str.{chars, encode_utf8_all, all_scalars}
 use Rattle.texts.specs.declared.span.Span.{Span}
 use Rattle.prepare.specs.Masked.{lies_in_one, is_break, blank, masked}
+use Rattle.prepare.proofs.Laws.{break_small}
 
 -- ---- blanks
 -- a space, a line feed and a carriage return
@@ -46,12 +47,6 @@ blank_blank c = blank_by c (is_break c) refl
 spaces_long : (bs : List ℕ) → length (map {B = ℕ} (λ _. 32) bs) ≡ length bs
 spaces_long [] = refl
 spaces_long (b ∷ bs) = ap suc (spaces_long bs)
-
-break_small : (c : ℕ) → is_break c ≡ true → c < 128
-break_small c h = elim (or_cases (c == 10) (c == 13) h) [
-  | inl e ↦ let is = eqb-true c 10 e in omega arith
-  | inr e ↦ let is = eqb-true c 13 e in omega arith
-]
 
 long_by : (c : ℕ) (b : Bool) → is_break c ≡ b → length (cond b (c ∷ []) (map {B = ℕ} (λ _. 32) (encode_utf8 c))) ≡ length (encode_utf8 c)
 long_by c true e = ap length (sym (encode_ascii c (break_small c e)))

@@ -11,9 +11,10 @@ use Rattle.lexing.specs.declared.piece.Piece.{Piece}
 use Rattle.lexing.specs.declared.piece.PieceKind.{PieceKind}
 use Rattle.lexing.specs.declared.piece.PieceKind.TheVariants.{Space, Comment, Token, Open, Close}
 use Rattle.lexing.specs.Pieces.{quote, star, slash, is_white, signs, is_sign, closing, begins_with, IsPiece, may_end, IsLongest, Cuts}
+use Rattle.lexing.proofs.Laws.{any_of}
 use Rattle.prepare.specs.Masked.{lies_in_one, blank}
 use Rattle.blanking.proofs.Blanks.{is_blank, some_bytes, blank_blank, blank_long, blank_feed, masked_chars, stands_whole, blanks_of, gone_whole}
-use Rattle.blanking.proofs.Firsts.{LiteralsBegin, any_of, at_white, blanks_white}
+use Rattle.blanking.proofs.Firsts.{LiteralsBegin, at_white, blanks_white}
 use Rattle.blanking.proofs.Longest.{two_fronts, all_at, some_piece, is_last, Differs, Next, LiteralsFound, longest_stays}
 
 -- ---- pieces that stand

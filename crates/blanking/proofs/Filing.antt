@@ -5,7 +5,6 @@ use Rattle.std.specs.Option.{option_map}
 use Rattle.std.specs.Str.{bytes_eq}
 use Rattle.std.proofs.lemmas.Bool.{or_cases, or_from, or_left}
 use Rattle.std.proofs.lemmas.List.Folds.{list_any-append}
-use Rattle.std.proofs.lemmas.Slice.Eq.{bytes_eq-Decides}
 use Rattle.texts.specs.declared.span.Span.{Span}
 use Rattle.tokens.specs.declared.token.Bracket.{Bracket}
 use Rattle.tokens.specs.declared.token.TokenKind.{TokenKind}
@@ -22,11 +21,12 @@ use Rattle.prepare.specs.Items as item
 use Rattle.prepare.specs.Standing.{AreItems, no_items, more_items, StandIn, itself, nothing, StandInside, for_tests, items}
 use Rattle.prepare.specs.Standing as standing
 use Rattle.prepare.specs.Choices.{AreSpansOf, no_spans, taken, left}
+use Rattle.prepare.proofs.Laws.{not_none, listed_trees, listed_same, or_same, bytes_same, inner_stop, attributes_stop}
 use Rattle.blanking.specs.Kept.{kept_of, kept, AreThose, no_others, one_holds, one_fails}
 use Rattle.blanking.proofs.Order.{IsBetween, AreBetween, tree_long, between_long, earlier}
 use Rattle.blanking.proofs.Settling.{IsAmong, first, further, all_none, lies_true, lies_between}
-use Rattle.blanking.proofs.Items.{ItemEnds, item_ends, not_none, either, before_is, get_last, cover_start, cover_end, listed_same, among_either, all_inner_left}
-use Rattle.blanking.proofs.Reading.{inner_stop, attributes_stop, stands_any}
+use Rattle.blanking.proofs.Items.{ItemEnds, item_ends, either, before_is, get_last, cover_start, cover_end, among_either, all_inner_left}
+use Rattle.blanking.proofs.Reading.{stands_any}
 
 -- ---- what is kept of trees
 kept_append : (spans : List Span) (xs ys : List Tree) → kept spans (trees_of (xs ++ ys)) ≡ kept spans (trees_of xs) ++ kept spans (trees_of ys)
@@ -77,10 +77,6 @@ kept_whole spans from (t ▸ ts) stop h all =
     let here : lies_in_one spans (span_of t).start ≡ true = all (span_of t).start long.0 (omega (arith, long.1, rest)) in
     ap (λ v. v ++ kept spans ts) (tree_whole spans t true here refl)
     ∙ ap (λ v. t ∷ v) (kept_whole spans (span_of t).end ts stop h.1 (λ o l m. all o (omega (arith, l, long.0, long.1)) m))
-
-pub listed_of : (ts : List Tree) → listed (trees_of ts) ≡ ts
-listed_of [] = refl
-listed_of (t ∷ ts) = ap (λ v. t ∷ v) (listed_of ts)
 
 -- ---- trees in two parts
 between_split : (from : ℕ) (xs ys : List Tree) (stop : ℕ) → AreBetween from (trees_of (xs ++ ys)) stop → (mid : ℕ) × AreBetween from (trees_of xs) mid × AreBetween mid (trees_of ys) stop
@@ -147,10 +143,6 @@ none_before spans from stop o w l = all_none (lies_in o) spans (λ x m. lies_fal
 none_behind : (spans : List Span) (from stop o : ℕ) → Within spans from stop → stop ≤ o → lies_in_one spans o ≡ false
 none_behind spans from stop o w l = all_none (lies_in o) spans (λ x m. lies_false o x (λ a b. let k = w x m in absurd (omega (arith, k.1))))
 
-or_nothing : (a b : Bool) → b ≡ false → (a || b) ≡ a
-or_nothing true b h = refl
-or_nothing false b h = h
-
 spans_split : {Holds : Standing → Type 0} (xs ys : List Standing) (spans : List Span) → AreSpansOf Holds (xs ++ ys) spans → (s : List Span) × (t : List Span) × AreSpansOf Holds xs s × AreSpansOf Holds ys t × (spans ≡ s ++ t)
 spans_split [] ys spans h = ([], spans, no_spans, h, refl)
 spans_split (x ∷ xs) ys spans (taken {spans = more} k h) = let r = spans_split xs ys more h in (x.span ∷ r.0, r.1, taken k r.2, r.3, ap (λ v. x.span ∷ v) r.4)
@@ -186,7 +178,7 @@ module _ (Holds : Standing → Type 0) where
       let long = between_long from (trees_of xs) mid h in
       let size = between_long mid (trees_of ys) stop g in
       let front : kept (s ++ t) (trees_of xs) ≡ kept s (trees_of xs) =
-      kept_same (s ++ t) s from (trees_of xs) mid h (λ o l m. list_any-append (lies_in o) s t ∙ or_nothing (lies_in_one s o) (lies_in_one t o) (none_before t mid stop o b.within m)) in
+      kept_same (s ++ t) s from (trees_of xs) mid h (λ o l m. list_any-append (lies_in o) s t ∙ or_same (lies_in_one s o) (lies_in_one t o) (none_before t mid stop o b.within m)) in
       let back : kept (s ++ t) (trees_of ys) ≡ kept t (trees_of ys) =
       kept_same (s ++ t) t mid (trees_of ys) stop g (λ o l m. list_any-append (lies_in o) s t ∙ ap (λ v. v || lies_in_one t o) (none_behind s from mid o a.within l)) in
       let whole : kept (s ++ t) (trees_of (xs ++ ys)) ≡ kept s (trees_of xs) ++ kept t (trees_of ys) =
@@ -224,7 +216,7 @@ module _ (Holds : Standing → Type 0) where
       let lies = extent_lies s.span from o.0 o.1 stop o.3 (subst (λ v. AreBetween from (trees_of v) stop) o.2 h) in
       let between : AreBetween s.span.start (trees_of own) s.span.end = subst (λ v. AreBetween s.span.start (trees_of v) s.span.end) (sym o.2) lies.between in
       let whole : kept (s.span ∷ []) (trees_of own) ≡ own =
-      kept_whole (s.span ∷ []) s.span.start (trees_of own) s.span.end between (λ v l m. in_one s.span v l m) ∙ listed_of own in
+      kept_whole (s.span ∷ []) s.span.start (trees_of own) s.span.end between (λ v l m. in_one s.span v l m) ∙ listed_same own in
       record {
         chosen = s ∷ [];
         those = one_holds holds no_others;
@@ -247,7 +239,7 @@ module _ (Holds : Standing → Type 0) where
       let split = between_split from pre (g ∷ []) stop (subst (λ v. AreBetween from (trees_of v) stop) o.4 h) in
       let mid = split.0 in
       let here = split.2.0 in
-      let trees : trees_of held ≡ us = ap trees_of o.5 ∙ listed_same us in
+      let trees : trees_of held ≡ us = ap trees_of o.5 ∙ listed_trees us in
       let long = between_long from (trees_of pre) mid split.1 in
       let k = inner (s.start + 1) (s.end - 1) (subst (λ v. AreBetween (s.start + 1) v (s.end - 1)) (sym trees) here.2) in
       let none_first : kept spans (trees_of pre) ≡ [] = kept_gone spans from (trees_of pre) mid split.1 (λ v l m. none_before spans (s.start + 1) (s.end - 1) v k.within (omega (arith, m, here.0))) in
@@ -302,17 +294,14 @@ item_none t ts w s a =
     let keyword : after_visibility (after_attributes (t ∷ ts)) ≡ t ∷ ts = ap after_visibility start ∙ visible in
     ap (λ v. option_map (item_from (t ∷ ts) (after_attributes (t ∷ ts)) v) (form_at v)) keyword ∙ ap (option_map (item_from (t ∷ ts) (after_attributes (t ∷ ts)) (t ∷ ts))) form
 
-bytes_are : (a b : List ℕ) → bytes_eq a b ≡ true → a ≡ b
-bytes_are a b h = (bytes_eq-Decides a b).0 h
-
 not_outer : (mark other : List ℕ) → mark ≡ other → (bytes_eq other (codes "///") || bytes_eq other (codes "/**")) ≡ false → (bytes_eq mark (codes "///") || bytes_eq mark (codes "/**")) ≡ false
 not_outer mark other e h = ap (λ v. bytes_eq v (codes "///") || bytes_eq v (codes "/**")) e ∙ h
 
 inner_not_outer : (text : Option (List ℕ)) → is_inner_text text ≡ true → is_outer_text text ≡ false
 inner_not_outer None h = refl
 inner_not_outer (Some text) h = elim (or_cases (begins (codes "//!") text) (begins (codes "/*!") text) h) [
-  | inl e ↦ not_outer (take 3 text) (codes "//!") (bytes_are (take 3 text) (codes "//!") e) refl
-  | inr e ↦ not_outer (take 3 text) (codes "/*!") (bytes_are (take 3 text) (codes "/*!") e) refl
+  | inl e ↦ not_outer (take 3 text) (codes "//!") (bytes_same (take 3 text) (codes "//!") e) refl
+  | inr e ↦ not_outer (take 3 text) (codes "/*!") (bytes_same (take 3 text) (codes "/*!") e) refl
 ]
 
 cond_none : {X : Type 0} (a b : Bool) (x y : Option X) → a ≡ false → b ≡ false → cond a x (cond b y None) ≡ None
@@ -355,7 +344,7 @@ hash_none (token t) u ts h q =
     no_word kind.Literal g = cc
 
     other_sign : (k : TokenKind) → is_text (codes "#") (sign_in k t.text) ≡ true → is_text (codes "::") (sign_in k t.text) ≡ false
-    other_sign kind.Punct g = ap (λ v. bytes_eq v (codes "::")) (bytes_are t.text (codes "#") g)
+    other_sign kind.Punct g = ap (λ v. bytes_eq v (codes "::")) (bytes_same t.text (codes "#") g)
     other_sign kind.Ident g = cc
     other_sign kind.Doc g = cc
     other_sign kind.Lifetime g = cc
@@ -397,6 +386,6 @@ items_file ts ss h =
 pub kept_file : (Holds : Standing → Type 0) (ts : Trees) (ss : List Standing) (spans : List Span) (from stop : ℕ) → StandInside (listed ts) ss → AreSpansOf Holds ss spans → AreBetween from ts stop
     → (chosen : List Standing) × AreThose Holds ss chosen × StandInside (kept spans ts) chosen
 kept_file Holds ts ss spans from stop h chosen between =
-    let k = inside_kept Holds h spans from stop chosen (subst (λ v. AreBetween from v stop) (sym (listed_same ts)) between) in
+    let k = inside_kept Holds h spans from stop chosen (subst (λ v. AreBetween from v stop) (sym (listed_trees ts)) between) in
     let all : AreItems (kept spans (trees_of (listed ts))) k.chosen = subst (λ v. AreItems v k.chosen) (append-nil (kept spans (trees_of (listed ts)))) (subst (λ v. AreItems (kept spans (trees_of (listed ts)) ++ []) v) (append-nil k.chosen) (k.read [] [] no_items)) in
-    (k.chosen, k.those, items_file (kept spans ts) k.chosen (subst (λ v. AreItems (kept spans v) k.chosen) (listed_same ts) all))
+    (k.chosen, k.those, items_file (kept spans ts) k.chosen (subst (λ v. AreItems (kept spans v) k.chosen) (listed_trees ts) all))

@@ -14,6 +14,7 @@ use Rattle.tokens.specs.declared.token.TokenKind.TheVariants.{Ident, Lifetime, L
 use Rattle.lexing.specs.declared.piece.PieceKind.{PieceKind}
 use Rattle.lexing.specs.declared.piece.PieceKind.TheVariants.{Space, Comment, Token, Open, Close}
 use Rattle.lexing.specs.Pieces.{quote, slash, is_white, is_sign, opening, closing, IsName, IsIdentifier, IsComment, IsPiece}
+use Rattle.lexing.proofs.Laws.{identifier_starts, any_of}
 use Rattle.blanking.proofs.Blanks.{is_blank, is_seen, blank_is}
 
 -- ---- a piece, by its kind
@@ -50,14 +51,6 @@ by_kind P (Close x) c cs p b space comment ident lifetime literal punct = no_clo
 comment_slash : (doc : Bool) (c : ℕ) (cs : List ℕ) → IsComment doc (c ∷ cs) → c ≡ slash
 comment_slash doc c cs (inl p) = let whole = p.1 in cc
 comment_slash doc c cs (inr p) = let whole = p.1 in cc
-
-r_starts_name : starts_name 114 ≡ true
-unfolding unicode_ident
-r_starts_name = refl
-
-pub identifier_starts : (c : ℕ) (cs : List ℕ) → IsIdentifier (c ∷ cs) → starts_name c ≡ true
-identifier_starts c cs (inl h) = h.0
-identifier_starts c cs (inr h) = let first : c ≡ 114 = (let whole = h.1 in cc) in ap starts_name first ∙ r_starts_name
 
 no_slash : {X : Type 0} (doc : Bool) (c : ℕ) (cs : List ℕ) → (c == slash) ≡ false → IsComment doc (c ∷ cs) → X
 no_slash doc c cs h p = let e : (c == slash) ≡ true = ap (λ v. v == slash) (comment_slash doc c cs p) in cc
@@ -121,16 +114,6 @@ whites = 9 ∷ 10 ∷ 11 ∷ 12 ∷ 13 ∷ 0x20 ∷ 0x85 ∷ 0x200E ∷ 0x200F �
 white_among : (c : ℕ) → is_white c ≡ true → list_any (λ d. c == d) whites ≡ true
 unfolding whites
 white_among c h = grind (arith, nat_tests)
-
--- what holds of each of some numbers holds of one of them
-pub any_of : (q : ℕ → Bool) (c : ℕ) (ds : List ℕ) → list_all q ds ≡ true → list_any (λ d. c == d) ds ≡ true → q c ≡ true
-any_of q c [] h e = cc
-any_of q c (d ∷ ds) h e =
-    let both = and_parts (q d) (list_all q ds) h in
-    elim (or_cases (c == d) (list_any (λ d. c == d) ds) e) [
-      | inl k ↦ ap q (eqb-true c d k) ∙ both.0
-      | inr k ↦ any_of q c ds both.1 k
-    ]
 
 white_fails : (q : ℕ → Bool) (c : ℕ) → list_all (λ d. not (q d)) whites ≡ true → is_white c ≡ true → q c ≡ false
 white_fails q c h w = not-true (q c) (any_of (λ d. not (q d)) c whites h (white_among c w))

@@ -1,12 +1,12 @@
 -- Of two forms of literals with quotes, neither begins the other.
-use Rattle.std.proofs.Common.{◌≡◌, ◌∙◌, ℕ, zero, suc, ◌+◌, ◌≤◌, List, [], ◌∷◌, ◌++◌, length, replicate, refl, ap, sym, subst, arith, append_assoc, append-nil, length-append, ◌⊎◌, inl, inr, Bool, true, false, cond, ◌==◌, ◌||◌, nat_lt, Option, Some, None}
-use Rattle.std.proofs.lemmas.Bool.{eqb-true, and_parts, or_cases, or_parts, cases_Bool, cond-true, cond-false, not-true, not_from_false}
-use Rattle.std.proofs.lemmas.Bool.Decides.{nat_tests}
+use Rattle.std.proofs.Common.{◌≡◌, ◌∙◌, ℕ, ◌+◌, ◌≤◌, List, [], ◌∷◌, ◌++◌, length, replicate, refl, ap, sym, subst, arith, append_assoc, append-nil, length-append, ◌⊎◌, inl, inr, Bool, true, false, cond, ◌==◌, ◌||◌, Option, Some, None}
+use Rattle.std.proofs.lemmas.Bool.{eqb-true, and_parts, or_cases, or_parts, cases_Bool, cond-false, not-true, not_from_false}
 use Rattle.std.specs.List.{list_all}
 use Rattle.std.specs.Int.{is_in_range}
-use Rattle.literals.specs.Literals.{is_digit, is_hex_digit, is_code_sign, is_plain, IsCode, IsEscape, short, seven_bits, code_point, IsAnyCharacter, any, IsText, empty, plain, escaped, IsString, IsRawText, IsRawString, is_not_apostrophe, IsCharacter, IsNumber, IsForm, number, character, byte, string, byte_string, c_string, raw_string, raw_byte_string, raw_c_string, IsLiteral}
+use Rattle.literals.specs.Literals.{is_digit, is_hex_digit, is_code_sign, is_plain, IsCode, IsEscape, short, seven_bits, code_point, IsAnyCharacter, any, IsText, empty, plain, escaped, IsString, IsCharacter, IsNumber, IsForm, number, character, byte, string, byte_string, c_string, raw_string, raw_byte_string, raw_c_string, IsLiteral}
 use Rattle.literals.specs.Scanning.{after_string, after_hashes, first_of, after_raw_text, after_raw_string, after_apostrophe, after_character, after_b, after_c}
 use Rattle.literals.specs.declared.strings.Escapes.TheVariants.{Any}
+use Rattle.literals.proofs.Laws.{text_reads, apostrophe_reads, hashes_read, raw_reads, raw_string_reads}
 use Rattle.blanking.proofs.Firsts.{number_first}
 
 -- ---- strings
@@ -44,33 +44,17 @@ any_text empty = empty
 any_text (plain h r) = plain h (any_text r)
 any_text (escaped {escape = escape} {cs = cs} h r) = escape_before escape cs h (any_text r)
 
-plain_signs : (c : ℕ) → is_plain c ≡ true → ((c == 34) ≡ false) × ((c == 92) ≡ false)
-plain_signs c h = or_parts (c == 34) (c == 92) (not-true ((c == 34) || (c == 92)) h)
-
-text_reads : {text : List ℕ} (rest : List ℕ) → IsText IsAnyCharacter text → after_string Any false (text ++ 34 ∷ rest) ≡ Some rest
-text_reads rest empty = refl
-text_reads rest (plain {c = c} {cs = cs} h r) =
-    let signs = plain_signs c h in
-    cond-false (c == 34) (Some (cs ++ 34 ∷ rest)) (after_string Any (c == 92) (cs ++ 34 ∷ rest)) signs.0 ∙ ap (λ v. after_string Any v (cs ++ 34 ∷ rest)) signs.1 ∙ text_reads rest r
-text_reads rest (escaped (any {c = c}) r) = text_reads rest r
-
 -- what stands behind a first character
 abbrev Behind : ℕ → (List ℕ → Option (List ℕ)) → List ℕ → Type 0
 Behind first reader cs = (ds : List ℕ) × (cs ≡ first ∷ ds) × ((rest : List ℕ) → reader (ds ++ rest) ≡ Some rest)
 
 string_reads : (cs : List ℕ) → IsString IsAnyCharacter cs → Behind 34 (after_string Any false) cs
-string_reads cs s = (s.0 ++ 34 ∷ [], s.1, λ rest. ap (after_string Any false) (append_assoc s.0 (34 ∷ []) rest) ∙ text_reads rest s.2)
+string_reads cs s = (s.0 ++ 34 ∷ [], s.1, λ rest. ap (after_string Any false) (append_assoc s.0 (34 ∷ []) rest) ∙ text_reads Any s.0 rest s.2)
 
 pub any_string : (cs : List ℕ) → IsString IsEscape cs → IsString IsAnyCharacter cs
 any_string cs s = (s.0, s.1, any_text s.2)
 
 -- ---- characters
-apostrophe_reads : (cs rest : List ℕ) → list_all is_not_apostrophe cs ≡ true → after_apostrophe (cs ++ 39 ∷ rest) ≡ Some rest
-apostrophe_reads [] rest h = refl
-apostrophe_reads (c ∷ cs) rest h =
-    let both = and_parts (is_not_apostrophe c) (list_all is_not_apostrophe cs) h in
-    cond-false (c == 39) (Some (cs ++ 39 ∷ rest)) (after_apostrophe (cs ++ 39 ∷ rest)) (not-true (c == 39) both.0) ∙ apostrophe_reads cs rest both.1
-
 character_reads : (cs : List ℕ) → IsCharacter cs → Behind 39 after_character cs
 character_reads cs (plain {c = c} h) =
     let both = or_parts (c == 39) (c == 92) (not-true ((c == 39) || (c == 92)) h) in
@@ -78,56 +62,8 @@ character_reads cs (plain {c = c} h) =
 character_reads cs (escaped {c = c} ds h) = (92 ∷ c ∷ (ds ++ 39 ∷ []), refl, λ rest. ap after_apostrophe (append_assoc ds (39 ∷ []) rest) ∙ apostrophe_reads ds rest h)
 
 -- ---- raw strings
-hashes_read : (n : ℕ) (ys : List ℕ) → after_hashes n (replicate n 35 ++ ys) ≡ Some ys
-hashes_read zero ys = refl
-hashes_read (suc n) ys = hashes_read n ys
-
--- the signs that stand before a quote stand in the text before it
-abbrev Hashes : ℕ → List ℕ → Type 0
-Hashes n text = (after : List ℕ) × (text ≡ replicate n 35 ++ after)
-
-hash_first : (n c : ℕ) (cs rest : List ℕ) (found : Option (List ℕ)) (b : Bool) → (c == 35) ≡ b → (found ≡ Some rest → Hashes n cs) → cond b found None ≡ Some rest → Hashes (suc n) (c ∷ cs)
-hash_first n c cs rest found true h more e = let m = more e in (m.0, ap (λ v. v ∷ cs) (eqb-true c 35 h) ∙ ap (λ v. 35 ∷ v) m.1)
-hash_first n c cs rest found false h more e = cc
-
-hashes_within : (n : ℕ) (text ys rest : List ℕ) → after_hashes n (text ++ 34 ∷ ys) ≡ Some rest → Hashes n text
-hashes_within zero text ys rest e = (text, refl)
-hashes_within (suc n) [] ys rest e = cc
-hashes_within (suc n) (c ∷ cs) ys rest e = hash_first n c cs rest (after_hashes n (cs ++ 34 ∷ ys)) (c == 35) refl (hashes_within n cs ys rest) e
-
-no_hashes : (n c : ℕ) (text ys : List ℕ) → IsRawText n (c ∷ text) → c ≡ 34 → (found : Option (List ℕ)) → after_hashes n (text ++ 34 ∷ ys) ≡ found → found ≡ None
-no_hashes n c text ys raw q None e = refl
-no_hashes n c text ys raw q (Some end) e =
-    let within = hashes_within n text ys end e in
-    absurd (raw [] within.0 (ap (λ v. v ∷ text) q ∙ ap (λ v. 34 ∷ v) within.1))
-
-raw_text_reads : (n : ℕ) (text rest : List ℕ) → IsRawText n text → after_raw_text n (text ++ 34 ∷ (replicate n 35 ++ rest)) ≡ Some rest
-raw_text_reads n [] rest raw = ap (λ v. first_of v (after_raw_text n (replicate n 35 ++ rest))) (hashes_read n rest)
-raw_text_reads n (c ∷ cs) rest raw =
-    let ys = replicate n 35 ++ rest in
-    let later : after_raw_text n (cs ++ 34 ∷ ys) ≡ Some rest = raw_text_reads n cs rest (λ before after e. raw (c ∷ before) after (ap (λ v. c ∷ v) e)) in
-    let quoted = first_of (after_hashes n (cs ++ 34 ∷ ys)) (after_raw_text n (cs ++ 34 ∷ ys)) in
-    elim (cases_Bool (c == 34)) [
-      | inl q ↦ cond-true (c == 34) quoted _ q ∙ ap (λ v. first_of v (after_raw_text n (cs ++ 34 ∷ ys))) (no_hashes n c cs ys raw (eqb-true c 34 q) (after_hashes n (cs ++ 34 ∷ ys)) refl) ∙ later
-      | inr q ↦ cond-false (c == 34) quoted _ q ∙ later
-    ]
-
--- after k of the signs
-opening_reads : (n k m : ℕ) (ys : List ℕ) → m ≡ k + n → m ≤ 255 → after_raw_string k (replicate n 35 ++ 34 ∷ ys) ≡ after_raw_text m ys
-opening_reads zero k m ys e l = let same : k ≡ m = omega (arith, e) in ap (λ v. after_raw_text v ys) same
-opening_reads (suc n) k m ys e l =
-    let less : nat_lt k 255 ≡ true = grind (arith, nat_tests, e, l) in
-    cond-true (nat_lt k 255) (after_raw_string (k + 1) (replicate n 35 ++ 34 ∷ ys)) None less ∙ opening_reads n (k + 1) m ys (omega (arith, e)) l
-
 pub raw_opens : (n : ℕ) (ys : List ℕ) → n ≤ 255 → after_raw_string 0 (replicate n 35 ++ 34 ∷ ys) ≡ after_raw_text n ys
-raw_opens n ys l = opening_reads n 0 n ys (omega arith) l
-
-raw_reads : (cs rest : List ℕ) → IsRawString cs → after_raw_string 0 (cs ++ rest) ≡ Some rest
-raw_reads cs rest r =
-    let hashes = replicate r.0 35 in
-    let here : cs ++ rest ≡ hashes ++ 34 ∷ (r.1 ++ 34 ∷ (hashes ++ rest)) =
-    ap (λ v. v ++ rest) r.4 ∙ append_assoc hashes (34 ∷ (r.1 ++ 34 ∷ hashes)) rest ∙ ap (λ v. hashes ++ 34 ∷ v) (append_assoc r.1 (34 ∷ hashes) rest) in
-    ap (after_raw_string 0) here ∙ raw_opens r.0 (r.1 ++ 34 ∷ (hashes ++ rest)) r.2 ∙ raw_text_reads r.0 r.1 rest r.3
+raw_opens n ys l = raw_reads n 0 n ys (omega arith) l
 
 -- somewhere the signs follow a quote: there is an end
 abbrev pub Finds : Option (List ℕ) → Type 0
@@ -171,9 +107,9 @@ form_ends (byte {cs = cs} h) = inr (ends_from after_character 39 (98 ∷ []) cs 
 form_ends (string {cs = cs} h) = inr (ends_from (after_string Any false) 34 [] cs (string_reads cs (any_string cs h)) (λ ds. refl))
 form_ends (byte_string {cs = cs} h) = inr (ends_from (after_string Any false) 34 (98 ∷ []) cs (string_reads cs h) (λ ds. refl))
 form_ends (c_string {cs = cs} h) = inr (ends_from (after_string Any false) 34 (99 ∷ []) cs (string_reads cs h) (λ ds. refl))
-form_ends (raw_string {cs = cs} h) = inr (λ rest. raw_reads cs rest h)
-form_ends (raw_byte_string {cs = cs} h) = inr (λ rest. raw_reads cs rest h)
-form_ends (raw_c_string {cs = cs} h) = inr (λ rest. raw_reads cs rest h)
+form_ends (raw_string {cs = cs} h) = inr (λ rest. raw_string_reads cs rest h)
+form_ends (raw_byte_string {cs = cs} h) = inr (λ rest. raw_string_reads cs rest h)
+form_ends (raw_c_string {cs = cs} h) = inr (λ rest. raw_string_reads cs rest h)
 
 digit_first : (long form left : List ℕ) → IsNumber form → long ≡ form ++ left → ((c : ℕ) (cs : List ℕ) → long ≡ c ∷ cs → is_digit c ≡ false) → (n : ℕ) → length long ≤ n
 digit_first [] form left h e other n = omega arith

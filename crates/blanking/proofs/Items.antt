@@ -1,14 +1,14 @@
 -- The span of an item that stands goes from its first tree to its last.
 use Rattle.std.proofs.Common.{◌≡◌, ◌∙◌, ℕ, zero, suc, ◌-◌, max, List, [], ◌∷◌, ◌++◌, length, take, get_or, refl, ap, sym, subst, arith, append_assoc, length-append, ◌⊎◌, inl, inr, Bool, true, false, cond, ◌&&◌, ◌==◌, Option, Some, None, is_some}
 use Rattle.std.specs.Prelude.{codes}
-use Rattle.std.specs.Option.{option_map}
 use Rattle.std.proofs.lemmas.Bool.{or_cases, and_parts}
 use Rattle.std.proofs.lemmas.List.{take_at}
 use Rattle.texts.specs.declared.span.Span.{Span}
+use Rattle.texts.proofs.Laws.{mapped}
 use Rattle.tokens.specs.declared.token.TokenKind.{TokenKind}
 use Rattle.tokens.specs.declared.token.TokenKind.TheVariants as kind
 use Rattle.tokens.specs.declared.token.Bracket.{Bracket}
-use Rattle.tokens.specs.Trees.{Tree, token, group, Trees, end, ◌▸◌, trees_of}
+use Rattle.tokens.specs.Trees.{Tree, token, group, Trees, end, trees_of}
 use Rattle.words.specs.Words.{word_of, cover}
 use Rattle.words.specs.Reading.{as_name}
 use Rattle.written_types.specs.declared.written.Ident.{Ident}
@@ -20,11 +20,12 @@ use Rattle.prepare.specs.Trees.{listed, word, sign_in, is_text, is_word, is_sign
 use Rattle.prepare.specs.Attributes.{square_at, bang_at, attribute_at, inner_at, after_all_from, after_all_within, after_attributes, after_inner, after_scope, after_visibility, is_for_tests}
 use Rattle.prepare.specs.Ends.{after_semicolon, is_end, angles, after_block, after_path, after_name, semicolon_at, after_group, behind_path, after_call}
 use Rattle.prepare.specs.Forms.{Form, declares, uses, holds, passes, Found, ending, named_or_none, declared_at, declaration_at, held_at, module_at, form_of, kind_at, form_at}
-use Rattle.prepare.specs.Items.{Item, item_of, unless_for_tests, item_from, item_at}
+use Rattle.prepare.specs.Items.{Item, item_of, item_from, item_at}
 use Rattle.prepare.specs.Items as item
 use Rattle.prepare.specs.Standing.{AreItems, no_items, more_items, StandIn, itself, nothing, StandInside, for_tests, items}
 use Rattle.prepare.specs.Standing as standing
 use Rattle.prepare.specs.Choices.{AreSpansOf, no_spans, taken, left, AreChosen}
+use Rattle.prepare.proofs.Laws.{some_same, not_none, listed_trees}
 use Rattle.blanking.proofs.Placing.{IsLast, EndsAt, by_it, later_on, IsPlaced, here, behind}
 use Rattle.blanking.proofs.Placing as placing
 use Rattle.blanking.proofs.Settling.{IsAmong, first, further}
@@ -65,12 +66,6 @@ group_follows : {held rest ts : List Tree} → FollowsGroup held rest ts → Fol
 group_follows {rest = rest} f = let t = group f.1 f.2 f.3 in (f.0 ++ t ∷ [], f.4 ∙ sym (append_assoc f.0 (t ∷ []) rest))
 
 -- ---- by the values of readers
-pub some_same : {A : Type 0} {x y : A} → Some x ≡ Some y → x ≡ y
-some_same e = cc
-
-pub not_none : {A B : Type 0} {r : A} → None ≡ Some r → B
-not_none e = cc
-
 pub either : {A : Type 0} (b : Bool) {x y : Option A} {r : A} → cond b x y ≡ Some r → ((b ≡ true) × (x ≡ Some r)) ⊎ ((b ≡ false) × (y ≡ Some r))
 either true e = inl (refl, e)
 either false e = inr (refl, e)
@@ -297,16 +292,12 @@ unless_ends : (b : Bool) (ts : List Tree) (i : Item) (rest : List Tree) → Item
 unless_ends true ts i rest h = item_follows ts i rest h
 unless_ends false ts i rest h = h
 
-pub mapped : {A B : Type 0} (f : A → B) (o : Option A) {y : B} → option_map f o ≡ Some y → (x : A) × (o ≡ Some x) × (f x ≡ y)
-mapped f None e = not_none e
-mapped f (Some x) e = (x, refl, some_same e)
-
 pub item_ends : (ts : List Tree) (i : Item) (rest : List Tree) → item_at ts ≡ Some (i, rest) → ItemEnds ts i rest
 unfolding item_at
 item_ends ts i rest e =
     let start = after_attributes ts in
     let keyword = after_visibility start in
-    let m = mapped (item_from ts start keyword) (form_at keyword) e in
+    let m = mapped (item_from ts start keyword) (form_at keyword) _ e in
     let h = then_form m.0.0 m.0.1 keyword ts (form_ends keyword m.0 m.1) (then_follows (visibility_left start) (attributes_left ts)) in
     let here = unless_ends (is_for_tests (before ts start)) ts (item_of ts start keyword m.0.0 m.0.1) m.0.1 (item_of_form ts start keyword m.0.0 m.0.1 h) in
     subst (λ v. ItemEnds ts v.0 v.1) m.2 here
@@ -314,10 +305,6 @@ item_ends ts i rest e =
 -- ---- where spans stand
 abbrev Place : Span → List Tree → Type 0
 Place x ts = IsPlaced (max x.start) x (trees_of ts)
-
-pub listed_same : (ts : Trees) → trees_of (listed ts) ≡ ts
-listed_same end = refl
-listed_same (t ▸ ts) = ap (λ v. t ▸ v) (listed_same ts)
 
 behind_all : (x : Span) (pre rest : List Tree) → Place x rest → Place x (pre ++ rest)
 behind_all x [] rest h = h
@@ -328,7 +315,7 @@ place_follows x rest ts f h = subst (Place x) (sym f.1) (behind_all x f.0 rest h
 
 place_held : (x : Span) (held rest ts : List Tree) → FollowsGroup held rest ts → Place x held → Place x ts
 place_held x held rest ts f h =
-    let within : IsPlaced (max x.start) x f.2 = subst (IsPlaced (max x.start) x) (ap trees_of f.5 ∙ listed_same f.2) h in
+    let within : IsPlaced (max x.start) x f.2 = subst (IsPlaced (max x.start) x) (ap trees_of f.5 ∙ listed_trees f.2) h in
     subst (Place x) (sym f.4) (behind_all x f.0 (group f.1 f.2 f.3 ∷ rest) (placing.inside within))
 
 -- the trees up to the last
@@ -415,4 +402,4 @@ pub chosen_placed : (choice : Choice) (ts : Trees) (ss : List Standing) (spans :
 chosen_placed choice ts ss spans h chosen x m =
     let found = span_among chosen m in
     let there = inside_placed h found.0 found.1 in
-    subst (IsPlaced (max x.start) x) (listed_same ts) (subst (λ v. Place v (listed ts)) found.2 there)
+    subst (IsPlaced (max x.start) x) (listed_trees ts) (subst (λ v. Place v (listed ts)) found.2 there)

@@ -1,7 +1,6 @@
 mod Blanks
 mod Firsts
 mod Forms
-mod Comments
 mod Longest
 mod Cutting
 mod Thinning

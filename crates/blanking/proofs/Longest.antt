@@ -1,5 +1,5 @@
 -- A piece that stands is the longest in the masked text too.
-use Rattle.std.proofs.Common.{◌≡◌, ◌∙◌, ℕ, zero, suc, ◌+◌, ◌≤◌, ◌<◌, List, [], ◌∷◌, ◌++◌, length, replicate, refl, ap, sym, subst, arith, append_assoc, append-nil, length-append, ◌⊎◌, inl, inr, Bool, true, false, not, ◌==◌, ◌||◌, ◌&&◌, Some}
+use Rattle.std.proofs.Common.{◌≡◌, ◌∙◌, ℕ, zero, suc, ◌+◌, ◌≤◌, ◌<◌, List, [], ◌∷◌, ◌++◌, length, replicate, refl, ap, sym, subst, arith, append_assoc, append-nil, length-append, ◌⊎◌, inl, inr, Bool, true, false, not, ◌==◌, ◌||◌, ◌&&◌, Some, Option}
 use Rattle.std.proofs.lemmas.Bool.{eqb-true, and_parts, and_from, or_parts, cases_Bool, not-true, not_from_false, eq-eqb}
 use Rattle.std.proofs.lemmas.List.Folds.{list_all-append}
 use Rattle.std.specs.List.{list_all}
@@ -12,10 +12,18 @@ use Rattle.tokens.specs.declared.token.TokenKind.TheVariants.{Ident, Lifetime, L
 use Rattle.lexing.specs.declared.piece.PieceKind.{PieceKind}
 use Rattle.lexing.specs.declared.piece.PieceKind.TheVariants.{Space, Comment, Token, Open, Close}
 use Rattle.lexing.specs.Pieces.{star, slash, is_white, is_in_line, is_doc, IsInside, IsComment, IsIdentifier, IsPiece, may_end, IsLongest}
+use Rattle.lexing.proofs.Laws.{identifier_starts, no_identifier, block_reads}
+use Rattle.lexing.specs.Scanning.{closing_at}
 use Rattle.blanking.proofs.Blanks.{is_blank, is_seen, not_both, masked_chars, closing_seen}
-use Rattle.blanking.proofs.Firsts.{identifier_starts, at_string, at_apostrophe, is_letter, at_letter, LiteralsBegin, at_slash, seen_append, identifier_seen, suffix_seen, number_seen, number_first}
+use Rattle.blanking.proofs.Firsts.{at_string, at_apostrophe, is_letter, at_letter, LiteralsBegin, at_slash, seen_append, identifier_seen, suffix_seen, number_seen, number_first}
 use Rattle.blanking.proofs.Forms.{any_string, raw_opens, raw_closes, Ends, form_ends, no_shorter}
-use Rattle.blanking.proofs.Comments.{no_longer_block}
+
+-- ---- block comments
+-- none begins another
+no_longer_block : (body other extra : List ℕ) → IsInside body (star ∷ slash ∷ []) → IsInside other (star ∷ slash ∷ []) → other ≡ body ++ extra → extra ≡ []
+no_longer_block body other extra b o e =
+    let here : ◌≡◌ {A = Option (List ℕ)} (Some extra) (Some []) = sym (block_reads body extra b) ∙ ap (closing_at 1) (sym e ∙ sym (append-nil other)) ∙ block_reads other [] o in
+    cc
 
 -- ---- parts of lists
 -- of two fronts of a text, one goes on with the other
@@ -159,10 +167,6 @@ apostrophe_no_word = refl
 backslash_no_name : starts_name 92 ≡ false
 unfolding unicode_ident
 backslash_no_name = refl
-
-no_identifier : IsIdentifier [] → ⊥
-no_identifier (inl h) = h
-no_identifier (inr h) = let whole = h.1 in cc
 
 -- no identifier begins with a backslash
 backslash_alone : {X : Type 0} (fs more : List ℕ) → IsIdentifier fs → (extra : List ℕ) → fs ++ extra ≡ 92 ∷ more → X

@@ -1,5 +1,5 @@
 -- What is read as an item does not depend on what follows it.
-use Rattle.std.proofs.Common.{◌≡◌, ◌∙◌, ℕ, zero, suc, ◌-◌, ◌≤◌, ◌<◌, List, [], ◌∷◌, ◌++◌, length, refl, ap, sym, subst, arith, append_assoc, length-append, inl, inr, Bool, true, false, cond, Option, Some, None, is_some}
+use Rattle.std.proofs.Common.{◌≡◌, ◌∙◌, ℕ, zero, suc, ◌-◌, ◌≤◌, List, [], ◌∷◌, ◌++◌, length, refl, ap, sym, subst, arith, append_assoc, length-append, inl, inr, Bool, true, false, cond, Option, Some, None, is_some}
 use Rattle.std.specs.Prelude.{codes}
 use Rattle.std.specs.Option.{option_map}
 use Rattle.std.proofs.lemmas.List.{take_at}
@@ -12,14 +12,16 @@ use Rattle.written_types.specs.declared.written.Ident.{Ident}
 use Rattle.prepare.specs.declared.kind.Kind.{Kind}
 use Rattle.prepare.specs.declared.kind.Kind.TheVariants as kinds
 use Rattle.prepare.specs.declared.item.Standing.{Standing}
-use Rattle.prepare.specs.Trees.{word, word_in, sign_in, doc_in, is_text, is_word, is_sign, is_round, is_square, is_inner_doc, is_outer_doc, is_outer_text, is_curly, extent, before}
-use Rattle.prepare.specs.Attributes.{square_at, bang_at, attribute_at, inner_at, after_all_from, after_all_within, after_all, after_attributes, after_inner, after_scope, after_visibility, is_for_tests}
+use Rattle.prepare.specs.Trees.{word, word_in, sign_in, doc_in, is_text, is_word, is_sign, is_round, is_square, is_outer_doc, is_outer_text, is_curly, extent, before}
+use Rattle.prepare.specs.Attributes.{square_at, attribute_at, after_attributes, after_scope, after_visibility, is_for_tests}
 use Rattle.prepare.specs.Kinds.{kind_of}
 use Rattle.prepare.specs.Ends.{after_semicolon, is_end, angles, after_block, semicolon_at, after_call}
 use Rattle.prepare.specs.Forms.{Form, declares, uses, holds, passes, Found, first_word, kind_by, kind_at, ending, named_or_none, declared_at, declaration_at, held_at, module_at, use_at, form_of, form_at}
 use Rattle.prepare.specs.Items.{Item, declared_of, item_of, unless_for_tests, item_from, item_at}
 use Rattle.prepare.specs.Items as item
-use Rattle.blanking.proofs.Items.{Follows, FollowsLast, then_follows, some_same, not_none, either, mapped, attributes_left, visibility_left, scope_left, semicolon_left, block_left, last_follows}
+use Rattle.prepare.proofs.Laws.{some_same, not_none, attributes_step, attributes_stop}
+use Rattle.texts.proofs.Laws.{mapped}
+use Rattle.blanking.proofs.Items.{Follows, FollowsLast, then_follows, either, attributes_left, visibility_left, scope_left, semicolon_left, block_left, last_follows}
 
 -- ---- parts of lists
 -- what stands before the same rest
@@ -47,71 +49,6 @@ before_all xs rest = let size : length (xs ++ rest) - length rest ≡ length xs 
 
 before_part : (xs ys rest : List Tree) → before ((xs ++ ys) ++ rest) (ys ++ rest) ≡ xs
 before_part xs ys rest = ap (λ v. before v (ys ++ rest)) (append_assoc xs ys rest) ∙ before_all xs (ys ++ rest)
-
--- ---- attributes, as often as there are some
-module _ (one : List Tree → Option (List Tree)) (leaves : (ts rest : List Tree) → one ts ≡ Some rest → length rest < length ts) where
-  same_from : (n m : ℕ) (ts : List Tree) (r : Option (List Tree)) → one ts ≡ r → ((rest : List Tree) → length rest < length ts → after_all_within one n rest ≡ after_all_within one m rest)
-      → after_all_from (after_all_within one n) ts r ≡ after_all_from (after_all_within one m) ts r
-  same_from n m ts None e h = refl
-  same_from n m ts (Some rest) e h = h rest (leaves ts rest e)
-
-  from_nothing : (r : Option (List Tree)) (again : List Tree → List Tree) → one [] ≡ r → after_all_from again [] r ≡ []
-  from_nothing None again e = refl
-  from_nothing (Some rest) again e = absurd (omega (arith, leaves [] rest e))
-
-  nothing_within : (n : ℕ) → after_all_within one n [] ≡ []
-  nothing_within zero = refl
-  nothing_within (suc n) = from_nothing (one []) (after_all_within one n) refl
-
-  enough : (n m : ℕ) (ts : List Tree) → length ts ≤ n → length ts ≤ m → after_all_within one n ts ≡ after_all_within one m ts
-  enough n m [] a b = nothing_within n ∙ sym (nothing_within m)
-  enough zero m (t ∷ ts) a b = absurd (omega arith)
-  enough (suc n) zero (t ∷ ts) a b = absurd (omega arith)
-  enough (suc n) (suc m) (t ∷ ts) a b = same_from n m (t ∷ ts) (one (t ∷ ts)) refl (λ rest less. enough n m rest (omega arith) (omega arith))
-
-  all_step : (ts rest : List Tree) → one ts ≡ Some rest → after_all one ts ≡ after_all one rest
-  all_step [] rest e = absurd (omega (arith, leaves [] rest e))
-  all_step (t ∷ ts) rest e =
-      let less = leaves (t ∷ ts) rest e in
-      ap (after_all_from (after_all_within one (length ts)) (t ∷ ts)) e ∙ enough (length ts) (length rest) rest (omega arith) (omega arith)
-
-  all_stop : (ts : List Tree) → one ts ≡ None → after_all one ts ≡ ts
-  all_stop [] e = refl
-  all_stop (t ∷ ts) e = ap (after_all_from (after_all_within one (length ts)) (t ∷ ts)) e
-
-square_short : (ts rest : List Tree) → square_at ts ≡ Some rest → length rest < length ts
-square_short [] rest e = not_none e
-square_short (t ∷ ts) rest e = elim (either (is_square t) e) [ inl h ↦ (let same = ap length (some_same h.1) in omega (arith, same)) | inr h ↦ not_none h.1 ]
-
-bang_short : (ts rest : List Tree) → bang_at ts ≡ Some rest → length rest < length ts
-bang_short [] rest e = not_none e
-bang_short (t ∷ ts) rest e = elim (either (is_sign (codes "!") t) e) [ inl h ↦ omega (arith, square_short ts rest h.1) | inr h ↦ not_none h.1 ]
-
-attribute_short : (ts rest : List Tree) → attribute_at ts ≡ Some rest → length rest < length ts
-attribute_short [] rest e = not_none e
-attribute_short (t ∷ ts) rest e = elim (either (is_outer_doc t) e) [
-  | inl h ↦ (let same = ap length (some_same h.1) in omega (arith, same))
-  | inr h ↦ elim (either (is_sign (codes "#") t) h.1) [ inl g ↦ omega (arith, square_short ts rest g.1) | inr g ↦ not_none g.1 ]
-]
-
-inner_short : (ts rest : List Tree) → inner_at ts ≡ Some rest → length rest < length ts
-inner_short [] rest e = not_none e
-inner_short (t ∷ ts) rest e = elim (either (is_inner_doc t) e) [
-  | inl h ↦ (let same = ap length (some_same h.1) in omega (arith, same))
-  | inr h ↦ elim (either (is_sign (codes "#") t) h.1) [ inl g ↦ omega (arith, bang_short ts rest g.1) | inr g ↦ not_none g.1 ]
-]
-
-attributes_step : (ts rest : List Tree) → attribute_at ts ≡ Some rest → after_attributes ts ≡ after_attributes rest
-unfolding after_attributes
-attributes_step = all_step attribute_at attribute_short
-
-pub attributes_stop : (ts : List Tree) → attribute_at ts ≡ None → after_attributes ts ≡ ts
-unfolding after_attributes
-attributes_stop = all_stop attribute_at attribute_short
-
-pub inner_stop : (ts : List Tree) → inner_at ts ≡ None → after_inner ts ≡ ts
-unfolding after_inner
-inner_stop = all_stop inner_at inner_short
 
 -- ---- a word begins no attribute
 -- a word is no sign, and no doc comment
@@ -464,7 +401,7 @@ unfolding item_at
 stands_any own rest s e =
     let start = after_attributes (own ++ rest) in
     let keyword = after_visibility start in
-    let m = mapped (item_from (own ++ rest) start keyword) (form_at keyword) e in
+    let m = mapped (item_from (own ++ rest) start keyword) (form_at keyword) _ e in
     let same_rest : m.0.1 ≡ rest = ap (λ p. p.1) m.2 in
     let any = by_form m.0.0 (m.1 ∙ ap (λ v. Some (m.0.0, v)) same_rest) m.0.1 (ap (λ p. p.0) m.2) in
     let value : any.0 ≡ item.stands s = ap (λ p. p.0) (some_same (sym (any.1 rest) ∙ e)) in

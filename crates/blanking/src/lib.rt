@@ -2,6 +2,6 @@
 //! nothing else is.
 #![tactic(auto)]
 
-mod laws;
+mod law;
 
-pub use laws::{kept_trees_are_cut, kept_trees_are_read, prepared_texts_are_files};
+pub use law::{kept_trees_are_cut, kept_trees_are_read, prepared_texts_are_files};

@@ -18,11 +18,11 @@ use Rattle.open_types.specs.Open.{Open}
 use Rattle.shapes.specs.Declarations.{DeclarationOf}
 use Rattle.shapes.specs.InstanceNames.{instance_name}
 use Rattle.inlining.specs.Inlining.{IsAmong}
+use Rattle.inlining.proofs.Laws.{among_cases}
 use Rattle.instances.specs.Lists.{IsOneOf, instance_at, AreInstances}
 use Rattle.instances.specs.Names.{NamesDiffer}
 use Rattle.closing.specs.Closed.{instance_schema}
 use Rattle.closing.specs.Made.{AreEntriesOf}
-use Rattle.closing.proofs.Leaves.{among_cases}
 
 same_text : (k : List ℕ) → bytes_eq k k ≡ true
 same_text k = (bytes_eq-Decides k k).1 refl

@@ -6,11 +6,11 @@ use Rattle.open_types.specs.Laws.{SameIsEqual, SubstitutedNone}
 use Rattle.shapes.specs.Declarations.{DeclarationOf}
 use Rattle.inlining.specs.Inlining.{IsAmong, sum_of, copies}
 use Rattle.instances.specs.Lists.{IsOneOf, instance_at, AreDifferent, AreInstances}
+use Rattle.instances.proofs.Laws.{at-one, without, still-there}
 use Rattle.closing.specs.Links.{targets_at, numbered, inlining_of}
 use Rattle.closing.specs.Copies.{sum_over, instance_copies, PathsByNumbers, CopiesByNumbers, NoMoreInAll}
 use Rattle.closing.proofs.InstanceDescribed.{target-reachable}
 use Rattle.closing.proofs.InstanceNumbers.{HasNumber, with_number, of-number, row-one}
-use Rattle.closing.proofs.LinkTerms.{at-one}
 
 pub paths-by-numbers : SameIsEqual → PathsByNumbers
 paths-by-numbers same ss is [] p = tt
@@ -52,19 +52,6 @@ pub copies-by-numbers : SameIsEqual → SubstitutedNone → CopiesByNumbers
 copies-by-numbers same none ss is are n ns h = copies-sum same none ss is are n ns h
 
 -- ---- sums over different instances
-
--- the list without one of its items
-abbrev without : (x : Open) (ys : List Open) → IsOneOf x ys → List Open
-without x [] h = []
-without x (y ∷ ys) (inl e) = ys
-without x (y ∷ ys) (inr h) = y ∷ without x ys h
-
-still-there : (x u : Open) (ys : List Open) (h : IsOneOf x ys) → IsOneOf u ys → ¬ (u ≡ x) → IsOneOf u (without x ys h)
-still-there x u [] h o n = absurd h
-still-there x u (y ∷ ys) (inl e) (inl f) n = absurd (n (f ∙ sym e))
-still-there x u (y ∷ ys) (inl e) (inr o) n = o
-still-there x u (y ∷ ys) (inr h) (inl f) n = inl f
-still-there x u (y ∷ ys) (inr h) (inr o) n = inr (still-there x u ys h o n)
 
 module _ (f : Open → ℕ) where
   one-apart : (x : Open) (ys : List Open) (h : IsOneOf x ys) → sum_over f ys ≡ f x + sum_over f (without x ys h)

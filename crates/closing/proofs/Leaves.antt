@@ -1,7 +1,6 @@
--- What holds of the leaves of a schema: two facts at once, the declarations that are inline there, and schemas that are the same at each.
-use Rattle.std.proofs.Common.{ℕ, List, [], ◌∷◌, ◌++◌, ◌≡◌, refl, ◌⊎◌, inl, inr}
+-- What holds of the leaves of a schema: two facts at once, and schemas that are the same at each.
+use Rattle.std.proofs.Common.{◌≡◌, refl}
 use Rattle.schema_trees.specs.Schema.{SchemaOf, leaf, object, array, one_of, all_of, SchemasOf, no_schemas, schema, PropertiesOf, no_properties, property, PartOf, no_part, truth, part, bind, bind_schemas, bind_properties, bind_part, EachLeaf, EachSchemaLeaf, EachPropertyLeaf, EachPartLeaf}
-use Rattle.inlining.specs.Inlining.{IsAmong}
 
 -- ---- two facts at once
 
@@ -50,22 +49,3 @@ module _ {X Y : Type 0} (f g : X → SchemaOf Y) where
     part-same no_part h = refl
     part-same (truth b) h = refl
     part-same (part s) h = λ i. part (bind-same s h i)
-
--- ---- the declarations that are inline at the leaves
-
-pub among-left : (e : ℕ) (xs ys : List ℕ) → IsAmong e xs → IsAmong e (xs ++ ys)
-among-left e [] ys h = absurd h
-among-left e (x ∷ xs) ys (inl h) = inl h
-among-left e (x ∷ xs) ys (inr h) = inr (among-left e xs ys h)
-
-pub among-right : (e : ℕ) (xs ys : List ℕ) → IsAmong e ys → IsAmong e (xs ++ ys)
-among-right e [] ys h = h
-among-right e (x ∷ xs) ys h = inr (among-right e xs ys h)
-
-pub among_cases : (e : ℕ) (xs ys : List ℕ) → IsAmong e (xs ++ ys) → IsAmong e xs ⊎ IsAmong e ys
-among_cases e [] ys h = inr h
-among_cases e (x ∷ xs) ys (inl same) = inl (inl same)
-among_cases e (x ∷ xs) ys (inr h) = elim (among_cases e xs ys h) [
-  | inl i ↦ inl (inr i)
-  | inr i ↦ inr i
-]

@@ -14,13 +14,14 @@ use Rattle.shapes.specs.InstanceShape.{IsReachable}
 use Rattle.terms.specs.InstanceTerms.{instance_term}
 use Rattle.inlining.specs.Inlining.{targets_of, IsAmong, AreOnce}
 use Rattle.inlining.specs.Marks.{mark}
+use Rattle.inlining.proofs.Laws.{among-left, among-right, among_cases, among_at}
 use Rattle.instances.specs.Lists.{IsOneOf, number_in, instance_at, AreInstances}
+use Rattle.instances.proofs.Laws.{at-one}
 use Rattle.closing.specs.Closed.{any_value, schema_in}
 use Rattle.closing.specs.Closed.{put, instance_schema, schema_of, made_at}
 use Rattle.closing.specs.Described.{AreShallow}
 use Rattle.closing.specs.Links.{targets_at, inlining_of}
 use Rattle.closing.specs.Made.{AreAlong}
-use Rattle.closing.proofs.Leaves.{among-left, among-right, among_cases}
 use Rattle.closing.proofs.InstanceDepth.{made-in-order}
 use Rattle.closing.proofs.InstanceDescribed.{target-reachable}
 use Rattle.closing.proofs.InstanceNumbers.{HasNumber, with_number, found-among, of-number}
@@ -57,11 +58,6 @@ kept (y ∷ made) (suc i) (suc d) s = by (kept made i d s)
 
 -- ---- an order
 
-pub among_at : (ds : List ℕ) (i : ℕ) → i < length ds → IsAmong (get_or ds i 0) ds
-among_at [] i h = absurd (omega arith)
-among_at (d ∷ ds) zero h = inl refl
-among_at (d ∷ ds) (suc i) h = inr (among_at ds i (omega arith))
-
 -- of a list that has each once, a number is not among those before it
 pub fresh_at : (ds : List ℕ) (i : ℕ) → AreOnce ds → i < length ds → ¬ (IsAmong (get_or ds i 0) (take i ds))
 fresh_at [] i once h = absurd (omega arith)
@@ -69,7 +65,7 @@ fresh_at (d ∷ ds) zero once h = λ none. none
 fresh_at (d ∷ ds) (suc i) once h = by (fresh_at ds i once.1 (omega arith))
   where
     by : ¬ (IsAmong (get_or ds i 0) (take i ds)) → (get_or ds i 0 ≡ d) ⊎ IsAmong (get_or ds i 0) (take i ds) → ⊥
-    by before (inl same) = once.0 (subst (λ e. IsAmong e ds) same (among_at ds i (omega arith)))
+    by before (inl same) = once.0 (subst (λ e. IsAmong e ds) same (among_at ds i 0 (omega arith)))
     by before (inr among) = before among
 
 -- what is not among some of the list is not the next one either
@@ -136,11 +132,6 @@ module _ (ss : List DeclarationOf) (is : List Open) (marks : List Bool) where
       by (inl same) = absurd ((not_next ds i n h none).0 same)
       by (inr other) = other ∙ left n l m (not_next ds i n h none).1
 
-pub one-at : (is : List Open) (n : ℕ) → n < length is → IsOneOf (instance_at is n) is
-one-at [] n l = absurd (omega (arith, l))
-one-at (i ∷ is) zero l = inl refl
-one-at (i ∷ is) (suc n) l = inr (one-at is n (omega (arith, l)))
-
 -- there are as many lists of targets as instances
 pub as-many : (ss : List DeclarationOf) (is : List Open) → length (inlining_of ss is) ≡ length is
 as-many ss is = length-map is (λ t. filter_map (number_in is) (targets_at ss t))
@@ -160,7 +151,7 @@ module _ (same : SameIsEqual) (none : SubstitutedNone) (ss : List DeclarationOf)
       t = instance_at is p
 
       reached : IsReachable ss t
-      reached = are.reached t (one-at is p l)
+      reached = are.reached t (at-one is p l)
 
       each : (u : Open) → IsOneOf u (targets_at ss t) → made_at is (map schema_view made) u ≡ instance_schema ss u
       each u o =

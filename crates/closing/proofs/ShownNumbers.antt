@@ -11,11 +11,11 @@ use Rattle.inlining.specs.Inlining.{targets_of, IsAmong, AreOnce, AreTargets}
 use Rattle.inlining.specs.Shown.{IsShown as IsNumberShown, IsComponent as IsNumberComponent}
 use Rattle.inlining.specs.Shown as numbers
 use Rattle.instances.specs.Lists.{IsOneOf, number_in, instance_at, AreDifferent, AreInstances}
+use Rattle.instances.proofs.Laws.{at-one}
 use Rattle.closing.specs.Links.{targets_at, references_at, numbered, inlining_of, referring_of, IsFirst, IsShown, IsComponent, AreComponentsOf}
 use Rattle.closing.specs.Links as link
 use Rattle.closing.proofs.InstanceDescribed.{shown-reachable, component-shown}
 use Rattle.closing.proofs.InstanceNumbers.{HasNumber, with_number, of-number, found-among, row-one, rows-within}
-use Rattle.closing.proofs.LinkTerms.{at-one}
 
 -- ---- numbers that are chosen one after another
 

@@ -1,5 +1,5 @@
 -- Where instances stand, and how they read.
-use Rattle.std.proofs.Common.{ℕ, zero, suc, ◌<◌, List, [], ◌∷◌, length, map, get_or, Some, ◌≡◌, refl, ap, sym, subst, ◌∙◌, inl, inr, arith}
+use Rattle.std.proofs.Common.{ℕ, zero, suc, ◌<◌, List, [], ◌∷◌, length, map, get_or, Some, ◌≡◌, refl, sym, subst, ◌∙◌, inl, inr, arith}
 use Rattle.std.proofs.lemmas.List.{length-map}
 use Rattle.diag.specs.Diagnostics.{diagnostic}
 use Rattle.diag.specs.declared.diagnostics.DiangosticsInner.{DiangosticsInner}
@@ -14,7 +14,8 @@ use Rattle.shapes.specs.Declarations.{DeclarationOf, AreFitting}
 use Rattle.shapes.specs.InstanceShape.{IsReachable}
 use Rattle.inlining.specs.Inlining.{IsAmong, IsPath}
 use Rattle.instances.specs.Fitting.{IsFit, ReachableFit}
-use Rattle.instances.specs.Lists.{IsOneOf, instance_at, AreInstances}
+use Rattle.instances.specs.Lists.{instance_at, AreInstances}
+use Rattle.instances.proofs.Laws.{at-one}
 use Rattle.closing.specs.Closed.{most_inlined}
 use Rattle.closing.specs.Described.{IsInlinePath}
 use Rattle.compose.specs.Bounds.{ident_at, instance_text, ArePlaced, IsAt, IsRefusalOf, IsDeep, deep_message}
@@ -24,31 +25,17 @@ ident-found [] i x l = absurd (omega (arith, l))
 ident-found (y ∷ xs) zero x l = refl
 ident-found (y ∷ xs) (suc i) x l = ident-found xs i x (omega (arith, l))
 
-pub same-idents : (xs : List Ident) → map (λ i. i) xs ≡ xs
-same-idents [] = refl
-same-idents (x ∷ xs) = ap (λ ys. x ∷ ys) (same-idents xs)
-
 -- what is reachable is of a declaration that is there
 pub reachable-placed : ReachableFit → (ss : List DeclarationOf) → AreFitting ss → (t : Open) → IsReachable ss t → declared_place t < length ss
 reachable-placed fit ss fitting t r = let f : IsFit ss t = fit ss fitting t r in subst (λ u. declared_place u < length ss) (sym f.is) f.over.0
 
-one-at : (is : List Open) (n : ℕ) → n < length is → IsOneOf (instance_at is n) is
-one-at [] n l = absurd (omega (arith, l))
-one-at (i ∷ is) zero l = inl refl
-one-at (i ∷ is) (suc n) l = inr (one-at is n (omega (arith, l)))
-
 pub all-placed : ReachableFit → (ss : List DeclarationOf) → AreFitting ss → (is : List Open) → AreInstances ss is → ArePlaced (length ss) is
-all-placed fit ss fitting is are n l = reachable-placed fit ss fitting (instance_at is n) (are.reached (instance_at is n) (one-at is n l))
+all-placed fit ss fitting is are n l = reachable-placed fit ss fitting (instance_at is n) (are.reached (instance_at is n) (at-one is n l))
 
 -- ---- refusals with instances
 
 abbrev pub with_instances : Kind → Span → List ℕ → List (List ℕ) → List DiangosticsInner
 with_instances kind span message texts = record (diagnostic kind span message) { instances = texts } ∷ []
-
-pub among-at : (ns : List ℕ) (i : ℕ) → i < length ns → IsAmong (get_or ns i 0) ns
-among-at [] i l = absurd (omega (arith, l))
-among-at (n ∷ ns) zero l = inl refl
-among-at (n ∷ ns) (suc i) l = inr (among-at ns i (omega (arith, l)))
 
 -- ---- inline paths
 
@@ -65,4 +52,4 @@ pub deep-path : (ds : List Ident) (ss : List DeclarationOf) (is : List Open) →
 deep-path ds ss is are [] within p long e r = let none : 0 ≡ suc most_inlined = long in absurd (omega (arith, none))
 deep-path ds ss is are (n ∷ path) within p long e r =
     let l : suc (length path) ≡ suc most_inlined = long in
-    (instance_at is n, map (instance_at is) path, are.reached (instance_at is n) (one-at is n (within n (inl refl))), p, length-map path (instance_at is) ∙ omega (arith, l), r)
+    (instance_at is n, map (instance_at is) path, are.reached (instance_at is n) (at-one is n (within n (inl refl))), p, length-map path (instance_at is) ∙ omega (arith, l), r)

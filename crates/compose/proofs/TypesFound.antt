@@ -1,5 +1,5 @@
 -- The types that are found under the names of components.
-use Rattle.std.proofs.Common.{◌≡◌, ◌<◌, ◌+◌, ◌∙◌, ℕ, zero, suc, List, [], ◌∷◌, ◌++◌, length, take, get_or, Option, Some, None, option_map, is_some, Bool, true, false, cond, bytes_eq, IsTrue, refl, ap, sym, subst, inl, inr, arith}
+use Rattle.std.proofs.Common.{◌≡◌, ◌<◌, ◌+◌, ◌∙◌, ℕ, suc, List, [], ◌∷◌, ◌++◌, length, take, get_or, Option, Some, None, option_map, is_some, Bool, true, false, cond, bytes_eq, IsTrue, refl, ap, sym, subst, inl, inr, arith}
 use Rattle.std.specs.List.{AllByRecursion, cons_option, filter_map}
 use Rattle.std.proofs.lemmas.Bool.{false≢true}
 use Rattle.std.proofs.lemmas.List.{take_more}
@@ -16,6 +16,7 @@ use Rattle.shapes.specs.InstanceNames.{instance_name}
 use Rattle.shapes.specs.InstanceShape.{IsReachable}
 use Rattle.instances.specs.Lists.{IsOneOf, instance_at, AreInstances}
 use Rattle.instances.specs.Names.{NamesDiffer, instance_names}
+use Rattle.instances.proofs.Laws.{at-one}
 use Rattle.closing.specs.Links.{IsComponent}
 use Rattle.closing.specs.Described.{AreComponents}
 use Rattle.compose.specs.Types.{AreTypesOf}
@@ -54,11 +55,6 @@ under_names : (P : List ℕ → Type 0) (es : List Entry) → ((k : List ℕ) �
 under_names P [] h = tt
 under_names P (e ∷ es) h = (h e.0 (ap (λ b. is_some (cond b (Some e.1) (find e.0 es))) ((bytes_eq-Decides e.0 e.0).1 refl)), under_names P es (λ k f. h k (found_later (bytes_eq k e.0) e.1 (find k es) f)))
 
-one-at : (is : List Open) (n : ℕ) → n < length is → IsOneOf (instance_at is n) is
-one-at [] n l = absurd (omega (arith, l))
-one-at (i ∷ is) zero l = inl refl
-one-at (i ∷ is) (suc n) l = inr (one-at is n (omega (arith, l)))
-
 -- the name is that of a component
 abbrev IsNamed : List DeclarationOf → Bool → List ℕ → Type 0
 IsNamed ss all k = (t : Open) × IsComponent ss all t × (k ≡ instance_name ss t)
@@ -81,7 +77,7 @@ module _ (ss : List DeclarationOf) (all : Bool) (is : List Open) (are : AreInsta
       by None e ts rest = absurd (false≢true (sym (ap is_some (ap (λ n. place_in n (instance_names ss is)) (sym h.0.2) ∙ e)) ∙ found_at ss is t (are.all t here)))
       by (Some p) e ts rest =
           let at = place-is_at ss is k p e in
-          let same : instance_at is p ≡ t = differ (instance_at is p) t (are.reached (instance_at is p) (one-at is p at.0)) here (sym at.1 ∙ h.0.2) in
+          let same : instance_at is p ≡ t = differ (instance_at is p) t (are.reached (instance_at is p) (at-one is p at.0)) here (sym at.1 ∙ h.0.2) in
           record { components = (subst (IsComponent ss all) (sym same) h.0.1, rest.components); names_are = (λ i. sym at.1 i ∷ rest.names_are i) }
 
   -- the instances of the names of components are their types
@@ -94,13 +90,3 @@ pub found_more : (h : List ℕ → Option Open) (names : List (List ℕ)) (i : �
 found_more h names i d found more l so e =
     let x = get_or names i d in
     e ∙ ap (λ ts. ts ++ cons_option (h x) []) so ∙ sym (filter_map-append h (take i names) (x ∷ [])) ∙ ap (filter_map h) (sym (take_more names i d l))
-
--- a place is one of the names
-pub place-within : (k : List ℕ) (ns : List (List ℕ)) (p : ℕ) → place_in k ns ≡ Some p → p < length ns
-place-within k [] p e = absurd (none-some p e)
-place-within k (n ∷ ns) p e = by (bytes_eq k n) (place_in k ns) e (place-within k ns)
-  where
-    by : (b : Bool) (o : Option ℕ) → cond b (Some 0) (option_map suc o) ≡ Some p → ((r : ℕ) → o ≡ Some r → r < length ns) → p < suc (length ns)
-    by true o h later = let zero_is : 0 ≡ p = same_Some 0 p h in omega (arith, zero_is)
-    by false None h later = absurd (none-some p h)
-    by false (Some r) h later = let next : suc r ≡ p = same_Some (suc r) p h in let l : r < length ns = later r refl in omega (arith, next, l)

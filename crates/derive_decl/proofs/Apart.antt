@@ -1,9 +1,10 @@
 -- In what is resolved names are apart.
 use Rattle.std.proofs.Common.{List, [], ◌∷◌, Bool, true, false, not, cond, Option, Some, option_and_then, ◌≡◌, subst}
-use Rattle.std.proofs.lemmas.Bool.{and_parts}
+use Rattle.std.proofs.lemmas.Bool.{and_parts, not-true}
 use Rattle.std.proofs.lemmas.Option.{none-some, same_Some}
 use Rattle.diag.specs.declared.rename_rule.RenameRule.{RenameRule}
 use Rattle.texts.specs.Names.{IsDistinct}
+use Rattle.texts.proofs.Laws.{mapped, and_then}
 use Rattle.attributes.specs.Attributes.{serde_items}
 use Rattle.serde_rules.specs.Container.{rename_rule}
 use Rattle.attributes.specs.declared.serde_item.SerdeItem.{SerdeItem}
@@ -22,7 +23,7 @@ use Rattle.derive_decl.specs.Resolved.{Around, around_of, all_of, passing, membe
 use Rattle.derive_decl.specs.Whole.{resolved_among}
 use Rattle.derive_decl.proofs.Parts.{variant_parts}
 use Rattle.derive_decl.proofs.TagLaws.{distinct_beside}
-use Rattle.derive_decl.proofs.Values.{mapped, and_then, joined, chosen, passed, not_true, distinct_from}
+use Rattle.derive_decl.proofs.Values.{joined, chosen, passed, distinct_from}
 
 pub forms_apart : FormsAreApart
 forms_apart around items (named fs) form is =
@@ -40,7 +41,7 @@ variant_apart : (around : Around) (rule : Option RenameRule) (tagging : Tagging)
 variant_apart around rule tagging v x is =
     let tagged = passed (tag_stands tagging) (form_of around (serde_items v.attrs) v.fields) x.form (variant_parts around rule tagging v x is).1 in
     let distinct = forms_apart around (serde_items v.attrs) v.fields x.form tagged.0 in
-    let free = not_true (tag_is_taken tagging x.form) (and_parts (can_be_tagged tagging x.form) (not (tag_is_taken tagging x.form)) tagged.1).1 in
+    let free = not-true (tag_is_taken tagging x.form) (and_parts (can_be_tagged tagging x.form) (not (tag_is_taken tagging x.form)) tagged.1).1 in
     (distinct, distinct_beside tagging x.form free distinct)
 
 all_apart : (around : Around) (rule : Option RenameRule) (tagging : Tagging) (vs : List VariantItem) (xs : List VariantOf) → all_of (variant_of around rule tagging) vs ≡ Some xs → AreApartVariants tagging xs

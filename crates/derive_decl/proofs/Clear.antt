@@ -1,7 +1,7 @@
 -- What is resolved to something has no fault.
 use Rattle.std.proofs.Common.{ℕ, List, [], ◌∷◌, Bool, true, false, not, cond, Option, Some, None, is_some, is_none, is_ok, IsTrue, codes, Result, Ok, Err, option_and_then, ◌≡◌, ◌∙◌, refl, ap, sym, subst, inl, inr}
 use Rattle.std.specs.List.{list_all}
-use Rattle.std.proofs.lemmas.Bool.{false≢true, and_parts}
+use Rattle.std.proofs.lemmas.Bool.{false≢true, and_parts, not-true}
 use Rattle.std.proofs.lemmas.Option.{none-some, same_Some}
 use Rattle.diag.specs.Refusal.{RefusesNone}
 use Rattle.diag.specs.declared.error.DeriveError.{DeriveError}
@@ -10,6 +10,7 @@ use Rattle.diag.specs.declared.rename_row.RenameRow.{RenameRow}
 use Rattle.diag.specs.declared.rename_row.RenamePlace.{RenamePlace}
 use Rattle.diag.specs.declared.rename_row.RenamePlace.TheVariants.{Field, Variant}
 use Rattle.texts.specs.Names.{IsDistinct}
+use Rattle.texts.proofs.Laws.{mapped, and_then}
 use Rattle.written_types.specs.declared.written.Ident.{Ident}
 use Rattle.attributes.specs.Attributes.{AttributeItem, serde_items}
 use Rattle.attributes.specs.declared.serde_item.SerdeItem.{SerdeItem}
@@ -40,7 +41,7 @@ use Rattle.derive_decl.specs.Whole.{resolved_among, resolved_declarations}
 use Rattle.derive_decl.proofs.EnumLaws.{units-unnamed}
 use Rattle.derive_decl.proofs.Parts.{member_parts, member_texts, variant_parts, variants_named, telling_texts}
 use Rattle.derive_decl.proofs.TagLaws.{free_tag}
-use Rattle.derive_decl.proofs.Values.{mapped, and_then, chosen, passed, not_true, distinct_from, all_clear}
+use Rattle.derive_decl.proofs.Values.{chosen, passed, distinct_from, all_clear}
 
 -- the laws of names and of serde's items
 abbrev pub NamesOnce : Type 0
@@ -77,7 +78,7 @@ named_clear rows rule (Adjacent tag content) v name is e h = written_clear Varia
 tag_clear : (tagging : Tagging) (v : VariantItem) (form : FormOf) → tag_stands tagging form ≡ true → RefusesNone (IsMisplacedTag tagging v form)
 tag_clear tagging v form stands =
     let parts = and_parts (can_be_tagged tagging form) (not (tag_is_taken tagging form)) stands in
-    free_tag tagging v form parts.0 (not_true (tag_is_taken tagging form) parts.1)
+    free_tag tagging v form parts.0 (not-true (tag_is_taken tagging form) parts.1)
 
 module _ (exact : ResolutionIsExact) (once : NamesOnce) (allowed : RulesAllowed) where
   items_clear : (items : List SerdeItem) → are_allowed items ≡ true → RefusesNone (IsContainerRefusal items)

@@ -1,13 +1,13 @@
 -- What the resolved declarations of all declarations say: their names, and that their types fit.
-use Rattle.std.proofs.Common.{ℕ, zero, suc, ◌<◌, List, [], ◌∷◌, ◌++◌, Option, Some, None, option_map, option_and_then, leb, Bool, true, false, cond, bytes_eq, length, ◌≡◌, refl, ap, sym, subst, ◌∙◌, arith, slice_index}
+use Rattle.std.proofs.Common.{ℕ, zero, suc, ◌<◌, List, [], ◌∷◌, ◌++◌, Option, Some, option_and_then, leb, Bool, true, false, cond, length, ◌≡◌, refl, ap, sym, subst, ◌∙◌, arith, slice_index}
 use Rattle.std.proofs.lemmas.Option.{none-some, same_Some}
 use Rattle.texts.specs.Names.{place_in}
+use Rattle.texts.proofs.Laws.{mapped, and_then, place-found}
 use Rattle.diag.specs.declared.rename_rule.RenameRule.{RenameRule}
 use Rattle.diag.specs.declared.rename_row.RenameRow.{RenameRow}
 use Rattle.attributes.specs.Attributes.{serde_items}
 use Rattle.attributes.specs.declared.serde_item.SerdeItem.{SerdeItem}
 use Rattle.serde_rules.specs.Container.{rename_rule}
-use Rattle.written_types.specs.declared.written.Ident.{Ident}
 use Rattle.syntax.specs.Items.{FieldItem, FieldItems, named, unnamed, unit, VariantItem, BodyItem, struct_body, enum_body, DeclaredItem}
 use Rattle.open_types.specs.Open.{Open}
 use Rattle.open_types.specs.Within.{IsOver, AreAllOver}
@@ -25,21 +25,12 @@ use Rattle.derive_decl.specs.Variants.{tagging_in, are_units, are_told, variant_
 use Rattle.derive_decl.specs.Resolved.{Around, around_of, all_of, passing, member_of, members_are_distinct, named_form, form_of, variant_of, variants_are_told, units_of, mixed_of, enum_of, body_of, derived_body, declaration_from, declaration_of, resolved_of}
 use Rattle.derive_decl.specs.Whole.{resolved_declarations, resolved_among}
 use Rattle.derive_decl.proofs.Parts.{member_parts, variant_parts}
-use Rattle.derive_decl.proofs.Values.{mapped, and_then, joined, chosen, passed}
+use Rattle.derive_decl.proofs.Values.{joined, chosen, passed}
 use Rattle.scopes.specs.Parameters.{type_parameters, parameter_counts}
+use Rattle.scopes.proofs.Laws.{place_below}
 use Rattle.std.proofs.Math.Path.{fun_ext}
 
 -- ---- names
-
--- a place lies within the names
-below_names : (k : List ℕ) (ns : List (List ℕ)) (p : ℕ) → place_in k ns ≡ Some p → p < length ns
-below_names k [] p e = absurd (none-some p e)
-below_names k (n ∷ ns) p e = by (bytes_eq k n) (place_in k ns) e (below_names k ns)
-  where
-    by : (b : Bool) (o : Option ℕ) → cond b (Some 0) (option_map suc o) ≡ Some p → ((r : ℕ) → o ≡ Some r → r < length ns) → p < suc (length ns)
-    by true o h later = subst (λ q. q < suc (length ns)) (same_Some 0 p h) (omega arith)
-    by false None h later = absurd (none-some p h)
-    by false (Some r) h later = let l = later r refl in subst (λ q. q < suc (length ns)) (same_Some (suc r) p h) (omega (arith, l))
 
 many_names : (ss : List DeclarationOf) → length (declaration_names ss) ≡ length ss
 many_names [] = refl
@@ -72,10 +63,6 @@ module _ (rows : List RenameRow) (all : List DeclaredItem) where
       by : (s : DeclarationOf) (ss : List DeclarationOf) (d : ℕ) → s.parameters ≡ length (type_parameters x.generics) → ((d : ℕ) → slice_index (parameter_counts ds) d ≡ parameters_in ss d) → slice_index (parameter_counts (x ∷ ds)) d ≡ parameters_in (s ∷ ss) d
       by s ss zero h later = sym h
       by s ss (suc d) h later = later d
-
-many_texts : (xs : List Ident) → length (texts xs) ≡ length xs
-many_texts [] = refl
-many_texts (x ∷ xs) = ap suc (many_texts xs)
 
 -- ---- types are over the declarations
 
@@ -155,7 +142,7 @@ module _ (over : ResolvedAreOver) where
         let j = joined (resolved_among rows all x) (all_of (resolved_among rows all) ds) ss e in
         let parts = declaration_parts around x j.0 j.2 in
         let within : (k : List ℕ) (i : ℕ) → place_in k (texts (type_parameters x.generics)) ≡ Some i → i < length (type_parameters x.generics) =
-        λ k i is. subst (λ m. i < m) (many_texts (type_parameters x.generics)) (below_names k (texts (type_parameters x.generics)) i is) in
+        λ k i is. place_below k (type_parameters x.generics) i is in
         subst (λ xs. d < length xs → AreAllOver n (slice_index (parameter_counts all)) (parameters_in xs d) (body_types (declaration_at xs d).body)) j.4
         (by j.0 j.1 d
         (subst (λ m. AreAllOver n (slice_index (parameter_counts all)) m (body_types j.0.body)) (sym parts.2) (body_over around n (length (type_parameters x.generics)) below within (serde_items x.attrs) x.body j.0.body parts.1))
@@ -173,5 +160,5 @@ names_are rows ds ss e = declaration_names-are rows ds ds ss e
 pub all_fitting : ResolvedAreOver → (rows : List RenameRow) (ds : List DeclaredItem) (ss : List DeclarationOf) → resolved_declarations rows ds ≡ Some ss → AreFitting ss
 all_fitting over rows ds ss e d l =
     let below : (k : List ℕ) (p : ℕ) → place_among ds k ≡ Some p → p < length ss =
-    λ k p h. subst (λ m. p < m) (ap length (sym (names_are rows ds ss e)) ∙ many_names ss) (below_names k (declared_names ds) p h) in
+    λ k p h. subst (λ m. p < m) (ap length (sym (names_are rows ds ss e)) ∙ many_names ss) (place-found k (declared_names ds) p h).0 in
     subst (λ counts. AreAllOver (length ss) counts (parameters_in ss d) (body_types (declaration_at ss d).body)) (fun_ext (parameters-are rows ds ds ss e)) (at_over over rows ds (length ss) below ds ss e d l)

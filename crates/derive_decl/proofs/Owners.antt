@@ -1,16 +1,12 @@
 -- What is known in a declaration that stands at a place.
-use Rattle.std.proofs.Common.{◌≡◌, ◌∙◌, ◌<◌, ℕ, zero, suc, List, [], ◌∷◌, length, get_or, map, ap, sym, arith}
+use Rattle.std.proofs.Common.{◌≡◌, ◌∙◌, ◌<◌, ℕ, List, length, get_or, ap}
 use Rattle.diag.specs.declared.rename_row.RenameRow.{RenameRow}
 use Rattle.syntax.specs.declared.item.Declaration.{Declaration}
 use Rattle.syntax.specs.declared.item.Declarations.{Declarations}
 use Rattle.syntax.specs.Items.{declaration_view, declarations_view}
 use Rattle.scopes.specs.Parameters.{generics_at}
+use Rattle.scopes.proofs.Laws.{generics_are}
 use Rattle.derive_decl.specs.Resolved.{around_of}
-
-pub generics_are : (items : List Declaration) (i : ℕ) (item : Declaration) → i < length items → item ≡ get_or items i item → generics_at (map declaration_view items) i ≡ (declaration_view item).generics
-generics_are [] i item l is = absurd (omega arith)
-generics_are (x ∷ items) zero item l is = ap (λ (d : Declaration). (declaration_view d).generics) (sym is)
-generics_are (x ∷ items) (suc i) item l is = generics_are items i item (omega arith) is
 
 pub around_is : (rows : List RenameRow) (before after : Declarations) (owner i : ℕ) (d : Declaration) → before ≡ after → owner ≡ i → i < length after.items → d ≡ get_or after.items i d →
     around_of rows (declarations_view before) (generics_at (declarations_view before) owner) ≡ around_of rows (declarations_view after) (declaration_view d).generics

@@ -12,11 +12,12 @@ use Rattle.scopes.specs.Names.{texts}
 use Rattle.shapes.specs.Declarations.{MemberOf, VariantOf, member_names, variant_names, telling}
 use Rattle.shapes.specs.declared.tagging.Tagging.{Tagging}
 use Rattle.shapes.specs.declared.tagging.Tagging.TheVariants.{External, Internal, Adjacent, Untagged}
+use Rattle.texts.proofs.Laws.{mapped, and_then}
 use Rattle.serde_names.specs.Names.{named_at}
 use Rattle.derive_decl.specs.Fields.{FieldRules, written_name, written_ident, written_idents}
 use Rattle.derive_decl.specs.Variants.{variant_name, variant_ident, telling_idents}
 use Rattle.derive_decl.specs.Resolved.{Around, all_of, member_from, member_as, member_of, variant_from, tagged_form, variant_of}
-use Rattle.derive_decl.proofs.Values.{mapped, and_then, joined}
+use Rattle.derive_decl.proofs.Values.{joined}
 
 -- ---- members
 

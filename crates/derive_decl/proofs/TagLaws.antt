@@ -1,42 +1,14 @@
 -- A tag behind other names, and when it can stand there.
-use Rattle.std.proofs.Common.{ℕ, List, [], ◌∷◌, ◌++◌, Bool, true, false, ◌||◌, bytes_eq, ◌≡◌, ◌∙◌, refl, ap, sym, inl, inr}
+use Rattle.std.proofs.Common.{[], ◌∷◌, Bool, true, false, ◌||◌, bytes_eq, ◌≡◌, ◌∙◌, refl, ap, sym, inl, inr}
 use Rattle.std.proofs.lemmas.Bool.{false≢true}
-use Rattle.std.proofs.lemmas.Slice.Eq.{bytes_eq-Decides}
 use Rattle.diag.specs.Refusal.{RefusesNone}
-use Rattle.texts.specs.Names.{is_in, IsDistinct}
+use Rattle.texts.specs.Names.{IsDistinct}
+use Rattle.texts.proofs.Laws.{distinct-last}
 use Rattle.syntax.specs.Items.{VariantItem}
 use Rattle.shapes.specs.declared.tagging.Tagging.{Tagging}
 use Rattle.shapes.specs.declared.tagging.Tagging.TheVariants.{External, Internal, Adjacent, Untagged}
 use Rattle.shapes.specs.Declarations.{FormOf, named_fields, unnamed_fields, no_fields, member_names, form_names, tagged_names}
 use Rattle.derive_decl.specs.Tags.{can_be_tagged, tag_is_taken, IsMisplacedTag}
-
--- ---- names
-
-flipped : (j k : List ℕ) → bytes_eq k j ≡ false → bytes_eq j k ≡ false
-flipped j k e = by (bytes_eq j k) refl
-  where
-    by : (b : Bool) → bytes_eq j k ≡ b → b ≡ false
-    by true is = absurd (false≢true (sym e ∙ (bytes_eq-Decides k j).1 (sym ((bytes_eq-Decides j k).0 is))))
-    by false is = refl
-
-neither : (a b : Bool) → (a || b) ≡ false → (a ≡ false) × (b ≡ false)
-neither true b e = absurd (false≢true (sym e))
-neither false b e = (refl, e)
-
-is_in-last : (j : List ℕ) (ks : List (List ℕ)) (k : List ℕ) → is_in j ks ≡ false → bytes_eq j k ≡ false → is_in j (ks ++ k ∷ []) ≡ false
-is_in-last j [] k i e = ap (λ b. b || false) e
-is_in-last j (m ∷ ks) k i e = by (bytes_eq j m) i (λ h. is_in-last j ks k h e)
-  where
-    by : (b : Bool) → (b || is_in j ks) ≡ false → (is_in j ks ≡ false → is_in j (ks ++ k ∷ []) ≡ false) → (b || is_in j (ks ++ k ∷ [])) ≡ false
-    by true h later = absurd (false≢true (sym h))
-    by false h later = later h
-
--- distinct names, and another behind them
-pub distinct-last : (ks : List (List ℕ)) (k : List ℕ) → IsDistinct ks → is_in k ks ≡ false → IsDistinct (ks ++ k ∷ [])
-distinct-last [] k d e = (refl, tt)
-distinct-last (j ∷ ks) k d e =
-    let h = neither (bytes_eq k j) (is_in k ks) e in
-    (is_in-last j ks k d.0 (flipped j k h.0), distinct-last ks k d.1 h.1)
 
 -- ---- tags
 

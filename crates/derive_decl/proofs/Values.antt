@@ -1,7 +1,7 @@
 -- Values that may be missing: where they are there, and what is known of them then.
 use Rattle.std.proofs.Common.{ℕ, List, [], ◌∷◌, filter, Bool, true, false, not, cond, Option, Some, None, IsSome, option_map, option_and_then, ◌≡◌, ◌∙◌, refl, ap, subst, inl, inr}
 use Rattle.std.specs.List.{AllByRecursion}
-use Rattle.std.proofs.lemmas.Bool.{false≢true, and_parts, and_from}
+use Rattle.std.proofs.lemmas.Bool.{false≢true, and_parts, and_from, not-true}
 use Rattle.std.proofs.lemmas.Option.{none-some, same_Some, cond_some}
 use Rattle.diag.specs.Refusal.{RefusesNone}
 use Rattle.diag.specs.declared.error.DeriveError.{DeriveError}
@@ -9,15 +9,6 @@ use Rattle.texts.specs.Lists.{Somewhere}
 use Rattle.texts.specs.Names.{is_in, IsDistinct}
 use Rattle.scopes.specs.Names.{are_distinct}
 use Rattle.derive_decl.specs.Resolved.{all_of, passing}
-
--- what stands behind a `Some`
-pub mapped : {A B : Type 0} (f : A → B) (o : Option A) (y : B) → option_map f o ≡ Some y → (x : A) × (o ≡ Some x) × (f x ≡ y)
-mapped f None y e = absurd (none-some y e)
-mapped f (Some x) y e = (x, refl, same_Some (f x) y e)
-
-pub and_then : {A B : Type 0} (f : A → Option B) (o : Option A) (y : B) → option_and_then f o ≡ Some y → (x : A) × (o ≡ Some x) × (f x ≡ Some y)
-and_then f None y e = absurd (none-some y e)
-and_then f (Some x) y e = (x, refl, e)
 
 pub joined : {B : Type 0} (o : Option B) (p : Option (List B)) (ys : List B) → option_and_then (λ w. option_map (λ ws. w ∷ ws) p) o ≡ Some ys → (w : B) × (ws : List B) × (o ≡ Some w) × (p ≡ Some ws) × (w ∷ ws ≡ ys)
 joined None p ys e = absurd (none-some ys e)
@@ -42,13 +33,9 @@ some_is (Some x) h = (x, refl)
 
 -- ---- names
 
-pub not_true : (b : Bool) → not b ≡ true → b ≡ false
-not_true true e = absurd (false≢true e)
-not_true false e = refl
-
 pub distinct_from : (ks : List (List ℕ)) → are_distinct ks ≡ true → IsDistinct ks
 distinct_from [] e = tt
-distinct_from (k ∷ ks) e = let parts = and_parts (not (is_in k ks)) (are_distinct ks) e in (not_true (is_in k ks) parts.0, distinct_from ks parts.1)
+distinct_from (k ∷ ks) e = let parts = and_parts (not (is_in k ks)) (are_distinct ks) e in (not-true (is_in k ks) parts.0, distinct_from ks parts.1)
 
 pub are_distinct_from : (ks : List (List ℕ)) → IsDistinct ks → are_distinct ks ≡ true
 are_distinct_from [] d = refl

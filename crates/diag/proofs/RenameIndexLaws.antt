@@ -2,8 +2,9 @@
 use Rattle.std.proofs.Common.{ℕ, zero, suc, ◌<◌, List, [], ◌∷◌, ◌++◌, Option, Some, None, option_map, Bool, true, false, cond, ◌&&◌, ◌||◌, ◌==◌, bytes_eq, length, get_or, replicate, ◌≡◌, ◌≢◌, refl, ap, sym, ◌∙◌, subst, arith, ◌⊎◌, inl, inr, IfSome, find, codes}
 use Rattle.std.specs.Map.{update}
 use Rattle.std.proofs.lemmas.Slice.Eq.{bytes_eq-Decides}
-use Rattle.std.proofs.lemmas.Bool.{false≢true, cases_eq}
+use Rattle.std.proofs.lemmas.Bool.{false≢true, cases_eq, cases_Bool, false_from_ne_true, and_parts}
 use Rattle.std.proofs.lemmas.List.{get_or-set_same, get_or-set_other, length-set}
+use Rattle.texts.proofs.Laws.{or_at, or_at-suc, suc-place, or_at-none}
 use Rattle.diag.specs.declared.rename_rule.RenameRule.{RenameRule}
 use Rattle.diag.specs.declared.rename_rule.RenameRule.TheVariants.{Lower, Upper, Camel, Snake, ScreamingSnake, Pascal, Kebab, ScreamingKebab}
 use Rattle.diag.specs.declared.rename_row.RenamePlace.{RenamePlace}
@@ -12,18 +13,6 @@ use Rattle.diag.specs.declared.rename_row.RenameRow.{RenameRow}
 use Rattle.diag.specs.RenameRules.{name_of}
 use Rattle.diag.specs.RenameRows.{same_rule, same_place, is_for}
 use Rattle.diag.specs.RenameIndex.{rule_number, slot_of, place_in, slots_of, in_slot, put_place, IsIndex}
-
-bool_cases : (b : Bool) → (b ≡ true) ⊎ (b ≡ false)
-bool_cases true = inl refl
-bool_cases false = inr refl
-
-not_true : (b : Bool) → (b ≡ true → ⊥) → b ≡ false
-not_true true h = absurd (h refl)
-not_true false h = refl
-
-and_true : (a b : Bool) → a && b ≡ true → (a ≡ true) × (b ≡ true)
-and_true true b e = (refl, e)
-and_true false b e = absurd (false≢true e)
 
 -- ---- what a row is for
 
@@ -61,8 +50,8 @@ pub record IsFor (rule : RenameRule) (place : RenamePlace) (value : List ℕ) (r
 
 for_means : (rule : RenameRule) (place : RenamePlace) (value : List ℕ) (row : RenameRow) → is_for rule place value row ≡ true → IsFor rule place value row
 for_means rule place value row e =
-    let parts = and_true (same_rule rule row.rule && same_place place row.place) (bytes_eq value row.from) e in
-    let inner = and_true (same_rule rule row.rule) (same_place place row.place) parts.0 in
+    let parts = and_parts (same_rule rule row.rule && same_place place row.place) (bytes_eq value row.from) e in
+    let inner = and_parts (same_rule rule row.rule) (same_place place row.place) parts.0 in
     record {
       rules = sym (named_rule rule) ∙ ap rule_named ((bytes_eq-Decides (name_of rule) (name_of row.rule)).0 inner.0) ∙ named_rule row.rule;
       places = place_means place row.place inner.1;
@@ -160,22 +149,6 @@ found_some p (row ∷ rows) at d e = by (p row) (place_in p rows) e (found_some 
 
 -- ---- one row more
 
-abbrev or_at : Option ℕ → Option ℕ → Option ℕ
-or_at (Some p) q = Some p
-or_at None q = q
-
-or_at-suc : (p q : Option ℕ) → option_map suc (or_at p q) ≡ or_at (option_map suc p) (option_map suc q)
-or_at-suc None q = refl
-or_at-suc (Some p) q = refl
-
-suc-place : (b : Bool) (n : ℕ) → option_map suc (cond b (Some n) None) ≡ cond b (Some (suc n)) None
-suc-place true n = refl
-suc-place false n = refl
-
-or_at-none : (p : Option ℕ) → or_at p None ≡ p
-or_at-none None = refl
-or_at-none (Some p) = refl
-
 place_in-push : (p : RenameRow → Bool) (rows : List RenameRow) (row : RenameRow) → place_in p (rows ++ row ∷ []) ≡ or_at (place_in p rows) (cond (p row) (Some (length rows)) None)
 place_in-push p [] row = refl
 place_in-push p (first ∷ rows) row =
@@ -224,7 +197,7 @@ module _ (m n : List ℕ → Option (List (Option ℕ))) (rows : List RenameRow)
   pub index_push : IsIndex m rows → ((value : List ℕ) → n value ≡ update bytes_eq m row.from (Some after) value) → IsIndex n (rows ++ row ∷ [])
   index_push is grown = record {
     sizes = λ value. subst (λ slots. IfSome slots (λ s. length s ≡ 16)) (sym (grown value)) (size value (bytes_eq row.from value));
-    places = λ rule place value. ap (in_slot (slot_of rule place)) (grown value) ∙ at (slot_of rule place) rule place value refl (bool_cases (bytes_eq row.from value)) ∙ sym (place_in-push (is_for rule place value) rows row);
+    places = λ rule place value. ap (in_slot (slot_of rule place)) (grown value) ∙ at (slot_of rule place) rule place value refl (cases_Bool (bytes_eq row.from value)) ∙ sym (place_in-push (is_for rule place value) rows row);
   }
     where
       full : length before ≡ 16
@@ -247,7 +220,7 @@ module _ (m n : List ℕ → Option (List (Option ℕ))) (rows : List RenameRow)
           ∙ ap (λ o. or_at o (Some (length rows))) old
           ∙ ap (λ b. or_at (place_in (is_for rule place value) rows) (cond b (Some (length rows)) None)) (sym for)
       here rule place value e (inr s) =
-          let not_for : is_for rule place value row ≡ false = not_true (is_for rule place value row) (λ t. let h = for_means rule place value row t in s (ap (λ r. slot_of r place) h.rules ∙ ap (slot_of row.rule) h.places)) in
+          let not_for : is_for rule place value row ≡ false = false_from_ne_true (is_for rule place value row) (λ t. let h = for_means rule place value row t in s (ap (λ r. slot_of r place) h.rules ∙ ap (slot_of row.rule) h.places)) in
           put-other (get_or before own None) own (slot_of rule place) (length rows) before s
           ∙ in_slots (slot_of rule place) (m row.from)
           ∙ ap (λ v. in_slot (slot_of rule place) (m v)) (sym e)
@@ -261,7 +234,7 @@ module _ (m n : List ℕ → Option (List (Option ℕ))) (rows : List RenameRow)
           ap (λ b. in_slot (slot_of rule place) (cond b (Some after) (m value))) t
           ∙ here rule place value (sym ((bytes_eq-Decides row.from value).0 t)) (cases_eq (slot_of rule place) own)
       at slot rule place value k (inr t) =
-          let not_for : is_for rule place value row ≡ false = not_true (is_for rule place value row) (λ u. false≢true (sym t ∙ (bytes_eq-Decides row.from value).1 (sym (for_means rule place value row u).values))) in
+          let not_for : is_for rule place value row ≡ false = false_from_ne_true (is_for rule place value row) (λ u. false≢true (sym t ∙ (bytes_eq-Decides row.from value).1 (sym (for_means rule place value row u).values))) in
           ap (λ b. in_slot (slot_of rule place) (cond b (Some after) (m value))) t
           ∙ is.places rule place value
           ∙ sym (or_at-none (place_in (is_for rule place value) rows))

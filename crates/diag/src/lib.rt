@@ -4,7 +4,7 @@
 mod diagnostics;
 mod error;
 mod kind;
-mod laws;
+mod law;
 mod rename_row;
 mod rename_rule;
 mod rename_table;
@@ -13,7 +13,7 @@ mod suggestion;
 pub use diagnostics::{Diagnostics, DiangosticsInner};
 pub use error::DeriveError;
 pub use kind::Kind;
-pub use laws::kinds_and_rules_are_equal;
+pub use law::kinds_and_rules_are_equal;
 pub use rename_row::{RenamePlace, RenameRow};
 pub use rename_rule::{RenameRule, UnknownRule, rules_have_own_names};
 pub use rename_table::RenameTable;

@@ -6,3 +6,4 @@ pub mod Once
 pub mod Orders
 pub mod Paths
 pub mod Walks
+pub mod Laws

@@ -7,10 +7,12 @@ use Rattle.std.proofs.Math.ListN.{length-set}
 use Rattle.open_types.specs.Open.{Open, named}
 use Rattle.open_types.specs.Instances.{StandsIn, StandsInOne, declared_place, type_size}
 use Rattle.type_table.specs.Types.{type_at, AllBelow, AreApart, IsInstance, StandsByParts, declaration_of, parts_of}
+use Rattle.type_table.proofs.Laws.{below-push}
 use Rattle.shapes.specs.Declarations.{DeclarationOf}
 use Rattle.shapes.specs.InstanceShape.{IsReachable}
 use Rattle.instances.specs.Lists.{IsOneOf, AreDifferent}
-use Rattle.instances.specs.Entering.{IsMarked, AreMarked, IsAmong, IsLonger, AreHeld, AreEntered}
+use Rattle.instances.specs.Entering.{IsMarked, IsAmong, IsLonger, AreHeld, AreEntered}
+use Rattle.instances.proofs.Laws.{one-left, one-right, one-either}
 
 -- the number behind one, where it is there
 abbrev pub after : Option ℕ → ℕ
@@ -28,24 +30,6 @@ counted size bound most l k = omega (arith, l, k)
 
 -- ---- lists
 
-pub one-left : (t : Open) (xs ys : List Open) → IsOneOf t xs → IsOneOf t (xs ++ ys)
-one-left t [] ys o = absurd o
-one-left t (x ∷ xs) ys (inl e) = inl e
-one-left t (x ∷ xs) ys (inr o) = inr (one-left t xs ys o)
-
-pub one-right : (t : Open) (xs ys : List Open) → IsOneOf t ys → IsOneOf t (xs ++ ys)
-one-right t [] ys o = o
-one-right t (x ∷ xs) ys o = inr (one-right t xs ys o)
-
-pub one-either : (t : Open) (xs ys : List Open) → IsOneOf t (xs ++ ys) → IsOneOf t xs ⊎ IsOneOf t ys
-one-either t [] ys o = inr o
-one-either t (x ∷ xs) ys (inl e) = inl (inl e)
-one-either t (x ∷ xs) ys (inr o) = by (one-either t xs ys o)
-  where
-    by : IsOneOf t xs ⊎ IsOneOf t ys → IsOneOf t (x ∷ xs) ⊎ IsOneOf t ys
-    by (inl p) = inl (inr p)
-    by (inr p) = inr p
-
 -- what holds of an item, and of each of the others, holds of all
 pub each-cons : (P : Open → Type 0) (t : Open) (is : List Open) → P t → ((u : Open) → IsOneOf u is → P u) → (u : Open) → IsOneOf u (t ∷ is) → P u
 each-cons P t is p f u (inl e) = subst P (sym e) p
@@ -59,15 +43,6 @@ stands-either u (x ∷ xs) ys (inr s) = by (stands-either u xs ys s)
     by : StandsInOne u xs ⊎ StandsInOne u ys → StandsInOne u (x ∷ xs) ⊎ StandsInOne u ys
     by (inl p) = inl (inr p)
     by (inr p) = inr p
-
-pub stands-left : (u : Open) (xs ys : List Open) → StandsInOne u xs → StandsInOne u (xs ++ ys)
-stands-left u [] ys s = absurd s
-stands-left u (x ∷ xs) ys (inl s) = inl s
-stands-left u (x ∷ xs) ys (inr s) = inr (stands-left u xs ys s)
-
-pub stands-right : (u : Open) (xs ys : List Open) → StandsInOne u ys → StandsInOne u (xs ++ ys)
-stands-right u [] ys s = s
-stands-right u (x ∷ xs) ys s = inr (stands-right u xs ys s)
 
 different-push : (is : List Open) (t : Open) → AreDifferent is → ¬ IsOneOf t is → AreDifferent (is ++ t ∷ [])
 different-push [] t d n = ((λ h. h), tt)
@@ -100,22 +75,6 @@ among-either n (k ∷ ns) m (inr a) = by (among-either n ns m a)
     by (inl p) = inl (inr p)
     by (inr p) = inr p
 
-below-push : (bound : ℕ) (ns : List ℕ) (n : ℕ) → AllBelow bound ns → n < bound → AllBelow bound (ns ++ n ∷ [])
-below-push bound [] n h l = (l, tt)
-below-push bound (m ∷ ms) n h l = (h.0, below-push bound ms n h.1 l)
-
-below-more : (a b : ℕ) (ns : List ℕ) → a ≤ b → AllBelow a ns → AllBelow b ns
-below-more a b [] l h = tt
-below-more a b (n ∷ ns) l h = (omega (arith, l, h.0), below-more a b ns l h.1)
-
-pub below-left : (bound : ℕ) (ms ns : List ℕ) → AllBelow bound (ms ++ ns) → AllBelow bound ms
-below-left bound [] ns h = tt
-below-left bound (m ∷ ms) ns h = (h.0, below-left bound ms ns h.1)
-
-pub below-right : (bound : ℕ) (ms ns : List ℕ) → AllBelow bound (ms ++ ns) → AllBelow bound ns
-below-right bound [] ns h = h
-below-right bound (m ∷ ms) ns h = below-right bound ms ns h.1
-
 pub longer-itself : (is : List ℕ) → IsLonger is is
 longer-itself is = ([], sym (append-nil is))
 
@@ -147,22 +106,9 @@ module _ (marks : List Bool) (id : ℕ) (within : id < length marks) where
       by (inl e) = inl (eqb-true n id e)
       by (inr e) = inr (sym (get_or-set_other marks id n true false (λ q. false≢true (sym e ∙ eq-eqb n id q))) ∙ m)
 
-pub marks-left : (marks : List Bool) (ms ns : List ℕ) → AreMarked marks ms → AreMarked marks ns → AreMarked marks (ms ++ ns)
-marks-left marks [] ns h k = k
-marks-left marks (m ∷ ms) ns h k = (h.0, marks-left marks ms ns h.1 k)
-
-marks-kept : (marks marks2 : List Bool) (ns : List ℕ) → ((n : ℕ) → IsMarked marks n → IsMarked marks2 n) → AreMarked marks ns → AreMarked marks2 ns
-marks-kept marks marks2 [] f h = tt
-marks-kept marks marks2 (n ∷ ns) f h = (f n h.0, marks-kept marks marks2 ns f h.1)
-
 -- ---- what is entered
 
 module _ (ss : List DeclarationOf) (limit most : ℕ) where
-  pub marked-held : (known : List Open) (marks : List Bool) (is : List ℕ) → AreEntered ss known limit most marks is → (ns : List ℕ) → AreMarked marks ns → AreHeld (map (type_at known) ns) (map (type_at known) is)
-  marked-held known marks is e [] h u s = absurd s
-  marked-held known marks is e (n ∷ ns) h u (inl s) = e.closed n h.0 u s
-  marked-held known marks is e (n ∷ ns) h u (inr s) = marked-held known marks is e ns h.1 u s
-
   -- ---- one type more
 
   module _ (by-parts : StandsByParts) (known : List Open) (marks : List Bool) (is : List ℕ) (entered : AreEntered ss known limit most marks is) (id : ℕ) (within : id < length known) (room : length marks ≡ length known) (parts : AreHeld (parts_of (type_at known id)) (map (type_at known) is)) where

@@ -1,6 +1,6 @@
 -- Names of instances that are distinct.
-use Rattle.std.proofs.Common.{ℕ, zero, suc, ◌<◌, List, [], ◌∷◌, length, Bool, true, false, ◌||◌, bytes_eq, ◌≡◌, refl, ap, sym, subst, ◌∙◌, inl, inr, arith}
-use Rattle.std.proofs.lemmas.Bool.{false≢true}
+use Rattle.std.proofs.Common.{ℕ, zero, suc, ◌<◌, List, [], ◌∷◌, length, true, false, bytes_eq, ◌≡◌, ap, sym, subst, ◌∙◌, inl, inr, arith}
+use Rattle.std.proofs.lemmas.Bool.{false≢true, or_left, or_right}
 use Rattle.std.proofs.lemmas.Slice.Eq.{bytes_eq-Decides}
 use Rattle.texts.specs.Names.{is_in, IsDistinct}
 use Rattle.open_types.specs.Open.{Open}
@@ -8,14 +8,7 @@ use Rattle.shapes.specs.Declarations.{DeclarationOf}
 use Rattle.shapes.specs.InstanceNames.{instance_name}
 use Rattle.instances.specs.Lists.{IsOneOf, instance_at, AreDifferent}
 use Rattle.instances.specs.Names.{instance_names, DistinctNamesDiffer, NumbersDiffer}
-
-in-left : (a b : Bool) → a ≡ true → a || b ≡ true
-in-left true b e = refl
-in-left false b e = absurd (false≢true e)
-
-in-right : (a b : Bool) → b ≡ true → a || b ≡ true
-in-right true b e = refl
-in-right false b e = e
+use Rattle.instances.proofs.Laws.{at-one}
 
 module _ (ss : List DeclarationOf) where
   abbrev name : Open → List ℕ
@@ -23,8 +16,8 @@ module _ (ss : List DeclarationOf) where
 
   name-in : (u : Open) (is : List Open) → IsOneOf u is → is_in (name u) (instance_names ss is) ≡ true
   name-in u [] o = absurd o
-  name-in u (i ∷ is) (inl e) = in-left (bytes_eq (name u) (name i)) (is_in (name u) (instance_names ss is)) ((bytes_eq-Decides (name u) (name i)).1 (ap name e))
-  name-in u (i ∷ is) (inr o) = in-right (bytes_eq (name u) (name i)) (is_in (name u) (instance_names ss is)) (name-in u is o)
+  name-in u (i ∷ is) (inl e) = or_left (bytes_eq (name u) (name i)) (is_in (name u) (instance_names ss is)) ((bytes_eq-Decides (name u) (name i)).1 (ap name e))
+  name-in u (i ∷ is) (inr o) = or_right (bytes_eq (name u) (name i)) (is_in (name u) (instance_names ss is)) (name-in u is o)
 
   never : (t u : Open) (is : List Open) → is_in (name t) (instance_names ss is) ≡ false → IsOneOf u is → name t ≡ name u → ⊥
   never t u is fresh o e = false≢true (sym fresh ∙ ap (λ n. is_in n (instance_names ss is)) e ∙ name-in u is o)
@@ -38,11 +31,6 @@ module _ (ss : List DeclarationOf) where
 
 pub names-differ : DistinctNamesDiffer
 names-differ ss is are d t u r s e = one-name ss is d t u (are.all t r) (are.all u s) e
-
-pub at-one : (is : List Open) (n : ℕ) → n < length is → IsOneOf (instance_at is n) is
-at-one [] n l = absurd (omega (arith, l))
-at-one (i ∷ is) zero l = inl refl
-at-one (i ∷ is) (suc n) l = inr (at-one is n (omega (arith, l)))
 
 unlike : (is : List Open) (m n : ℕ) → AreDifferent is → m < n → n < length is → instance_at is m ≡ instance_at is n → ⊥
 unlike [] m n d l k e = omega (arith, k)

@@ -3,10 +3,11 @@ use Rattle.std.proofs.Common.{ℕ, zero, suc, ◌<◌, ◌==◌, List, [], ◌�
 use Rattle.std.proofs.lemmas.Bool.{false≢true, eqb-true, eq-eqb}
 use Rattle.std.proofs.lemmas.List.{length-map}
 use Rattle.std.proofs.lemmas.Option.{none-some, same_Some}
-use Rattle.open_types.specs.Open.{Open, opens_of, more_types}
+use Rattle.open_types.specs.Open.{Open}
 use Rattle.open_types.specs.Same.{same_type}
 use Rattle.open_types.specs.Laws.{SameIsEqual}
-use Rattle.type_table.specs.Types.{type_at, types_at, AllBelow, IsAmongFirst, IsFound, found, missing, AreApart}
+use Rattle.type_table.specs.Types.{type_at, AllBelow, IsAmongFirst, IsFound, found, AreApart}
+use Rattle.type_table.proofs.Laws.{argument_within}
 use Rattle.instances.specs.Lists.{IsOneOf, number_in, instance_at}
 use Rattle.instances.specs.Numbers.{place_among}
 
@@ -15,11 +16,6 @@ pub instance-type : (known : List Open) (ids : List ℕ) (n x : ℕ) → n < len
 instance-type known [] n x l = absurd (omega (arith, l))
 instance-type known (i ∷ ids) zero x l = refl
 instance-type known (i ∷ ids) (suc n) x l = instance-type known ids n x (omega (arith, l))
-
-pub below-at : (bound : ℕ) (ids : List ℕ) (n x : ℕ) → AllBelow bound ids → n < length ids → get_or ids n x < bound
-below-at bound [] n x h l = absurd (omega (arith, l))
-below-at bound (i ∷ ids) zero x h l = h.0
-below-at bound (i ∷ ids) (suc n) x h l = below-at bound ids n x h.1 (omega (arith, l))
 
 -- where one test holds just if another does, the number is found alike
 found-alike : (a b : Bool) (o p : Option ℕ) → a ≡ b → o ≡ p → cond a (Some 0) (option_map suc o) ≡ cond b (Some 0) (option_map suc p)
@@ -40,7 +36,7 @@ module _ (known : List Open) (ids slice : List ℕ) (is : List Open) (n id : ℕ
   same-at = ap (λ xs. get_or xs n id) (sym same) ∙ sym at
 
   pub id-within : id < length known
-  id-within = subst (λ m. m < length known) same-at (below-at (length known) ids n id below place)
+  id-within = subst (λ m. m < length known) same-at (argument_within (length known) ids n id below place)
 
   pub id-type : type_at known id ≡ instance_at is n
   id-type = ap (type_at known) (sym same-at) ∙ sym (instance-type known ids n id place) ∙ ap (λ ts. instance_at ts n) (sym view)
@@ -72,9 +68,6 @@ module _ (decided : SameIsEqual) (known : List Open) (apart : AreApart known) (t
 pub found-type : (known : List Open) (t : Open) (n : ℕ) → IsFound known t (Some n) → (n < length known) × (type_at known n ≡ t)
 found-type known t n (found m l e) = (l, e)
 
-pub missing-type : (known : List Open) (t : Open) → IsFound known t None → ¬ IsAmongFirst known (length known) t
-missing-type known t (missing h) = h
-
 -- ---- places that are entered from the last
 
 -- the first place of a number in a list whose places are counted from one on
@@ -93,12 +86,6 @@ later-places at (m ∷ ms) n = next-place at (n == m) (place_from (suc (suc at))
 pub all-placed : (ms : List ℕ) (n : ℕ) → place_from 0 ms n ≡ place_among ms n
 all-placed [] n = refl
 all-placed (m ∷ ms) n = ap (cond (n == m) (Some 0)) (later-places 0 ms n ∙ ap (option_map suc) (all-placed ms n))
-
--- ---- arguments
-
-pub types-are : (known : List Open) (ns : List ℕ) → opens_of (map (type_at known) ns) ≡ types_at known ns
-types-are known [] = refl
-types-are known (n ∷ ns) = ap (more_types (type_at known n)) (types-are known ns)
 
 -- ---- instances that are there
 

@@ -1,11 +1,12 @@
 -- Walks over a table that grows at its end, and over instances.
-use Rattle.std.proofs.Common.{ℕ, zero, suc, ◌+◌, ◌<◌, ◌≤◌, ◌==◌, List, [], ◌∷◌, ◌++◌, length, map, get_or, take, Bool, true, false, cond, ◌≡◌, refl, ap, sym, subst, ◌∙◌, ◌⊎◌, inl, inr, arith, length-append, append-nil, append_assoc}
+use Rattle.std.proofs.Common.{ℕ, zero, suc, ◌+◌, ◌<◌, ◌≤◌, ◌==◌, List, [], ◌∷◌, ◌++◌, length, map, get_or, take, Bool, true, false, cond, ◌≡◌, refl, ap, sym, subst, ◌∙◌, ◌⊎◌, inl, inr, arith, length-append}
 use Rattle.std.proofs.lemmas.Bool.{false≢true, eqb-true, eq-eqb, cases_Bool}
 use Rattle.std.proofs.lemmas.List.{length-map, map-append, take_more, map_push}
 use Rattle.open_types.specs.Open.{Open, Opens, leaf, any_value, free_object, unit, tuple, items, set, map_of, option, through, param, named, no_types, more_types, IsOverFirst, AreOverFirst, substituted}
 use Rattle.open_types.specs.Instances.{StandsIn, StandsInOne, declared_place, arguments_of, count}
 use Rattle.open_types.specs.Within.{IsOver, AreOver, AreAllOver}
 use Rattle.type_table.specs.Types.{type_at, types_at, AllBelow, IsFront}
+use Rattle.type_table.proofs.Laws.{type-stays, type_front, below-more, below_front, front_itself, front_twice}
 use Rattle.shapes.specs.Declarations.{MemberOf, FormOf, named_fields, unnamed_fields, no_fields, VariantOf, BodyOf, fields, units, variants, DeclarationOf, declaration_at, parameters_in, member_types, form_types, variant_types, body_types}
 use Rattle.shapes.specs.Instances.{member_over, form_over, variant_over, body_over, places_at}
 use Rattle.shapes.specs.InstanceShape.{IsReachable, IsRoot, root}
@@ -17,44 +18,20 @@ use Rattle.instances.specs.Entering.{AreHeld, IsLonger, AreEntered, AreFound, Is
 use Rattle.instances.specs.declared.bounds.Bounds.{Bounds}
 use Rattle.instances.specs.declared.enter.Found.{Found}
 use Rattle.instances.proofs.Lists.{whole-instances}
-use Rattle.instances.proofs.Entered.{one-left, stands-either, stands-left, stands-right, marked-within, longer-itself, longer-twice}
+use Rattle.instances.proofs.Entered.{stands-either, marked-within, longer-itself, longer-twice}
+use Rattle.instances.proofs.Laws.{one-left, stands-left, stands-right}
 
 -- ---- a table that grows
-
-type-stays : (known more : List Open) (n : ℕ) → n < length known → type_at (known ++ more) n ≡ type_at known n
-type-stays [] more n l = absurd (omega (arith, l))
-type-stays (t ∷ ts) more zero l = refl
-type-stays (t ∷ ts) more (suc n) l = type-stays ts more n (omega (arith, l))
-
-pub type-front : (old new : List Open) (n : ℕ) → IsFront old new → n < length old → type_at new n ≡ type_at old n
-type-front old new n f l = ap (λ ts. type_at ts n) f.1 ∙ type-stays old f.0 n l
 
 pub no-shorter : (old new : List Open) → IsFront old new → length old ≤ length new
 no-shorter old new f = subst (λ ts. length old ≤ length ts) (sym f.1) (omega (arith, length-append old f.0))
 
-below-more : (a b : ℕ) (ns : List ℕ) → a ≤ b → AllBelow a ns → AllBelow b ns
-below-more a b [] l h = tt
-below-more a b (n ∷ ns) l h = (omega (arith, l, h.0), below-more a b ns l h.1)
-
-pub below-front : (old new : List Open) (ns : List ℕ) → IsFront old new → AllBelow (length old) ns → AllBelow (length new) ns
-below-front old new ns f h = below-more (length old) (length new) ns (no-shorter old new f) h
-
 pub below-up : (bound : ℕ) (known : List Open) (ns : List ℕ) → bound < length known → AllBelow bound ns → AllBelow (length known) ns
 below-up bound known ns l h = below-more bound (length known) ns (omega (arith, l)) h
 
-pub types-front : (old new : List Open) (ns : List ℕ) → IsFront old new → AllBelow (length old) ns → types_at new ns ≡ types_at old ns
-types-front old new [] f h = refl
-types-front old new (n ∷ ns) f h = λ k. more_types (type-front old new n f h.0 k) (types-front old new ns f h.1 k)
-
 pub same-types : (old new : List Open) (ns : List ℕ) → IsFront old new → AllBelow (length old) ns → map (type_at new) ns ≡ map (type_at old) ns
 same-types old new [] f h = refl
-same-types old new (n ∷ ns) f h = λ k. type-front old new n f h.0 k ∷ same-types old new ns f h.1 k
-
-pub front-itself : (ts : List Open) → IsFront ts ts
-front-itself ts = ([], sym (append-nil ts))
-
-pub front-twice : (a b c : List Open) → IsFront a b → IsFront b c → IsFront a c
-front-twice a b c f g = (f.0 ++ g.0, g.1 ∙ ap (λ ts. ts ++ g.0) f.1 ∙ append_assoc a f.0 g.0)
+same-types old new (n ∷ ns) f h = λ k. type_front old new n f h.0 k ∷ same-types old new ns f h.1 k
 
 module _ (ss : List DeclarationOf) (limit most : ℕ) where
   -- what is entered stays so where the table grows
@@ -63,8 +40,8 @@ module _ (ss : List DeclarationOf) (limit most : ℕ) where
       let same : map (type_at old) is ≡ map (type_at new) is = sym (same-types old new is f e.below) in
       record {
         room = omega (arith, e.room, no-shorter old new f);
-        below = below-front old new is f e.below;
-        closed = λ n m u s. subst (IsOneOf u) same (e.closed n m u (subst (StandsIn u) (type-front old new n f (omega (arith, marked-within marks n m, e.room))) s));
+        below = below_front old new is f e.below;
+        closed = λ n m u s. subst (IsOneOf u) same (e.closed n m u (subst (StandsIn u) (type_front old new n f (omega (arith, marked-within marks n m, e.room))) s));
         held = e.held;
         different = subst AreDifferent same e.different;
         reached = λ t o. e.reached t (subst (IsOneOf t) (sym same) o);
@@ -80,12 +57,12 @@ longer-holds known is js u f o = subst (IsOneOf u) (sym (ap (map (type_at known)
 
 module _ (ss : List DeclarationOf) (bounds : Bounds) where
   pub walked-none : (known : List Open) (found : Found) → AreFound ss known bounds found → IsWalked ss bounds known found.instances known found []
-  walked-none known found e = record { found = e; front = front-itself known; longer = longer-itself found.instances; held = λ u s. absurd s }
+  walked-none known found e = record { found = e; front = front_itself known; longer = longer-itself found.instances; held = λ u s. absurd s }
 
   pub walked-twice : (a b c : List Open) (old : List ℕ) (mid new : Found) (ts us : List Open) → IsWalked ss bounds a old b mid ts → IsWalked ss bounds b mid.instances c new us → IsWalked ss bounds a old c new (ts ++ us)
   walked-twice a b c old mid new ts us f g = record {
     found = g.found;
-    front = front-twice a b c f.front g.front;
+    front = front_twice a b c f.front g.front;
     longer = longer-twice old mid.instances new.instances f.longer g.longer;
     held = λ u s. by u (stands-either u ts us s);
   }
@@ -96,7 +73,7 @@ module _ (ss : List DeclarationOf) (bounds : Bounds) where
 
   -- in a table that had grown before
   pub walked-before : (a b c : List Open) (old : List ℕ) (new : Found) (ts : List Open) → IsFront a b → IsWalked ss bounds b old c new ts → IsWalked ss bounds a old c new ts
-  walked-before a b c old new ts f g = record { found = g.found; front = front-twice a b c f g.front; longer = g.longer; held = g.held }
+  walked-before a b c old new ts f g = record { found = g.found; front = front_twice a b c f g.front; longer = g.longer; held = g.held }
 
 -- ---- places
 

@@ -155,7 +155,7 @@ closing_no_literal Curly = refl
 
 -- ---- signs
 -- what holds of each of some numbers holds of one of them
-any_of : (q : ℕ → Bool) (c : ℕ) (ds : List ℕ) → list_all q ds ≡ true → list_any (λ d. c == d) ds ≡ true → q c ≡ true
+pub any_of : (q : ℕ → Bool) (c : ℕ) (ds : List ℕ) → list_all q ds ≡ true → list_any (λ d. c == d) ds ≡ true → q c ≡ true
 any_of q c [] h e = cc
 any_of q c (d ∷ ds) h e =
     let both = and_parts (q d) (list_all q ds) h in

@@ -7,7 +7,7 @@ use Rattle.lexing.specs.declared.comment.Mark.{Mark}
 use Rattle.lexing.specs.declared.comment.Mark.TheVariants.{Opens, Closes, Plain}
 use Rattle.lexing.specs.Pieces.{star, slash, is_in_line, is_plain, begins_with, is_doc, IsInside, nothing, nested, plain, IsComment, IsPiece}
 use Rattle.lexing.specs.Scanning.{IsMark, open_after, closing_at, comment_kind}
-use Rattle.literals.proofs.RunLaws.{either, skip_split, skip_past, neither}
+use Rattle.literals.proofs.Laws.{either, skip_split, skip_past, neither}
 use Rattle.lexing.proofs.TextLaws.{run_shorter}
 
 -- ---- one mark

@@ -8,3 +8,4 @@ pub mod CutLaws
 pub mod NestLaws
 pub mod LexLaws
 pub mod RawLaws
+pub mod Laws

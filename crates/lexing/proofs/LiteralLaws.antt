@@ -3,7 +3,7 @@ use Rattle.std.proofs.Common.{◌≡◌, ℕ, ◌<◌, ◌⊎◌, inl, inr, List
 use Rattle.std.specs.List.{list_any}
 use Rattle.literals.specs.Literals.{IsLiteral, is_digit, is_quote, begins_literal}
 use Rattle.literals.specs.Scanning.{literal_at}
-use Rattle.literals.proofs.LiteralLaws.{literal_sound, literal_begins}
+use Rattle.literals.proofs.Laws.{literal_sound, literal_begins}
 
 -- ---- no literal begins with the character
 no_front : (c : ℕ) (cs front rest : List ℕ) → begins_literal c ≡ false → c ∷ cs ≡ front ++ rest → IsLiteral front → ⊥

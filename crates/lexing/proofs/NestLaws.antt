@@ -29,7 +29,7 @@ pub trees_view-push : (ts : List TokenTree) (t : TokenTree) → trees_view (ts +
 trees_view-push [] t = refl
 trees_view-push (u ∷ us) t = ap (λ v. tree_view u ▸ v) (trees_view-push us t)
 
-view_group : (g : Group) → tree_view (tree.Group g) ≡ group g.bracket (trees_view g.trees) g.span
+pub view_group : (g : Group) → tree_view (tree.Group g) ≡ group g.bracket (trees_view g.trees) g.span
 view_group g = search (rules, the_lemmas)
 
 -- ---- how deep trees nest

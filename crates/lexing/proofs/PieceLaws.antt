@@ -4,7 +4,7 @@ use Rattle.std.proofs.lemmas.Bool.{eqb-true, and_parts, or_parts}
 use Rattle.std.specs.List.{list_all, list_any}
 use Rattle.literals.specs.Literals.{IsLiteral, is_digit, is_quote, begins_literal}
 use Rattle.literals.specs.Scanning.{literal_at, skip}
-use Rattle.literals.proofs.LiteralLaws.{literal_sound, literal_reads, literal_begins}
+use Rattle.literals.proofs.Laws.{literal_sound, literal_reads, literal_begins, either, skip_split, skip_short, skip_least}
 use Rattle.tokens.specs.declared.token.TokenKind.TheVariants.{Ident, Lifetime, Literal, Punct, Doc}
 use Rattle.lexing.specs.declared.piece.PieceKind.{PieceKind}
 use Rattle.lexing.specs.declared.piece.PieceKind.TheVariants.{Space, Comment, Token, Open, Close}
@@ -12,7 +12,6 @@ use Rattle.lexing.specs.declared.scan.Class.{Class}
 use Rattle.lexing.specs.declared.scan.Class.TheVariants.{White, Slash, Colon, Sign, Quote, NameStart, Opens, Closes, Other}
 use Rattle.lexing.specs.Pieces.{quote, star, slash, is_white, is_in_line, is_sign, is_doc, IsIdentifier, IsComment, IsPiece, may_end, IsLongest}
 use Rattle.lexing.specs.Scanning.{class_of, identifier_at, closing_at, comment_kind, of_kind, comment_at, or_sign, after_colon, class_at, literal_or, plain_piece_at, longest_at, if_ended, piece_at}
-use Rattle.literals.proofs.RunLaws.{either, skip_split, skip_short, skip_least}
 use Rattle.lexing.proofs.TextLaws.{same_parts}
 use Rattle.lexing.proofs.CommentLaws.{line_front, block_front, block_short, block_long, block_reads, line_reads, doc_in_block}
 use Rattle.lexing.proofs.Classes.{Begins, class_begins, white_class, name_class, slash_class, colon_class, quote_class, sign_class, opening_class, closing_class, white_no_literal, sign_no_literal, opening_no_literal, closing_no_literal}

@@ -4,7 +4,7 @@ use Rattle.std.proofs.lemmas.Bool.{eqb-true, and_parts, or_cases}
 use Rattle.std.proofs.lemmas.Bool.Decides.{nat_tests}
 use Rattle.literals.specs.Scanning.{after_hashes, first_of, after_raw_text, after_raw_string, form_at, past_suffix, literal_at}
 use Rattle.lexing.specs.RawStrings.{hashes_at, after_letter, opening_at, NoneCloses}
-use Rattle.literals.proofs.RunLaws.{either}
+use Rattle.literals.proofs.Laws.{either}
 
 -- ---- what no quote closes, none further on closes, nor one with more signs #
 both_none : (a b : Option (List ℕ)) → first_of a b ≡ None → (a ≡ None) × (b ≡ None)

@@ -1,7 +1,7 @@
 -- Characters of a text, and runs of them.
 use Rattle.std.proofs.Common.{◌≡◌, ℕ, ◌≤◌, List, [], ◌∷◌, ◌++◌, length, refl, ap, ◌∙◌, arith, Bool, true}
 use Rattle.literals.specs.Scanning.{skip}
-use Rattle.literals.proofs.RunLaws.{skip_more, skip_short}
+use Rattle.literals.proofs.Laws.{skip_more, skip_short}
 
 -- ---- parts of a text
 pub same_parts : (xs ys us vs : List ℕ) → xs ++ us ≡ ys ++ vs → length xs ≡ length ys → (xs ≡ ys) × (us ≡ vs)

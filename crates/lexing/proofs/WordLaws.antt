@@ -7,8 +7,7 @@ use Rattle.literals.specs.Literals.{is_digit, is_quote, starts_name}
 use Rattle.literals.specs.Scanning.{skip}
 use Rattle.lexing.specs.Pieces.{begins_with, begins_with_two, IsName, IsIdentifier}
 use Rattle.lexing.specs.Scanning.{name_at, first_of_both, raw_name_at, identifier_at}
-use Rattle.literals.proofs.RunLaws.{either, skip_split, skip_least}
-use Rattle.literals.proofs.NumberLaws.{name_no_digit}
+use Rattle.literals.proofs.Laws.{either, skip_split, skip_least, name_no_digit}
 use Rattle.lexing.proofs.Classes.{name_no_quote, word_no_quote, hash_no_word, r_starts_name}
 
 -- ---- two characters at the front

@@ -2,7 +2,7 @@
 #![tactic(auto)]
 
 mod comment;
-mod laws;
+mod law;
 mod lexer;
 mod nest;
 mod piece;
@@ -11,7 +11,7 @@ mod scan;
 mod text;
 mod word;
 
-pub use laws::{deep_brackets_nest_deep, one_cut, one_deep_bracket};
+pub use law::{deep_brackets_nest_deep, one_cut, one_deep_bracket};
 pub use lexer::lex;
 pub use nest::MAX_DEPTH;
 pub use tokens::{Bracket, Cursor, Group, Token, TokenKind, TokenTree, copy_trees};

@@ -1,6 +1,6 @@
 -- What strings say: what is read is what the definition says, and no less.
-use Rattle.std.proofs.Common.{◌≡◌, ◌∙◌, ◌+◌, ◌*◌, ◌<◌, ◌≤◌, ℕ, zero, suc, inl, inr, List, [], ◌∷◌, ◌++◌, length, replicate, refl, ap, sym, subst, arith, cond, Bool, true, false, not, ◌||◌, ◌&&◌, ◌==◌, nat_lt, Option, Some, None, IsSome, is_some, append_assoc, length-append}
-use Rattle.std.proofs.lemmas.Bool.{eqb-true, ltb-true, cases_Bool, or_cases, and_parts, and_from, or_parts}
+use Rattle.std.proofs.Common.{◌≡◌, ◌∙◌, ◌+◌, ◌*◌, ◌<◌, ◌≤◌, ℕ, zero, suc, inl, inr, List, [], ◌∷◌, ◌++◌, length, replicate, refl, ap, sym, subst, arith, cond, true, false, not, ◌||◌, ◌&&◌, ◌==◌, nat_lt, Option, Some, None, IsSome, is_some, append_assoc, length-append}
+use Rattle.std.proofs.lemmas.Bool.{eqb-true, ltb-true, cases_Bool, or_cases, and_parts, and_from}
 use Rattle.std.proofs.lemmas.Bool.Decides.{nat_tests}
 use Rattle.std.proofs.lemmas.List.{append-nil}
 use Rattle.std.specs.Prelude.{chars, encode_utf8}
@@ -12,9 +12,7 @@ use lib.Utf8.{scalar}
 use Rattle.literals.specs.Literals.{is_hex_digit, is_code_sign, is_plain, hex_digits, IsCode, IsRawText, IsEscape, IsText}
 use Rattle.literals.specs.Literals as grammar
 use Rattle.literals.specs.Scanning.{after_hashes, first_of, after_raw_text, after_raw_string}
-use Rattle.literals.proofs.RunLaws.{either, cond_true, cond_false, some_same}
-use Rattle.literals.proofs.EscapeLaws.{number_after, hex_more, hex_same, number_more, number_same, GoesOn, on_digit, on_line}
-use Rattle.literals.proofs.RawLaws.{hashes_read, raw_text_inside, no_hashes, raw_string_sound}
+use Rattle.literals.proofs.Laws.{either, cond_true, cond_false, some_same, number_after, hex_more, hex_same, number_more, number_same, GoesOn, on_digit, on_line, hashes_read, raw_text_inside, no_hashes, raw_string_sound, plain_signs}
 use Rattle.tokens.specs.declared.token.Token.{Token}
 use Rattle.tokens.specs.declared.token.TokenKind.{TokenKind}
 use Rattle.tokens.specs.declared.token.TokenKind.TheVariants as kind
@@ -32,13 +30,6 @@ ended_parts (c ∷ cs) text e = cc
 -- neither " nor \
 plain_from : (c : ℕ) → (c == 34) ≡ false → (c == 92) ≡ false → is_plain c ≡ true
 plain_from c quote slash = ap (λ v. not (v || (c == 92))) quote ∙ ap not slash
-
-off : (b : Bool) → not b ≡ true → b ≡ false
-off true e = cc
-off false e = refl
-
-plain_signs : (c : ℕ) → is_plain c ≡ true → ((c == 34) ≡ false) × ((c == 92) ≡ false)
-plain_signs c h = or_parts (c == 34) (c == 92) (off ((c == 34) || (c == 92)) h)
 
 -- ---- sound: codes
 -- signs of a code up to }, the character of their number, and what follows

@@ -2,11 +2,11 @@
 #![tactic(auto)]
 
 mod escapes;
-mod laws;
+mod law;
 mod numbers;
 mod raw_strings;
 mod strings;
 mod value;
 
-pub use laws::{texts_are_said, values_are_equal};
+pub use law::{texts_are_said, values_are_equal};
 pub use value::{LiteralValue, literal_value, text_value};

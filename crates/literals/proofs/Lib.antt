@@ -7,3 +7,4 @@ pub mod QuotedLaws
 pub mod RawLaws
 pub mod RunLaws
 pub mod StringLaws
+pub mod Laws

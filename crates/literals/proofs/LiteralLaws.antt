@@ -1,6 +1,6 @@
 -- Literals: the scanner and the definition.
-use Rattle.std.proofs.Common.{◌≡◌, ℕ, ◌≤◌, ◌⊎◌, inl, inr, List, [], ◌∷◌, ◌++◌, length, replicate, refl, ap, sym, subst, ◌∙◌, Bool, true, false, ◌||◌, ◌==◌, Option, Some, None, append_assoc}
-use Rattle.std.proofs.lemmas.Bool.{eqb-true, cases_Bool}
+use Rattle.std.proofs.Common.{◌≡◌, ℕ, ◌≤◌, ◌⊎◌, inl, inr, List, [], ◌∷◌, ◌++◌, length, replicate, refl, ap, sym, subst, ◌∙◌, true, false, ◌||◌, ◌==◌, Option, Some, None, append_assoc}
+use Rattle.std.proofs.lemmas.Bool.{eqb-true, cases_Bool, or_right}
 use Rattle.std.proofs.lemmas.List.Folds.{list_any-append}
 use Rattle.std.specs.List.{list_any}
 use Rattle.unicode_ident.specs.Ident.{is_xid_continue}
@@ -172,13 +172,9 @@ abbrev pub Begins : List ℕ → Type 0
 Begins [] = ⊥
 Begins (c ∷ cs) = ((is_digit c ≡ true) ⊎ (list_any is_quote cs ≡ true)) × (begins_literal c ≡ true)
 
-or_true : (a b : Bool) → b ≡ true → (a || b) ≡ true
-or_true true b e = refl
-or_true false b e = e
-
 has_quote : (xs ys : List ℕ) (q : ℕ) → is_quote q ≡ true → list_any is_quote (xs ++ q ∷ ys) ≡ true
 has_quote [] ys q h = ap (λ v. v || list_any is_quote ys) h
-has_quote (x ∷ xs) ys q h = or_true (is_quote x) (list_any is_quote (xs ++ q ∷ ys)) (has_quote xs ys q h)
+has_quote (x ∷ xs) ys q h = or_right (is_quote x) (list_any is_quote (xs ++ q ∷ ys)) (has_quote xs ys q h)
 
 number_begins : (cs : List ℕ) (P : ℕ → List ℕ → Type 0) → AfterDigit P cs → Begins cs
 number_begins [] P n = absurd n

@@ -18,7 +18,7 @@ apostrophe_sound (c ∷ cs) rest e =
       | inr h ↦ let r = apostrophe_sound cs rest h.1 in (c ∷ r.0, ap (λ v. c ∷ v) r.1, ap (λ v. not v && list_all is_not_apostrophe r.0) h.0 ∙ r.2)
     ]
 
-apostrophe_reads : (cs rest : List ℕ) → list_all is_not_apostrophe cs ≡ true → after_apostrophe (cs ++ 39 ∷ rest) ≡ Some rest
+pub apostrophe_reads : (cs rest : List ℕ) → list_all is_not_apostrophe cs ≡ true → after_apostrophe (cs ++ 39 ∷ rest) ≡ Some rest
 apostrophe_reads [] rest h = refl
 apostrophe_reads (c ∷ cs) rest h =
     let both = and_parts (is_not_apostrophe c) (list_all is_not_apostrophe cs) h in

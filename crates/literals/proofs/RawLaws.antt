@@ -108,7 +108,7 @@ raw_sound k (c ∷ cs) rest l e =
           ]
     ]
 
-raw_reads : (n k m : ℕ) (ys : List ℕ) → m ≡ k + n → m ≤ 255 → after_raw_string k (replicate n 35 ++ 34 ∷ ys) ≡ after_raw_text m ys
+pub raw_reads : (n k m : ℕ) (ys : List ℕ) → m ≡ k + n → m ≤ 255 → after_raw_string k (replicate n 35 ++ 34 ∷ ys) ≡ after_raw_text m ys
 raw_reads zero k m ys e l = let same : k ≡ m = omega (arith, e) in ap (λ v. after_raw_text v ys) same
 raw_reads (suc n) k m ys e l =
     let less : nat_lt k 255 ≡ true = grind (arith, nat_tests, e, l) in

@@ -12,7 +12,7 @@ use Rattle.literals.proofs.EscapeLaws.{EscapeFront, escape_of, allowed_sound, Al
 abbrev TextFront : Escapes → List ℕ → List ℕ → Type 0
 TextFront escapes cs rest = (text : List ℕ) × (cs ≡ text ++ 34 ∷ rest) × IsText (escape_of escapes) text
 
-plain_signs : (c : ℕ) → is_plain c ≡ true → ((c == 34) ≡ false) × ((c == 92) ≡ false)
+pub plain_signs : (c : ℕ) → is_plain c ≡ true → ((c == 34) ≡ false) × ((c == 92) ≡ false)
 plain_signs c h = or_parts (c == 34) (c == 92) (not-true ((c == 34) || (c == 92)) h)
 
 plain_passed : (escapes : Escapes) (c : ℕ) (cs : List ℕ) → is_plain c ≡ true → after_string escapes false (c ∷ cs) ≡ after_string escapes false cs
@@ -71,7 +71,7 @@ escape_read : (escapes : Escapes) (escape more : List ℕ) → Allowed escapes m
 escape_read escapes [] more a = absurd a
 escape_read escapes (c ∷ cs) more a = cond_true (after_string escapes false (cs ++ more)) None (allows escapes (c ∷ (cs ++ more))) a.0 ∙ plains_passed escapes cs more a.1
 
-text_reads : (escapes : Escapes) (text rest : List ℕ) → IsText (escape_of escapes) text → after_string escapes false (text ++ 34 ∷ rest) ≡ Some rest
+pub text_reads : (escapes : Escapes) (text rest : List ℕ) → IsText (escape_of escapes) text → after_string escapes false (text ++ 34 ∷ rest) ≡ Some rest
 text_reads escapes text rest empty = refl
 text_reads escapes text rest (plain {c = c} {cs = cs} h r) = plain_passed escapes c (cs ++ 34 ∷ rest) h ∙ text_reads escapes cs rest r
 text_reads escapes text rest (escaped {escape = front} {cs = cs} h r) =

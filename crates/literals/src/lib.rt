@@ -2,14 +2,14 @@
 #![tactic(auto)]
 
 mod characters;
-mod laws;
+mod law;
 mod literal;
 mod numbers;
 mod raw_strings;
 mod scan;
 mod strings;
 
-pub use laws::{literals_are_longest, literals_have_quotes};
+pub use law::{literals_are_longest, literals_have_quotes};
 pub use literal::after_literal;
 pub use raw_strings::after_hashes;
 pub use scan::{Run, after_run, split_first_char, starts_name};

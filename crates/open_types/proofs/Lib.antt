@@ -1,3 +1,4 @@
 mod Examples
 pub mod OpenLists
 pub mod SameLists
+pub mod Laws

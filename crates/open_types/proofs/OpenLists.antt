@@ -21,11 +21,11 @@ argument_at-past (t ∷ ts) (suc n) h =
     let less : n - length ts ≡ suc n - suc (length ts) = omega arith in
     argument_at-past ts n (omega arith) ∙ ap param less
 
-push_views : (ts : List OpenType) (t : OpenType) (us : Opens) → append (opens_view (ts ++ t ∷ [])) us ≡ append (opens_view ts) (more_types (open_view t) us)
+pub push_views : (ts : List OpenType) (t : OpenType) (us : Opens) → append (opens_view (ts ++ t ∷ [])) us ≡ append (opens_view ts) (more_types (open_view t) us)
 push_views [] t us = refl
 push_views (u ∷ ts) t us = ap (more_types (open_view u)) (push_views ts t us)
 
-append_none : (us : Opens) → append us no_types ≡ us
+pub append_none : (us : Opens) → append us no_types ≡ us
 append_none no_types = refl
 append_none (more_types t ts) = ap (more_types t) (append_none ts)
 

@@ -1,12 +1,12 @@
 -- The spans of what is chosen, one after another.
 use Rattle.std.proofs.Common.{◌≡◌, ◌∙◌, ◌≤◌, ◌<◌, ◌-◌, ℕ, length, get_or, take, drop, arith, ap₂, List, [], ◌∷◌, ◌++◌, refl, ap, sym, subst, append_assoc, ◌⊎◌, inl, inr, Bool, true, false, not, ◌||◌, Option, Some, None, is_some, is_none}
 use Rattle.std.proofs.lemmas.List.{append-nil}
+use Rattle.std.proofs.lemmas.Bool.{or_cases}
 use Rattle.texts.specs.declared.span.Span.{Span}
 use Rattle.prepare.specs.declared.item.Declared.{Declared}
 use Rattle.prepare.specs.declared.item.Standing.{Standing}
 use Rattle.prepare.specs.Wanted.{IsDeclaredIn, NamesByName, AreUnwanted, is_chosen}
 use Rattle.prepare.specs.Choices.{IsChosenBySerde, AreSpansOf, no_spans, taken, left}
-use Rattle.prepare.proofs.Within.{or_either}
 
 -- the spans so far, and those of the rest, are those of all
 pub record SpansSoFar (Holds : Standing → Type 0) (all rest : List Standing) (spans : List Span) : Type 0 where
@@ -42,7 +42,7 @@ not_some (Some x) = refl
 
 chosen_by : (all : List Standing) (by_name : NamesByName) (o : Option Declared) → AreUnwanted all by_name → ((d : Declared) → o ≡ Some d → IsDeclaredIn all d) → is_chosen by_name o ≡ true → IsChosenBySerde all o
 chosen_by all by_name None u in_it e = tt
-chosen_by all by_name (Some d) u in_it e = elim (or_either d.is_deriving (is_none (by_name d.name)) e) [
+chosen_by all by_name (Some d) u in_it e = elim (or_cases d.is_deriving (is_none (by_name d.name)) e) [
   | inl h ↦ inl h
   | inr h ↦ inr ((u d (in_it d refl)).0 (none_is (by_name d.name) h))
 ]

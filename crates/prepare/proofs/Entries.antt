@@ -1,25 +1,15 @@
 -- The names in declarations, by the names of these.
-use Rattle.std.proofs.Common.{◌≡◌, ◌∙◌, ℕ, List, [], ◌∷◌, ◌++◌, refl, ap, ap₂, sym, subst, ◌⊎◌, inl, inr, true, false, cond, bytes_eq, Option, Some, None, unwrap_or}
+use Rattle.std.proofs.Common.{◌≡◌, ◌∙◌, ℕ, List, [], ◌∷◌, ◌++◌, refl, ap, sym, subst, ◌⊎◌, inl, inr, true, false, cond, bytes_eq, Option, Some, None, unwrap_or}
+use Rattle.std.proofs.lemmas.Bool.{cases_Bool}
 use Rattle.texts.specs.Names.{is_in}
 use Rattle.prepare.specs.declared.item.Declared.{Declared}
 use Rattle.prepare.specs.declared.item.Standing.{Standing}
 use Rattle.prepare.specs.Wanted.{IsDeclaredIn, NamesByName, with_names, with_declared, entries_with, entry}
-use Rattle.prepare.proofs.Within.{bool_cases, bytes_same, bytes_itself, in_either, in_left, in_right}
+use Rattle.prepare.proofs.Within.{bytes_same, bytes_itself, in_either, in_left, in_right}
 
 -- maps that have the same names
 abbrev pub AreSame : NamesByName → NamesByName → Type 0
 AreSame f g = (k : List ℕ) → f k ≡ g k
-
-same_with : (d : Declared) (f g : NamesByName) → AreSame f g → AreSame (with_names d f) (with_names d g)
-same_with d f g h k = ap₂ (λ x y. cond (bytes_eq d.name k) (Some (unwrap_or x [] ++ d.names)) y) (h d.name) (h k)
-
-same_declared : (o : Option Declared) (f g : NamesByName) → AreSame f g → AreSame (with_declared o f) (with_declared o g)
-same_declared None f g h = h
-same_declared (Some d) f g h = same_with d f g h
-
-pub same_entries : (ss : List Standing) (f g : NamesByName) → AreSame f g → AreSame (entries_with f ss) (entries_with g ss)
-same_entries [] f g h = h
-same_entries (s ∷ ss) f g h = same_entries ss (with_declared s.declared f) (with_declared s.declared g) (same_declared s.declared f g h)
 
 -- ---- what the entries have
 
@@ -35,7 +25,7 @@ with_other d f k e = ap (λ b. cond b (Some (unwrap_or (f d.name) [] ++ d.names)
 
 kept_by : (d : Declared) (f : NamesByName) (k : List ℕ) (ms : List (List ℕ)) → f k ≡ Some ms → Has (with_names d f) k ms
 unfolding Has
-kept_by d f k ms e = elim (bool_cases (bytes_eq d.name k)) [
+kept_by d f k ms e = elim (cases_Bool (bytes_eq d.name k)) [
   | inl h ↦
       let old : f d.name ≡ Some ms = ap f (bytes_same d.name k h) ∙ e in
       (ms ++ d.names, with_same d f k h ∙ ap (λ o. Some (unwrap_or o [] ++ d.names)) old, λ x i. in_left x ms d.names i)
@@ -80,7 +70,7 @@ from_old (Some ms) x i = (ms, refl, i)
 from_with : (o : Option Declared) (f : NamesByName) (k x : List ℕ) (ms : List (List ℕ)) → with_declared o f k ≡ Some ms → is_in x ms ≡ true
     → ((old : List (List ℕ)) × (f k ≡ Some old) × (is_in x old ≡ true)) ⊎ ((d : Declared) × (o ≡ Some d) × (d.name ≡ k) × (is_in x d.names ≡ true))
 from_with None f k x ms e i = inl (ms, e, i)
-from_with (Some d) f k x ms e i = elim (bool_cases (bytes_eq d.name k)) [
+from_with (Some d) f k x ms e i = elim (cases_Bool (bytes_eq d.name k)) [
   | inl h ↦
       let named = bytes_same d.name k h in
       let is : unwrap_or (f d.name) [] ++ d.names ≡ ms = let both : Some (unwrap_or (f d.name) [] ++ d.names) ≡ Some ms = sym (with_same d f k h) ∙ e in cc in

@@ -1,15 +1,13 @@
 -- Groups of the program, and lists of trees.
-use Rattle.std.proofs.Common.{◌≡◌, ◌∙◌, ◌-◌, List, [], ◌∷◌, ◌++◌, length, map, take, refl, ap, ap₂, sym, arith, rules}
+use Rattle.std.proofs.Common.{◌≡◌, ◌∙◌, ◌-◌, List, [], ◌∷◌, ◌++◌, length, map, take, refl, ap, ap₂, sym}
 use Rattle.std.proofs.lemmas.List.{take-map, length-map}
 use Rattle.tokens.specs.declared.token.Group.{Group}
-use Rattle.tokens.specs.declared.token.TokenTree.{TokenTree, the_lemmas}
+use Rattle.tokens.specs.declared.token.TokenTree.{TokenTree}
 use Rattle.tokens.specs.declared.token.TokenTree.TheVariants as tree
-use Rattle.tokens.specs.Trees.{Tree, group, trees_of, tree_view, trees_view}
+use Rattle.tokens.specs.Trees.{Tree, trees_of, tree_view, trees_view}
+use Rattle.lexing.proofs.Laws.{view_group}
 use Rattle.prepare.specs.Trees.{listed, inside, before}
 use Rattle.prepare.specs.Names.{names_in, names_of, all_names}
-
-pub view_group : (g : Group) → tree_view (tree.Group g) ≡ group g.bracket (trees_view g.trees) g.span
-view_group g = search (rules, the_lemmas)
 
 pub listed_same : (ts : List Tree) → listed (trees_of ts) ≡ ts
 listed_same [] = refl

@@ -12,3 +12,4 @@ mod Repeated
 mod Stands
 mod Wanting
 mod Within
+pub mod Laws

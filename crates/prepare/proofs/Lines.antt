@@ -1,7 +1,7 @@
 -- Lines of a text, and positions in them.
 use Rattle.std.proofs.Common.{◌≡◌, ◌∙◌, ◌≤◌, ◌<◌, ◌+◌, ◌-◌, ◌⊎◌, inl, inr, ℕ, zero, suc, List, [], ◌∷◌, ◌++◌, length, get_or, take, drop, refl, ap, ap₂, sym, subst, arith, codes, Bool, true, false, cond, ◌||◌}
 use Rattle.std.proofs.Math.Seq.{take-suc}
-use Rattle.std.proofs.lemmas.Bool.{eqb-true}
+use Rattle.std.proofs.lemmas.Bool.{eqb-true, cases_Bool, or_left, or_right}
 use Rattle.std.proofs.lemmas.Slice.Eq.{bytes_eq-Decides}
 use Rattle.std.proofs.Math.ListN.{drop_of_length-le}
 use Rattle.std.proofs.lemmas.List.{take-append-drop, drop-append-le, length-take-le, length-drop, get_or-drop}
@@ -10,8 +10,8 @@ use Rattle.std.proofs.lemmas.Str.{IsCharBoundary-start, IsCharBoundary-end, IsCh
 use Rattle.std.proofs.Math.Numerals.{add-one}
 use Rattle.std.specs.List.{list_any, count_by}
 use Rattle.std.specs.Str.{bytes_eq, IsUtf8, IsCharBoundary}
+use Rattle.std.proofs.Math.Bool.{or-false}
 use Rattle.prepare.specs.Positions.{is_feed, begins_char, behind_feeds, before_feed, without_return}
-use Rattle.prepare.proofs.Within.{bool_cases, or_left, or_right}
 
 -- ---- a line without a carriage return at its end
 unended_from : (line : List ℕ) (b : Bool) → b ≡ false → line ≡ cond b (take (length line - 1) line) line
@@ -19,23 +19,19 @@ unended_from line false e = refl
 unended_from line true e = cc
 
 pub left_unended : (line : List ℕ) → ((front : List ℕ) → line ≡ front ++ codes "\r" → ⊥) → line ≡ without_return line
-left_unended line none = elim (bool_cases (bytes_eq (drop (length line - 1) line) (codes "\r"))) [
+left_unended line none = elim (cases_Bool (bytes_eq (drop (length line - 1) line) (codes "\r"))) [
   | inl ends ↦ absurd (none (take (length line - 1) line)
       (sym (take-append-drop (length line - 1) line) ∙ ap (λ v. take (length line - 1) line ++ v) ((bytes_eq-Decides (drop (length line - 1) line) (codes "\r")).0 ends)))
   | inr other ↦ unended_from line (bytes_eq (drop (length line - 1) line) (codes "\r")) other
 ]
 
 -- ---- what stands behind the line feeds, with a byte more
-or_none : (b : Bool) → (b || false) ≡ b
-or_none true = refl
-or_none false = refl
-
 or_assoc : (a b c : Bool) → (a || (b || c)) ≡ ((a || b) || c)
 or_assoc true b c = refl
 or_assoc false b c = refl
 
 any_feed : (xs : List ℕ) (b : ℕ) → list_any is_feed (xs ++ b ∷ []) ≡ (list_any is_feed xs || is_feed b)
-any_feed [] b = or_none (is_feed b)
+any_feed [] b = or-false (is_feed b)
 any_feed (x ∷ xs) b = ap (λ v. is_feed x || v) (any_feed xs b) ∙ or_assoc (is_feed x) (list_any is_feed xs) (is_feed b)
 
 none_behind : (xs : List ℕ) (b : ℕ) → is_feed b ≡ true → behind_feeds (xs ++ b ∷ []) ≡ []
@@ -44,7 +40,7 @@ none_behind (x ∷ xs) b e =
     let some : list_any is_feed (x ∷ xs ++ b ∷ []) ≡ true = any_feed (x ∷ xs) b ∙ or_right (list_any is_feed (x ∷ xs)) (is_feed b) e in
     ap (λ v. cond v (behind_feeds (xs ++ b ∷ [])) (x ∷ xs ++ b ∷ [])) some ∙ none_behind xs b e
 
-or_same : (a b : Bool) → b ≡ false → (a || b) ≡ a
+pub or_same : (a b : Bool) → b ≡ false → (a || b) ≡ a
 or_same true b e = refl
 or_same false b e = e
 
@@ -99,7 +95,7 @@ module _ (bytes text : List ℕ) (at line column start b : ℕ) (here : IsAt byt
       }
 
   other_feed : (b ≡ 10 → ⊥) → is_feed b ≡ false
-  other_feed h = elim (bool_cases (is_feed b)) [ inr e ↦ e | inl e ↦ absurd (h (eqb-true b 10 e)) ]
+  other_feed h = elim (cases_Bool (is_feed b)) [ inr e ↦ e | inl e ↦ absurd (h (eqb-true b 10 e)) ]
 
   pub past_other : (v : Bool) → begins_char b ≡ v → (b ≡ 10 → ⊥) → (next : ℕ) → next ≡ column + cond v 1 0 → IsAt bytes text (at + 1) line next start
   past_other v begins h next e =

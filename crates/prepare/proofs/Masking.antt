@@ -1,14 +1,13 @@
 -- A text whose characters stand, or have blanks in their places.
 use Rattle.std.proofs.Common.{◌≡◌, ◌∙◌, ◌≤◌, ◌<◌, ◌-◌, ◌+◌, ℕ, zero, suc, List, [], ◌∷◌, ◌++◌, length, map, get_or, replicate, refl, ap, sym, subst, arith, append_assoc, inl, inr, Bool, true, false, cond, ◌==◌}
 use Rattle.std.proofs.lemmas.List.{append-nil}
-use Rattle.std.proofs.lemmas.Bool.{eqb-true}
+use Rattle.std.proofs.lemmas.Bool.{eqb-true, cases_Bool, or_cases}
 use Rattle.std.proofs.lemmas.Str.{encode_ascii, inside_one, encodes-chars}
 use Rattle.std.specs.Prelude.{encode_utf8}
 use Rattle.std.specs.Str.{chars, IsUtf8, encode_utf8_all}
 use Rattle.texts.specs.declared.span.Span.{Span}
-use Rattle.lexing.proofs.CutLaws.{front_bytes}
+use Rattle.lexing.proofs.Laws.{front_bytes}
 use Rattle.prepare.specs.Masked.{lies_in_one, is_break, blank, masked, IsBlanked}
-use Rattle.prepare.proofs.Within.{bool_cases, or_either}
 
 -- ---- blanks
 spaces : (bs : List ℕ) → map {B = ℕ} (λ _. 32) bs ≡ replicate (length bs) 32
@@ -22,9 +21,9 @@ spaces_are text old left c none other e =
     sym here ∙ e ∙ ap (λ v. old ++ v) (sym there)
 
 pub no_break_from : (c : ℕ) → (c ≡ 10 → ⊥) → (c ≡ 13 → ⊥) → is_break c ≡ false
-no_break_from c feed return = elim (bool_cases (is_break c)) [
+no_break_from c feed return = elim (cases_Bool (is_break c)) [
   | inr e ↦ e
-  | inl e ↦ elim (or_either (c == 10) (c == 13) e) [ inl h ↦ absurd (feed (eqb-true c 10 h)) | inr h ↦ absurd (return (eqb-true c 13 h)) ]
+  | inl e ↦ elim (or_cases (c == 10) (c == 13) e) [ inl h ↦ absurd (feed (eqb-true c 10 h)) | inr h ↦ absurd (return (eqb-true c 13 h)) ]
 ]
 
 -- ---- a character more
@@ -76,14 +75,14 @@ blanked_spaces : (bs : List ℕ) → ((k : ℕ) → k < length bs → is_break (
 blanked_spaces [] none = tt
 blanked_spaces (b ∷ bs) none = (inr (refl, none 0 (omega arith)), blanked_spaces bs (λ k l. none (suc k) (omega arith)))
 
-break_small : (b : ℕ) → is_break b ≡ true → b < 128
-break_small b h = elim (or_either (b == 10) (b == 13) h) [
+pub break_small : (b : ℕ) → is_break b ≡ true → b < 128
+break_small b h = elim (or_cases (b == 10) (b == 13) h) [
   | inl e ↦ let is = eqb-true b 10 e in omega arith
   | inr e ↦ let is = eqb-true b 13 e in omega arith
 ]
 
 no_break : (c k : ℕ) → is_break c ≡ false → k < length (encode_utf8 c) → is_break (get_or (encode_utf8 c) k 0) ≡ false
-no_break c k other l = elim (bool_cases (is_break (get_or (encode_utf8 c) k 0))) [
+no_break c k other l = elim (cases_Bool (is_break (get_or (encode_utf8 c) k 0))) [
   | inr e ↦ e
   | inl e ↦
       let same : c ≡ get_or (encode_utf8 c) k 0 = inside_one c [] (encode_utf8 c) k (sym (append-nil (encode_utf8 c))) l (break_small (get_or (encode_utf8 c) k 0) e) in

@@ -1,11 +1,11 @@
 -- What follows an item is past it, and a module holds less than it stands in.
 use Rattle.std.proofs.Common.{◌≡◌, ℕ, ◌<◌, List, [], ◌∷◌, refl, ap, subst, arith, inl, inr, Bool, true, false, cond, Option, None, Some, is_some}
 use Rattle.std.specs.Prelude.{codes}
-use Rattle.std.specs.Option.{option_map}
 use Rattle.tokens.specs.Trees.{Tree, token, group, Trees, end, ◌▸◌, trees_of, depth, depth_of}
 use Rattle.words.specs.Words.{word_of}
 use Rattle.words.specs.Reading.{as_name}
 use Rattle.written_types.specs.declared.written.Ident.{Ident}
+use Rattle.texts.proofs.Laws.{mapped}
 use Rattle.prepare.specs.declared.kind.Kind.{Kind}
 use Rattle.prepare.specs.declared.kind.Kind.TheVariants as kinds
 use Rattle.prepare.specs.Trees.{listed, word, is_word, is_sign, is_round, is_curly, is_group, is_path_part, inside, before}
@@ -108,7 +108,7 @@ declares_other name ts held e = cc
 one_more : {t : Tree} {ts : List Tree} {found : Found} → IsWithin ts found → IsWithin (t ∷ ts) found
 one_more {t = t} {ts = ts} h = record { past = past (weakly h.past); less = λ held e. omega (arith, h.less held e) }
 
-listed_trees : (ts : Trees) → trees_of (listed ts) ≡ ts
+pub listed_trees : (ts : Trees) → trees_of (listed ts) ≡ ts
 listed_trees end = refl
 listed_trees (t ▸ ts) = ap (λ v. t ▸ v) (listed_trees ts)
 
@@ -158,11 +158,6 @@ form_within ts found e = form_of_within (kind_at ts) ts found e
 
 -- ---- items
 
--- an item's form, from what was found with it
-mapped : {A B : Type 0} (f : A → B) (o : Option A) {y : B} → option_map f o ≡ Some y → (x : A) × (o ≡ Some x) × (f x ≡ y)
-mapped f None e = not_none e
-mapped f (Some x) e = (x, refl, some_same e)
-
 form_held : (ts start keyword : List Tree) (form : Form) (rest held : List Tree) → item_of ts start keyword form rest ≡ item.holds held → form ≡ holds held
 form_held ts start keyword (declares name behind) rest held e = cc
 form_held ts start keyword uses rest held e = cc
@@ -181,7 +176,7 @@ unfolding item_at
 item_past ts i rest e =
     let start = after_attributes ts in
     let keyword = after_visibility start in
-    let m = mapped (item_from ts start keyword) (form_at keyword) e in
+    let m = mapped (item_from ts start keyword) (form_at keyword) _ e in
     let h = form_within keyword m.0 m.1 in
     let is : m.0.1 ≡ rest = ap (λ p. p.1) m.2 in
     subst (λ v. IsPast v ts) is (past_behind h.past (keyword_behind ts))
@@ -191,7 +186,7 @@ unfolding item_at
 item_less ts held rest e =
     let start = after_attributes ts in
     let keyword = after_visibility start in
-    let m = mapped (item_from ts start keyword) (form_at keyword) e in
+    let m = mapped (item_from ts start keyword) (form_at keyword) _ e in
     let h = form_within keyword m.0 m.1 in
     let is : unless_for_tests (before ts start) (item_of ts start keyword m.0.0 m.0.1) ≡ item.holds held = ap (λ p. p.0) m.2 in
     let f = form_held ts start keyword m.0.0 m.0.1 held (item_held (is_for_tests (before ts start)) (item_of ts start keyword m.0.0 m.0.1) held is) in

@@ -2,17 +2,18 @@
 use Rattle.std.proofs.Common.{◌≡◌, ◌∙◌, ◌<◌, ℕ, length, get_or, unwrap_or, List, [], ◌∷◌, ◌++◌, refl, ap, sym, subst, ◌⊎◌, inl, inr, true, false, cond, bytes_eq, Option, Some, None}
 use Rattle.std.specs.List.{remove}
 use Rattle.std.specs.Map.{update}
+use Rattle.std.proofs.lemmas.Bool.{cases_Bool}
 use Rattle.texts.specs.Names.{is_in}
 use Rattle.prepare.specs.declared.item.Declared.{Declared}
 use Rattle.prepare.specs.declared.item.Standing.{Standing}
 use Rattle.prepare.specs.Wanted.{IsDeclaredIn, IsWanted, by_deriving, by_wanted, names_if_deriving, first_names, NamesByName, with_names, entry, TakesOne, AreUnwanted}
-use Rattle.prepare.proofs.Within.{bool_cases, bytes_same, bytes_itself, in_either, in_left, in_right, still_in, was_in, item_in}
+use Rattle.prepare.proofs.Within.{bytes_same, bytes_itself, in_either, in_left, in_right, still_in, was_in, item_in}
 use Rattle.prepare.proofs.Entries.{AreSame, has_entry, from_entry}
 
 -- ---- the first names
 some_deriving : (o : Option Declared) (k : List ℕ) → is_in k (names_if_deriving o) ≡ true → (d : Declared) × (o ≡ Some d) × (d.is_deriving ≡ true) × (is_in k d.names ≡ true)
 some_deriving None k i = cc
-some_deriving (Some d) k i = elim (bool_cases d.is_deriving) [
+some_deriving (Some d) k i = elim (cases_Bool d.is_deriving) [
   | inl h ↦ (d, refl, h, subst (λ b. is_in k (cond b d.names []) ≡ true) h i)
   | inr h ↦ let none : is_in k [] ≡ true = subst (λ b. is_in k (cond b d.names []) ≡ true) h i in cc
 ]
@@ -67,7 +68,7 @@ module _ (ss : List Standing) (wanted names rest : List (List ℕ)) (left after 
   taken_other k e = t.taken k ∙ ap (λ b. cond b None (left k)) e
 
   still_none : (k : List ℕ) → left k ≡ None → after k ≡ None
-  still_none k e = elim (bool_cases (bytes_eq t.name k)) [ inl b ↦ taken_same k b | inr b ↦ taken_other k b ∙ e ]
+  still_none k e = elim (cases_Bool (bytes_eq t.name k)) [ inl b ↦ taken_same k b | inr b ↦ taken_other k b ∙ e ]
 
   -- the names that were taken are those of the entry
   names_are : (ns : List (List ℕ)) → entry ss t.name ≡ Some ns → ns ≡ names
@@ -94,7 +95,7 @@ module _ (ss : List Standing) (wanted names rest : List (List ℕ)) (left after 
 
   closed_by : (d : Declared) → IsDeclaredIn ss d → (d.is_deriving ≡ true) ⊎ (after d.name ≡ None) → (k : List ℕ) → is_in k d.names ≡ true → (is_in k (rest ++ names) ≡ true) ⊎ (after k ≡ None)
   closed_by d in_it (inl e) k i = still_closed k (h.closed d in_it (inl e) k i)
-  closed_by d in_it (inr e) k i = elim (bool_cases (bytes_eq t.name d.name)) [
+  closed_by d in_it (inr e) k i = elim (cases_Bool (bytes_eq t.name d.name)) [
     | inl b ↦
         let has = has_entry ss d in_it in
         let same = names_are has.0 (ap (entry ss) (bytes_same t.name d.name b) ∙ has.1) in
@@ -103,7 +104,7 @@ module _ (ss : List Standing) (wanted names rest : List (List ℕ)) (left after 
   ]
 
   gone_by : (k : List ℕ) (ns : List (List ℕ)) → entry ss k ≡ Some ns → (after k ≡ Some ns) ⊎ ((after k ≡ None) × IsWanted ss k)
-  gone_by k ns e = elim (bool_cases (bytes_eq t.name k)) [
+  gone_by k ns e = elim (cases_Bool (bytes_eq t.name k)) [
     | inl b ↦ inr (taken_same k b, subst (IsWanted ss) (bytes_same t.name k b) name_wanted)
     | inr b ↦ elim (h.gone k ns e) [ inl is ↦ inl (taken_other k b ∙ is) | inr is ↦ inr (taken_other k b ∙ is.0, is.1) ]
   ]
@@ -140,7 +141,7 @@ module _ (w rest : List (List ℕ)) (name : List ℕ) (i : ℕ) (by after : Name
   taken_at = taken name ∙ ap (λ b. cond b None (by name)) (bytes_itself name)
 
   stays_none : (k : List ℕ) → by k ≡ None → after k ≡ None
-  stays_none k e = elim (bool_cases (bytes_eq name k)) [
+  stays_none k e = elim (cases_Bool (bytes_eq name k)) [
     | inl b ↦ taken k ∙ ap (λ v. cond v None (by k)) b
     | inr b ↦ taken k ∙ ap (λ v. cond v None (by k)) b ∙ e
   ]
@@ -171,7 +172,7 @@ module _ (w rest : List (List ℕ)) (name : List ℕ) (i : ℕ) (by after : Name
 
     module _ (none : by name ≡ None) where
       pub none_taken : AreSame after before
-      none_taken k = elim (bool_cases (bytes_eq name k)) [
+      none_taken k = elim (cases_Bool (bytes_eq name k)) [
         | inl b ↦ taken k ∙ ap (λ v. cond v None (by k)) b ∙ sym (ap by (sym (bytes_same name k b)) ∙ none) ∙ same k
         | inr b ↦ taken k ∙ ap (λ v. cond v None (by k)) b ∙ same k
       ]
@@ -198,7 +199,7 @@ pub names_added : (d : Declared) (old left new : NamesByName) (names value : Lis
     → ((k : List ℕ) → left k ≡ update bytes_eq old d.name None k) → ((k : List ℕ) → new k ≡ update bytes_eq left d.name (Some value) k) → (k : List ℕ) → new k ≡ with_names d old k
 names_added d old left new names value n v taken put k =
     let is : value ≡ unwrap_or (old d.name) [] ++ d.names = v ∙ ap (λ ns. ns ++ d.names) n in
-    elim (bool_cases (bytes_eq d.name k)) [
+    elim (cases_Bool (bytes_eq d.name k)) [
       | inl b ↦ put k ∙ ap (λ t. cond t (Some value) (left k)) b ∙ ap (λ ns. Some ns) is ∙ sym (ap (λ t. cond t (Some (unwrap_or (old d.name) [] ++ d.names)) (old k)) b)
       | inr b ↦ put k ∙ ap (λ t. cond t (Some value) (left k)) b ∙ taken k ∙ ap (λ t. cond t None (old k)) b ∙ sym (ap (λ t. cond t (Some (unwrap_or (old d.name) [] ++ d.names)) (old k)) b)
     ]

@@ -30,7 +30,7 @@ mod form;
 mod item;
 mod items;
 mod kind;
-mod laws;
+mod law;
 mod marks;
 mod names;
 mod position;
@@ -41,6 +41,6 @@ mod trees;
 mod wanted;
 
 pub use choice::Choice;
-pub use laws::one_preparation;
+pub use law::one_preparation;
 pub use position::{Position, place};
 pub use prepare::declarations;

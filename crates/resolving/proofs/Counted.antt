@@ -7,16 +7,18 @@ use Rattle.written_types.specs.declared.written.GenericArgument.{GenericArgument
 use Rattle.written_types.specs.declared.written.GenericArgument.TheVariants as arguments
 use Rattle.written_types.specs.declared.written.PathSegment.{PathSegment, the_lemmas as segment_lemmas}
 use Rattle.written_types.specs.declared.written.Ident.{Ident}
-use Rattle.written_types.specs.declared.written.Path.{Path, out-Path, the_lemmas as path_lemmas}
+use Rattle.written_types.specs.declared.written.Path.{Path, out-Path}
 use Rattle.tokens.specs.declared.token.TokenTree.{TokenTree}
 use Rattle.tokens.specs.Trees.{trees_view}
 use Rattle.texts.specs.declared.list.List.{List as Tokens}
-use Rattle.written_types.specs.Written.{segment_of, Segment, Segments, Argument, more_types, more_arguments, path_of, path_view, no_segments, more_segments, lifetime_argument, constant_argument, type_argument, written_view, segment_view, segments_view, argument_view, arguments_view, writtens_view}
+use Rattle.written_types.specs.Written.{segment_of, Segment, Segments, Argument, more_types, more_arguments, path_view, no_segments, more_segments, lifetime_argument, constant_argument, type_argument, written_view, segment_view, segments_view, argument_view, arguments_view, writtens_view}
+use Rattle.written_types.proofs.Laws.{path_view_is}
 use Rattle.open_types.specs.declared.open_type.OpenType.{OpenType, the_lemmas}
 use Rattle.open_types.specs.declared.open_type.OpenType.TheVariants as variants
 use Rattle.open_types.specs.Open.{Open, Opens, tuple, open_view, opens_view}
 use Rattle.open_types.specs.Open as types
 use Rattle.open_types.specs.declared.head.Head.{Head}
+use Rattle.open_types.proofs.Laws.{append, push_views, append_none}
 use Rattle.resolving.specs.Known.{Known}
 use Rattle.resolving.specs.Names.{ident_of, nameless, where_none, meaning, path_size, names_in_path, names_in, names_in_arguments, names_in_argument, names_in_types, names_in_last, names_in_segment, last_size, segment_size, is_constant_type}
 use Rattle.resolving.specs.Resolved.{contained, alone, meant, tuple_of, type_of, path_type, segment_type, last_type, argument_types, argument_type, all_types}
@@ -75,25 +77,13 @@ view-ident s = ap ident_of (view-segment s) ∙ ident-of s.ident (option_map (ma
 
 -- ---- types one after another
 
-abbrev append : Opens → Opens → Opens
-append types.no_types us = us
-append (types.more_types t ts) us = types.more_types t (append ts us)
-
 -- these types, and then those
 abbrev pub after : Opens → Option Opens → Option Opens
 after ts rest = option_map (append ts) rest
 
-push_views : (ts : List OpenType) (t : OpenType) (us : Opens) → append (opens_view ts) (types.more_types (open_view t) us) ≡ append (opens_view (ts ++ t ∷ [])) us
-push_views [] t us = refl
-push_views (u ∷ ts) t us = ap (types.more_types (open_view u)) (push_views ts t us)
-
-append_none : (us : Opens) → append us types.no_types ≡ us
-append_none types.no_types = refl
-append_none (types.more_types t ts) = ap (types.more_types t) (append_none ts)
-
 after-one : (made : List OpenType) (u : OpenType) (rest : Option Opens) → after (opens_view made) (option_map (types.more_types (open_view u)) rest) ≡ after (opens_view (made ++ u ∷ [])) rest
 after-one made u None = refl
-after-one made u (Some us) = ap Some (push_views made u us)
+after-one made u (Some us) = ap Some (sym (push_views made u us))
 
 drop-end : (made : List OpenType) → after (opens_view made) (Some types.no_types) ≡ Some (opens_view made)
 drop-end made = ap Some (append_none (opens_view made))
@@ -178,9 +168,6 @@ in_arguments p P ys i a t l is f other q = by ys i l (subst (λ x. Somewhere P (
 
 -- ---- the last segment of a path
 
-view-path : (q : Path) → path_view q ≡ path_of (out-Path q).leading (segments_view (out-Path q).segments) (out-Path q).span
-view-path q = search (rules, path_lemmas)
-
 last_of : {A : Type 0} (f : Segments → A) (g : Segment → A) → ((s : Segment) (rest : Segments) → f (more_segments s rest) ≡ where_none rest (g s) (f rest)) → (ss : List PathSegment) (d : PathSegment) (n : ℕ) → length ss ≡ suc n
     → f (segments_view ss) ≡ g (segment_view (slice_index_or ss n d))
 last_of f g step [] d n l = absurd (omega arith)
@@ -198,21 +185,21 @@ module _ (q : Path) (ss : List PathSegment) (s : PathSegment) (e : ss ≡ (out-P
   at_last f g step = subst (λ xs. f (segments_view xs) ≡ g (segment_view s)) e (last_of f g step ss s (length ss - 1) (omega arith) ∙ ap (λ x. g (segment_view x)) (sym is))
 
   pub path_size-at : (p : Known) → path_size p (path_view q) ≡ suc (segment_size p (segment_view s))
-  path_size-at p = ap (path_size p) (view-path q) ∙ ap suc (at_last (last_size p) (segment_size p) (λ x rest. refl))
+  path_size-at p = ap (path_size p) (path_view_is q) ∙ ap suc (at_last (last_size p) (segment_size p) (λ x rest. refl))
 
   pub path_bad-at : path_holds_bad (path_view q) ≡ segment_holds_bad (segment_view s)
-  path_bad-at = ap path_holds_bad (view-path q) ∙ at_last last_holds_bad segment_holds_bad (λ x rest. refl)
+  path_bad-at = ap path_holds_bad (path_view_is q) ∙ at_last last_holds_bad segment_holds_bad (λ x rest. refl)
 
   pub path_type-at : (p : Known) → path_type p (path_view q) ≡ segment_type p (segment_view s)
   path_type-at p =
-      ap (path_type p) (view-path q)
+      ap (path_type p) (path_view_is q)
       ∙ subst (λ xs. where_none (segments_view xs) (meant p (meaning p (nameless (out-Path q).span)) types.no_types) (last_type p (segments_view xs)) ≡ last_type p (segments_view xs)) e
       (not_none ss (meant p (meaning p (nameless (out-Path q).span)) types.no_types) (last_type p (segments_view ss)) l)
       ∙ at_last (last_type p) (segment_type p) (λ x rest. refl)
 
   pub path_names-at : (p : Known) → names_in_path p (path_view q) ≡ segment_view s ∷ names_in_segment p (segment_view s)
   path_names-at p =
-      ap (names_in_path p) (view-path q)
+      ap (names_in_path p) (path_view_is q)
       ∙ subst (λ xs. where_none (segments_view xs) (nameless (out-Path q).span ∷ []) (names_in_last p (segments_view xs)) ≡ names_in_last p (segments_view xs)) e
       (not_none ss (nameless (out-Path q).span ∷ []) (names_in_last p (segments_view ss)) l)
       ∙ at_last (names_in_last p) (λ x. x ∷ names_in_segment p x) (λ x rest. refl)

@@ -4,6 +4,7 @@ use Rattle.std.proofs.lemmas.Option.{none-some, same_Some}
 use Rattle.leaves.specs.declared.leaf.Leaf.{Leaf}
 use Rattle.leaves.specs.Leaves.{leaf_of}
 use Rattle.texts.specs.declared.span.Span.{Span}
+use Rattle.texts.proofs.Laws.{mapped, and_then}
 use Rattle.written_types.specs.Written.{Written, Writtens, WrittenPath, Segments, Segment, Arguments, path, reference, tuple, slice, array, trait_object, no_types, more_types, path_of, no_segments, more_segments, plain, applied, no_arguments, more_arguments, lifetime_argument, constant_argument, type_argument}
 use Rattle.open_types.specs.declared.open_type.ListHead.TheVariants as lists
 use Rattle.open_types.specs.Open.{Open, Opens}
@@ -17,8 +18,7 @@ use Rattle.resolving.specs.declared.meaning.Meaning.TheVariants as meanings
 use Rattle.resolving.specs.Names.{nameless, where_none, declared_or_unknown, parameter_or, other_meaning, leaf_or, container_or, name_meaning, meaning, is_constant_type}
 use Rattle.resolving.specs.Resolved.{small_list, of_one, of_two, contained, alone, meant, tuple_of, type_of, path_type, last_type, segment_type, argument_types, all_types}
 use Rattle.open_types.specs.Within.{IsOver, AreOver}
-use Rattle.resolving.proofs.Stands.{mapped}
-use Rattle.resolving.proofs.Right.{and_some, not_bad}
+use Rattle.resolving.proofs.Right.{not_bad}
 use Rattle.resolving.proofs.Taken.{taken, declared-cases}
 use Rattle.resolving.specs.Bad.{are_bad}
 
@@ -173,7 +173,7 @@ module _ (p : Known) (n : ℕ) (own : ℕ) where
       segment_over (plain x) u e = meant-over (meaning p (plain x)) types.no_types u (meaning-below (plain x)) tt e
       segment_over (applied x args) u e =
           let good = not_bad (are_bad p (applied x args)) (option_and_then (meant p (meaning p (applied x args))) (argument_types p args)) u e in
-          let found = and_some (meant p (meaning p (applied x args))) (argument_types p args) u good.1 in
+          let found = and_then (meant p (meaning p (applied x args))) (argument_types p args) u good.1 in
           meant-over (meaning p (applied x args)) found.0 u (meaning-below (applied x args)) (arguments_over args found.0 found.1) found.2
 
       arguments_over : (args : Arguments) (ts : Opens) → argument_types p args ≡ Some ts → AreTypesOver ts

@@ -13,12 +13,13 @@ use Rattle.open_types.specs.Open as types
 use Rattle.open_types.specs.Heads.{head_name, containers, container_among}
 use Rattle.open_types.specs.declared.head.Head.{Head}
 use Rattle.open_types.specs.declared.head.Head.TheVariants as heads
+use Rattle.texts.proofs.Laws.{mapped, and_then}
 use Rattle.resolving.specs.Known.{Known}
 use Rattle.resolving.specs.declared.meaning.Meaning.{Meaning}
 use Rattle.resolving.specs.declared.meaning.Meaning.TheVariants as meanings
 use Rattle.resolving.specs.Names.{nameless, where_none, is_array, declared_or_unknown, parameter_or, other_meaning, leaf_or, container_or, name_meaning, meaning}
 use Rattle.resolving.specs.Resolved.{small_list, list_of, of_one, of_two, contained, alone, meant, tuple_of, type_of, path_type, last_type, segment_type, argument_types, all_types, is_wrong_item, is_wrong_one, is_no_map, are_wrong_in, are_any, are_wrong}
-use Rattle.resolving.proofs.Stands.{Stand, mapped, stand-length}
+use Rattle.resolving.proofs.Stands.{Stand, stand-length}
 use Rattle.resolving.proofs.Taken.{taken, declared-cases}
 use Rattle.resolving.specs.Bad.{are_bad}
 
@@ -124,11 +125,6 @@ meant-not p (meanings.Parameter i) ts u g e = alone-not (types.param i) ts u ref
 meant-not p (meanings.Declared d) ts u g e = subst (λ t. is_array_type t ≡ false) (taken p d ts u e).1 (declared-cases (λ t. is_array_type t ≡ false) d ts refl refl)
 meant-not p meanings.Unknown ts u g e = absurd (none-some u e)
 
--- the arguments with which a segment has its meaning
-pub and_some : {A B : Type 0} (f : A → Option B) (o : Option A) (y : B) → option_and_then f o ≡ Some y → (x : A) × (o ≡ Some x) × (f x ≡ Some y)
-and_some f None y e = absurd (none-some y e)
-and_some f (Some x) y e = (x, refl, e)
-
 -- a segment whose arguments are not bad stands for what its name means with them
 pub not_bad : (b : Bool) (o : Option Open) (u : Open) → cond b None o ≡ Some u → (b ≡ false) × (o ≡ Some u)
 not_bad true o u e = absurd (none-some u e)
@@ -138,7 +134,7 @@ segment-not : (p : Known) (s : Segment) (u : Open) → segment_type p s ≡ Some
 segment-not p (plain x) u e = meant-not p (meaning p (plain x)) types.no_types u (meaning-named p (plain x)) e
 segment-not p (applied x args) u e =
     let good = not_bad (are_bad p (applied x args)) (option_and_then (meant p (meaning p (applied x args))) (argument_types p args)) u e in
-    let found = and_some (meant p (meaning p (applied x args))) (argument_types p args) u good.1 in
+    let found = and_then (meant p (meaning p (applied x args))) (argument_types p args) u good.1 in
     meant-not p (meaning p (applied x args)) found.0 u (meaning-named p (applied x args)) found.2
 
 last-cases : (p : Known) (s : Segment) (rest : Segments) (u : Open) → where_none rest (segment_type p s) (last_type p rest) ≡ Some u → (last_type p rest ≡ Some u → is_array_type u ≡ false) → is_array_type u ≡ false

@@ -8,6 +8,7 @@ use Rattle.open_types.specs.Open.{Open, Opens}
 use Rattle.open_types.specs.Open as types
 use Rattle.open_types.specs.declared.head.Head.{Head}
 use Rattle.open_types.specs.declared.head.Head.TheVariants as heads
+use Rattle.texts.proofs.Laws.{mapped}
 use Rattle.resolving.specs.Known.{Known}
 use Rattle.resolving.specs.declared.meaning.Meaning.{Meaning}
 use Rattle.resolving.specs.declared.meaning.Meaning.TheVariants as meanings
@@ -46,10 +47,6 @@ stand-segment p (plain x) ts e = subst (Stand p []) (same_Some types.no_types ts
 stand-segment p (applied x args) ts e = stand-arguments p args ts e
 
 -- ---- what has no meaning with its arguments has wrong ones
-
-pub mapped : {A B : Type 0} (f : A → B) (o : Option A) (y : B) → option_map f o ≡ Some y → (x : A) × (o ≡ Some x) × (f x ≡ y)
-mapped f None y e = absurd (none-some y e)
-mapped f (Some x) y e = (x, refl, same_Some (f x) y e)
 
 small-some : (t u : Open) → types.items lists.Array u ≡ t → small_list t ≡ None → ⊥
 small-some t u e n = none-some (types.items lists.SmallVec u) (sym n ∙ sym (ap small_list e))

@@ -15,10 +15,11 @@ use Rattle.resolving.specs.declared.meaning.Meaning.TheVariants as meanings
 use Rattle.resolving.specs.Names.{types_of, ident_of, arguments_of, nameless, where_none, names_in, names_in_path, names_in_last, names_in_segment, names_in_arguments, names_in_types, size, meaning, is_constant_type}
 use Rattle.resolving.specs.Resolved.{meant, tuple_of, type_of, path_type, last_type, segment_type, argument_types, all_types, Fault, unknown_type, wrong_arity, too_large, most_names, are_wrong, IsFault, IsRefusedFor, bad_argument}
 use Rattle.texts.specs.Lists.{Somewhere}
+use Rattle.texts.proofs.Laws.{mapped, and_then}
 use Rattle.resolving.specs.Reading.{segment_arguments, IsAtFault, AreAtFault}
 use Rattle.resolving.proofs.Counted.{somewhere-parts}
-use Rattle.resolving.proofs.Stands.{mapped, stand-segment}
-use Rattle.resolving.proofs.Right.{and_some, right, not_bad}
+use Rattle.resolving.proofs.Stands.{stand-segment}
+use Rattle.resolving.proofs.Right.{right, not_bad}
 use Rattle.resolving.specs.Bad.{are_bad}
 
 module _ (p : Known) where
@@ -31,7 +32,7 @@ module _ (p : Known) where
   with_arguments (plain x) u e = (types.no_types, refl, e, refl)
   with_arguments (applied x args) u e =
       let good = not_bad (are_bad p (applied x args)) (option_and_then (meant p (meaning p (applied x args))) (argument_types p args)) u e in
-      let found = and_some (meant p (meaning p (applied x args))) (argument_types p args) u good.1 in
+      let found = and_then (meant p (meaning p (applied x args))) (argument_types p args) u good.1 in
       (found.0, found.1, found.2, good.0)
 
   own : (s : Segment) (u : Open) → segment_type p s ≡ Some u → Bad s → ⊥

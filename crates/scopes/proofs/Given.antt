@@ -1,12 +1,12 @@
 -- Generic parameters of a kind, and the names that are known in a scope.
 use Rattle.std.proofs.Common.{◌≡◌, ◌∙◌, ◌<◌, ◌+◌, ℕ, zero, suc, List, [], ◌∷◌, ◌++◌, Bool, true, false, cond, ◌||◌, bytes_eq, Option, Some, None, option_map, length, take, get_or, map, refl, ap, sym, subst, arith, slice_index}
 use Rattle.std.proofs.Math.Path.{fun_ext}
-use Rattle.std.proofs.lemmas.Option.{none-some, same_Some}
 use Rattle.std.proofs.lemmas.List.{take_more, map_push}
 use Rattle.std.proofs.lemmas.List.Elements.{filter_map-append}
 use Rattle.std.specs.List.{cons_option}
 use Rattle.std.specs.Option.{is_some}
 use Rattle.texts.specs.Names.{is_in, place_in}
+use Rattle.texts.proofs.Laws.{place-found}
 use Rattle.written_types.specs.declared.written.Ident.{Ident}
 use Rattle.syntax.specs.declared.item.GenericParam.{GenericParam}
 use Rattle.syntax.specs.declared.item.Declaration.{Declaration}
@@ -17,6 +17,7 @@ use Rattle.scopes.specs.declared.parameters.ParameterKind.{ParameterKind}
 use Rattle.scopes.specs.declared.parameters.ParameterKind.TheVariants.{Constants}
 use Rattle.scopes.specs.Parameters.{ident_of_kind, parameters_of, type_parameters, parameter_counts, generics_at}
 use Rattle.scopes.specs.Scopes.{known_among}
+use Rattle.scopes.proofs.PlaceLaws.{length-texts}
 
 -- those so far, and one more where it is of the kind
 pub parameters_more : (kind : ParameterKind) (items : List GenericParam) (i : ℕ) (item : GenericParam) → i < length items → item ≡ get_or items i item →
@@ -35,13 +36,7 @@ generics_are (x ∷ items) (suc i) item l is = generics_are items i item (omega 
 
 -- a place is one of a name
 pub place_below : (k : List ℕ) (xs : List Ident) (i : ℕ) → place_in k (texts xs) ≡ Some i → i < length xs
-place_below k [] i e = absurd (none-some i e)
-place_below k (x ∷ xs) i e = by (bytes_eq k x.text) (place_in k (texts xs)) e (place_below k xs)
-  where
-    by : (b : Bool) (o : Option ℕ) → cond b (Some 0) (option_map suc o) ≡ Some i → ((r : ℕ) → o ≡ Some r → r < length xs) → i < suc (length xs)
-    by true o h all = subst (λ q. q < suc (length xs)) (same_Some 0 i h) (omega arith)
-    by false None h all = absurd (none-some i h)
-    by false (Some r) h all = subst (λ q. q < suc (length xs)) (same_Some (suc r) i h) (omega (arith, all r refl))
+place_below k xs i e = subst (λ m. i < m) (length-texts xs) (place-found k (texts xs) i e).0
 
 there : (k : List ℕ) (ns : List (List ℕ)) → is_some (place_in k ns) ≡ is_in k ns
 there k [] = refl

@@ -2,3 +2,4 @@ pub mod Declared
 pub mod PlaceLaws
 pub mod Given
 pub mod TextLaws
+pub mod Laws

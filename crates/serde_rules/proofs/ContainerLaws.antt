@@ -15,6 +15,7 @@ use Rattle.diag.specs.declared.kind.Kind.TheVariants.{BadValue, SerdeTag}
 use Rattle.diag.specs.declared.error.DeriveError.{DeriveError}
 use Rattle.diag.specs.declared.error.DeriveError.TheVariants.{Refused, Memory}
 use Rattle.texts.specs.declared.span.Span.{Span}
+use Rattle.texts.proofs.Laws.{same_place}
 use Rattle.attributes.specs.Attributes.{attribute_view, serde_items}
 use Rattle.attributes.specs.declared.attribute.Attribute.{Attribute}
 use Rattle.attributes.specs.declared.serde_item.SerdeItem.{SerdeItem}
@@ -231,20 +232,6 @@ decided items = decided_behind [] items (record { rename_all = None; enum_repr =
     (record { rename_all = refl; known = refl; enum_repr = refl; default = refl; deny_unknown_fields = refl })
 
 -- ---- the first item at fault is one
-
--- of two places in a list of which neither stands before the other
-same_place : {A : Type 0} (x y : A) (xs behind ys after : List A) → xs ++ x ∷ behind ≡ ys ++ y ∷ after
-    → ((between : List A) → ¬ (ys ≡ xs ++ x ∷ between)) → ((between : List A) → ¬ (xs ≡ ys ++ y ∷ between)) → (xs ≡ ys) × (x ≡ y)
-same_place x y [] behind [] after e one other = (refl, cc)
-same_place x y [] behind (z ∷ ys) after e one other = absurd (one ys (let same : z ≡ x = cc in ap (λ w. w ∷ ys) same))
-same_place x y (z ∷ xs) behind [] after e one other = absurd (other xs (let same : z ≡ y = cc in ap (λ w. w ∷ xs) same))
-same_place {A = A} x y (z ∷ xs) behind (w ∷ ys) after e one other =
-    let front : z ≡ w = cc in
-    let behind_it : xs ++ x ∷ behind ≡ ys ++ y ∷ after = cc in
-    let one_on : (between : List A) → ¬ (ys ≡ xs ++ x ∷ between) = λ between is. one between (ap (λ v. v ∷ ys) (sym front) ∙ ap (λ vs. z ∷ vs) is) in
-    let other_on : (between : List A) → ¬ (xs ≡ ys ++ y ∷ between) = λ between is. other between (ap (λ v. v ∷ xs) front ∙ ap (λ vs. w ∷ vs) is) in
-    let rest : (xs ≡ ys) × (x ≡ y) = same_place x y xs behind ys after behind_it one_on other_on in
-    (ap (λ v. v ∷ xs) front ∙ ap (λ vs. w ∷ vs) rest.0, rest.1)
 
 same_refusal : (kind : Kind) (span : Span) (message : List ℕ) (e other : DeriveError) → IsRefusal kind span message e → IsRefusal kind span message other → e ≡ other
 same_refusal kind span message (Refused d) (Refused other) one two = ap Refused (one ∙ sym two)

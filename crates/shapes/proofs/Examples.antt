@@ -19,20 +19,20 @@ a_struct name parameters ms = record { name = name; parameters = parameters; ann
 abbrev pub one : Open → Opens
 one t = more_types t no_types
 
-abbrev at_i32 : Open
+abbrev pub at_i32 : Open
 at_i32 = named 0 (one (leaf I32))
 
-abbrev at_option : Open
+abbrev pub at_option : Open
 at_option = named 0 (one (option (leaf I32)))
 
-abbrev empty : Json
+abbrev pub empty : Json
 empty = map no_members
 
-abbrev with_v : Json → Json
+abbrev pub with_v : Json → Json
 with_v x = map (member (codes "v") x no_members)
 
 -- struct N<T> { v: Option<T> }: the member may be missing, or null
-abbrev n_source : List DeclarationOf
+abbrev pub n_source : List DeclarationOf
 n_source = a_struct (codes "N") 1 (a_member (codes "v") false (option (param 0)) ∷ []) ∷ []
 
 n_is : (instance_name n_source at_option ≡ codes "N_Option_i32") × (parameters_in n_source 0 ≡ 1) × (places_at n_source at_i32 ≡ option (leaf I32) ∷ [])
@@ -42,7 +42,7 @@ n_shape : (shape n_source 1 at_i32 empty ≡ true) × (shape n_source 1 at_i32 (
 n_shape = (refl, refl, refl)
 
 -- struct S<T> { v: T }: at Option<i32> the member may be null, and must be there
-abbrev s_source : List DeclarationOf
+abbrev pub s_source : List DeclarationOf
 s_source = a_struct (codes "S") 1 (a_member (codes "v") true (param 0) ∷ []) ∷ []
 
 s_shape : (shape s_source 1 at_option (with_v null) ≡ true) × (shape s_source 1 at_option empty ≡ false)
@@ -56,7 +56,7 @@ m_places : places_at m_source (named 0 (more_types (leaf BoolLeaf) (one (leaf I3
 m_places = refl
 
 -- #[serde(tag = "t")] enum E<T> { A(T), C }  struct U { x: bool }: at U the content stands beside the tag
-abbrev tagged : List DeclarationOf
+abbrev pub tagged : List DeclarationOf
 tagged =
     record {
       name = codes "E";
@@ -66,13 +66,13 @@ tagged =
     }
     ∷ a_struct (codes "U") 0 (a_member (codes "x") true (leaf BoolLeaf) ∷ []) ∷ []
 
-abbrev told : List ℕ → Json
+abbrev pub told : List ℕ → Json
 told name = map (member (codes "t") (text name) (member (codes "x") (boolean true) no_members))
 
-abbrev tag_only : List ℕ → Json
+abbrev pub tag_only : List ℕ → Json
 tag_only name = map (member (codes "t") (text name) no_members)
 
-abbrev e_u : Open
+abbrev pub e_u : Open
 e_u = named 0 (one (named 1 no_types))
 
 e_shape : (shape tagged 2 e_u (told (codes "A")) ≡ true) × (shape tagged 2 e_u (tag_only (codes "A")) ≡ false) × (shape tagged 2 e_u (tag_only (codes "C")) ≡ true)

@@ -17,13 +17,12 @@ use Rattle.syntax.specs.ItemDepth.{within_levels, OpensSource}
 use Rattle.syntax.specs.ItemGrammar.{IsSource}
 use Rattle.syntax.specs.ItemReading.{source_at, IsRefusalOf, IsPlaced}
 use Rattle.syntax.specs.Source.{Reads, NestsTooDeep, IsUnreadable, IsTooDeep}
-use Rattle.type_grammar.proofs.Complete.{bounds_complete}
+use Rattle.type_grammar.proofs.Laws.{bounds_complete, read_passes}
 use Rattle.syntax.specs.GenericReading.{Readers}
 use Rattle.syntax.proofs.Types.{type_sound, type_complete, deep_enough, bounds_sound, bounds_deep_enough}
 use Rattle.syntax.proofs.SoundGenerics.{AreSound}
 use Rattle.syntax.proofs.CompleteGenerics.{AreComplete}
 use Rattle.syntax.proofs.Sound.{source_sound}
-use Rattle.type_grammar.proofs.Deep.{read_passes}
 use Rattle.syntax.proofs.DeepGenerics.{anywhere, sound, found as reads_found}
 use Rattle.syntax.proofs.Deep.{source_agrees}
 use Rattle.syntax.proofs.Complete as complete

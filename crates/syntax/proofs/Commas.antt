@@ -6,7 +6,7 @@ use Rattle.tokens.specs.Trees.{tree_view}
 use Rattle.words.specs.declared.vocabulary.Sign.TheVariants.{Comma}
 use Rattle.words.specs.Words.{Word, words_view, word_of}
 use Rattle.words.specs.Reading.{as_sign}
-use Rattle.words.proofs.Turns.{length_view}
+use Rattle.words.proofs.Laws.{length_view}
 use Rattle.syntax.specs.ItemWords.{before_comma, from_comma}
 
 parts_from : (b : Bool) (w : Word) (ws before from : List Word) → before ++ from ≡ ws → cond b [] (w ∷ before) ++ cond b (w ∷ ws) from ≡ w ∷ ws

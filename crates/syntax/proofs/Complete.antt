@@ -1,5 +1,6 @@
 -- What is in the grammar is read, unless something nests too deep, where ty reads types, and readers types and bounds.
 use Rattle.std.proofs.Common.{◌≡◌, ◌∙◌, inl, inr, List, [], ◌∷◌, refl, ap, sym, subst, Bool, true, false, not, ◌&&◌, cond, is_some, Option, Some, None, Ok, Err}
+use Rattle.std.proofs.lemmas.Bool.{cases_Bool}
 use Rattle.texts.specs.declared.span.Span.{Span}
 use Rattle.tokens.specs.declared.token.Bracket.TheVariants.{Round, Square, Curly}
 use Rattle.tokens.specs.declared.token.Token.{Token}
@@ -21,21 +22,20 @@ use Rattle.attributes.specs.Attributes.{AttributeItem}
 use Rattle.attributes.specs.AttributeWords.{is_inner_text}
 use Rattle.attributes.specs.AttributeGrammar.{IsAttributes}
 use Rattle.attributes.specs.AttributeReading.{begins_attribute}
-use Rattle.attributes.proofs.Whole.{attributes_complete}
+use Rattle.attributes.proofs.Laws.{attributes_complete}
 use Rattle.syntax.specs.Items.{FieldItem, FieldItems, named, unnamed, unit, VariantItem, ParameterItem, struct_body, enum_body, HeadItem, DeclaredItem}
 use Rattle.syntax.specs.ItemWords.{before_comma, from_comma, is_restriction}
 use Rattle.syntax.specs.ItemGrammar.{IsVisibility, private, public, restricted, IsNamedField, named_field, IsUnnamedField, unnamed_field, IsFields, named_fields, unnamed_fields, no_fields, IsStructBody, in_braces, in_parentheses, fieldless, IsDiscriminant, no_discriminant, discriminant, IsVariant, variant_item, IsUse, use_line, IsStruct, struct_item, IsEnumBody, variants_in_braces, IsEnum, enum_item, IsDeclaration, structure, enumeration, IsItems, nothing, used, declared, IsSource, inner_doc, inner_attribute, items}
 use Rattle.syntax.specs.Generics.{IsWhere, no_where, where_clause}
 use Rattle.syntax.specs.GenericReading.{Readers, generics_at, after_where}
 use Rattle.syntax.specs.ItemReading.{is_scope, ends_item, after_visibility, field_of, named_field_at, unnamed_field_at, fields_at, without_fields, begins_group, tuple_body_at, other_body_at, struct_body_at, discriminant_at, variant_of, variant_at, head_of, declared_of, struct_at, enum_body_at, enum_at, declaration_at, left_by, use_or_declaration, item_at, kept, inner_at, items_at, source_at}
-use Rattle.syntax.proofs.Fronts.{bool_cases, NoAttribute, scope-is, visibility_no_attribute, pub_left, scope_left, scope_passed, visibility_complete, NoInner, attributes_no_inner, visibility_no_inner}
+use Rattle.syntax.proofs.Fronts.{NoAttribute, scope-is, visibility_no_attribute, pub_left, scope_left, scope_passed, visibility_complete, NoInner, attributes_no_inner, visibility_no_inner}
 use Rattle.syntax.proofs.Types.{Begins, type_begins, group_alone}
 use Rattle.type_grammar.specs.Reading.{ends_clause}
 use Rattle.syntax.proofs.SoundGenerics.{AreSound}
 use Rattle.syntax.proofs.CompleteGenerics.{AreComplete, generics_complete, where_complete}
 use Rattle.syntax.proofs.Inner.{inner_step, inner_stop}
-use Rattle.words.proofs.Many.{many_none}
-use Rattle.words.proofs.Complete.{Ends, at_end, at_comma, Finds, like_finds, then_finds, more_finds, list_complete}
+use Rattle.words.proofs.Laws.{many_none, Ends, at_end, at_comma, Finds, like_finds, then_finds, more_finds, list_complete}
 use Rattle.syntax.proofs.Sound.{named_shorter, unnamed_shorter, variant_shorter, use_shorter, declaration_shorter, named_shortens, unnamed_shortens, variant_shortens, item_shortens}
 
 -- ---- what a type begins with, and what ends an item of a list
@@ -93,7 +93,7 @@ ends_end at_comma = refl
 -- what begins with a type, and is passed over no further than to it: a group behind `pub` is the type where an item ends behind it
 pub type_visibility : {us vs : List Word} → IsVisibility us vs → Begins vs → ((g : Trees) (s : Span) (more : List Word) → vs ≡ group Round g s ∷ more → is_restriction (words_of g) ≡ true → ends_item more ≡ true) → after_visibility true us ≡ vs
 type_visibility (private {rest = rest}) b ends = subst (λ v. after_visibility true v ≡ v) (sym b.2) (pub_left true b.0 b.1 (begins_no_pub b.0 b.3))
-type_visibility (public {x = x} {rest = rest}) b ends = subst (λ v. after_visibility true (keyword Pub x ∷ v) ≡ v) (sym b.2) (scope_left x true b.0 b.1 (elim (bool_cases (is_scope b.0)) [
+type_visibility (public {x = x} {rest = rest}) b ends = subst (λ v. after_visibility true (keyword Pub x ∷ v) ≡ v) (sym b.2) (scope_left x true b.0 b.1 (elim (cases_Bool (is_scope b.0)) [
   | inl yes_scope ↦ let h = scope-is b.0 yes_scope in
       let end : ends_item b.1 ≡ true = ends h.0 h.1 b.1 (b.2 ∙ ap (λ v. v ∷ b.1) h.2) h.3 in
       ap (λ v. v && not (true && ends_item b.1)) yes_scope ∙ ap (λ v. not v) end

@@ -8,17 +8,15 @@ use Rattle.words.specs.declared.vocabulary.Keyword.TheVariants.{Const, Where}
 use Rattle.words.specs.declared.vocabulary.Sign.TheVariants.{Less, Greater, Comma, Colon, Semicolon}
 use Rattle.words.specs.Words.{Word, name, keyword, sign, lifetime, group}
 use Rattle.words.specs.Reading.{Fault, wrong, Read, ◌>>=◌, taken, keyword_at, sign_at, lifetime_at}
-use Rattle.words.proofs.Many.{Shortens}
-use Rattle.words.proofs.Complete.{Finds, like_finds, then_finds}
+use Rattle.words.proofs.Laws.{Shortens, Finds, like_finds, then_finds}
 use Rattle.type_grammar.specs.Starts.{Stops, begins_type}
 use Rattle.type_grammar.specs.Grammar.{IsType, IsBounds, IsListOf, no_items, last_item, more_items}
 use Rattle.type_grammar.specs.Reading.{after_sign, ends_list, ends_clause, list_after, list_until}
-use Rattle.type_grammar.proofs.Lists.{list_ends}
-use Rattle.type_grammar.proofs.Complete.{BoundsStop, closes, closes_stops, ends_closes, ends_no_comma, list_goes_on, begins_no_kind}
+use Rattle.type_grammar.proofs.Laws.{list_ends, BoundsStop, closes, closes_stops, ends_closes, ends_no_comma, list_goes_on, begins_no_kind}
 use Rattle.attributes.specs.Attributes.{AttributeItem}
 use Rattle.attributes.specs.AttributeWords.{as_outer_doc}
 use Rattle.attributes.specs.AttributeGrammar.{IsAttributes, no_attributes, more_attributes, IsAttribute, outer_doc, in_brackets}
-use Rattle.attributes.proofs.Whole.{attributes_complete}
+use Rattle.attributes.proofs.Laws.{attributes_complete}
 use Rattle.syntax.specs.Items.{ParameterItem, lifetime_parameter, type_parameter, const_parameter}
 use Rattle.syntax.specs.Generics.{AreLifetimes, the_last_lifetime, one_more_lifetime, MayBeOutlived, not_outlived, outlived_by_none, outlived, MayBeBounded, not_bounded, bounded, IsParameter, of_lifetime, of_type, of_const, IsGenerics, no_generics, in_angles, IsPredicate, on_lifetime, on_type, IsWhere, no_where, where_clause}
 use Rattle.syntax.specs.GenericReading.{Readers, after_lifetimes, lifetimes_or_none, outlived_or_not, after_outlived, bounded_or_not, after_bounded, bare_parameter_at, parameter_at, generics_or_none, generics_at, after_bounded_type, predicate_at, predicates_or_none, after_where}

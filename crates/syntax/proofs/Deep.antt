@@ -13,12 +13,12 @@ use Rattle.words.specs.Words.{Word, name, underscore, keyword, sign, lifetime, l
 use Rattle.words.specs.Reading.{Fault, deep, wrong, Read, ◌>>=◌, as_name, as_keyword, as_sign, as_group, name_at, keyword_at, sign_at, group_at}
 use Rattle.type_grammar.specs.Opening.{Passes, OpensList, in_first, behind}
 use Rattle.type_grammar.specs.Reading.{type_at}
-use Rattle.type_grammar.proofs.Deep.{Agrees, read_passes, passed_reads}
+use Rattle.type_grammar.proofs.Laws.{Agrees, read_passes, passed_reads}
 use Rattle.words.specs.Lists.{after_comma, turn_at, many_at, many_of, itself, list_of}
 use Rattle.attributes.specs.Attributes.{AttributeItem}
 use Rattle.attributes.specs.AttributeWords.{is_inner_doc}
 use Rattle.attributes.specs.AttributeGrammar.{IsAttributes}
-use Rattle.attributes.proofs.Whole.{attributes_sound, attributes_no_longer}
+use Rattle.attributes.proofs.Laws.{attributes_sound, attributes_no_longer}
 use Rattle.syntax.specs.Items.{FieldItem, FieldItems, named, unnamed, VariantItem, ParameterItem, struct_body, enum_body, HeadItem, DeclaredItem}
 use Rattle.syntax.specs.ItemWords.{after_semicolon, before_comma, from_comma, is_end}
 use Rattle.syntax.specs.ItemGrammar.{IsVisibility, IsNamedField, IsUnnamedField, IsFields, unnamed_fields, IsVariant, use_line}
@@ -26,18 +26,14 @@ use Rattle.syntax.specs.ItemDepth.{most_levels, within_levels, OpensNamed, in_na
 use Rattle.syntax.specs.Generics.{IsGenerics, IsWhere, no_where, where_clause}
 use Rattle.syntax.specs.GenericReading.{generics_at, after_where}
 use Rattle.syntax.specs.ItemReading.{after_visibility, field_of, named_field_at, unnamed_field_at, fields_in, fields_at, without_fields, begins_group, tuple_body_at, other_body_at, struct_body_at, value_or_none, discriminant_at, variant_of, variant_at, head_of, struct_at, enum_body_at, enum_at, struct_or_enum, declaration_at, left_by, use_or_declaration, item_at, kept, after_inner_attribute, inner_at, inner_from, after_inner_within, after_inner, items_at, source_at}
-use Rattle.words.proofs.Read.{bind_ok, bind_err, ok_is, first_shallow}
-use Rattle.words.proofs.Stands.{name-is, keyword-is, sign-is, group-is}
+use Rattle.words.proofs.Laws.{bind_ok, bind_err, ok_is, first_shallow, name-is, keyword-is, sign-is, group-is, Shortens, comma_read, turn_sound, turn_shortens, Ends, at_comma, turn_finds, turn_deep, more_deep, first_deep}
 use Rattle.syntax.proofs.Fronts.{visibility_sound, visibility_no_longer, NoInner, attributes_no_inner, visibility_no_inner}
 use Rattle.syntax.proofs.SoundGenerics.{generics_sound, where_sound}
 use Rattle.syntax.proofs.CompleteGenerics.{generics_complete, where_complete}
 use Rattle.syntax.proofs.DeepGenerics.{anywhere, reaches, sound, found, past, past_attributes, handed_on, generics_agree, where_agrees}
 use Rattle.syntax.proofs.Inner.{inner_step, inner_stop}
 use Rattle.syntax.proofs.Types.{type_sound, type_agrees, opens_begins, scope_shallow}
-use Rattle.words.proofs.Many.{Shortens}
-use Rattle.words.proofs.Sound.{comma_read, turn_sound, turn_shortens}
-use Rattle.words.proofs.Complete.{Ends, at_comma, turn_finds, turn_deep, more_deep, first_deep}
-use Rattle.words.proofs.Complete as lists
+use Rattle.words.proofs.Laws as lists
 use Rattle.syntax.proofs.Sound.{ItemRead, named_shorter, unnamed_shorter, variant_shorter, use_shorter, declaration_shorter, named_shortens, unnamed_shortens, variant_shortens, item_shortens}
 use Rattle.syntax.proofs.Sound as items
 use Rattle.syntax.proofs.Complete.{type_visibility, begins_type_alone, inner_doc_at, declaration_no_inner, variant_end, struct_end, enum_end, in_enum_braces, item_end, named_head, unnamed_head, variant_head, use_head, struct_head, enum_head}

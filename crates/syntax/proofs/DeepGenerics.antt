@@ -7,19 +7,16 @@ use Rattle.words.specs.declared.vocabulary.Keyword.TheVariants.{Const, Where}
 use Rattle.words.specs.declared.vocabulary.Sign.TheVariants.{Less, Greater, Colon, Plus, Comma}
 use Rattle.words.specs.Words.{Word, name, keyword, sign, lifetime}
 use Rattle.words.specs.Reading.{Fault, deep, Read, ◌>>=◌, first_as, as_name, as_sign, keyword_at, sign_at, lifetime_at}
-use Rattle.words.proofs.Read.{bind_ok, bind_err, ok_is, first_shallow}
-use Rattle.words.proofs.Complete.{Finds}
-use Rattle.words.proofs.Stands.{name-is, keyword-is, sign-is}
+use Rattle.words.proofs.Laws.{bind_ok, bind_err, ok_is, first_shallow, Finds, name-is, keyword-is, sign-is}
 use Rattle.type_grammar.specs.Grammar.{IsType}
 use Rattle.type_grammar.specs.Opening.{OpensList}
 use Rattle.type_grammar.specs.Reading.{type_at, type_in, after_bounds, ends_list, ends_clause, list_until}
-use Rattle.type_grammar.proofs.Firsts.{lifetime_at-is}
-use Rattle.type_grammar.proofs.Complete as types
-use Rattle.type_grammar.proofs.Deep.{Agrees, read_passes, passed_reads, list_agrees}
+use Rattle.type_grammar.proofs.Laws.{lifetime_at-is, Agrees, read_passes, passed_reads, list_agrees}
+use Rattle.type_grammar.proofs.Laws as types
 use Rattle.attributes.specs.Attributes.{AttributeItem}
 use Rattle.attributes.specs.AttributeGrammar.{IsAttributes}
 use Rattle.attributes.specs.AttributeReading.{attributes_at}
-use Rattle.attributes.proofs.Whole.{attributes_sound, attributes_shallow}
+use Rattle.attributes.proofs.Laws.{attributes_sound, attributes_shallow}
 use Rattle.syntax.specs.Items.{ParameterItem, type_parameter, const_parameter}
 use Rattle.syntax.specs.Generics.{IsParameter, IsPredicate}
 use Rattle.syntax.specs.GenericReading.{Readers, after_lifetimes, lifetimes_or_none, outlived_or_not, after_outlived, bounded_or_not, after_bounded, const_or_type, lifetime_or_other, bare_parameter_at, parameter_at, generics_or_none, generics_at, after_bounded_type, predicate_at, predicates_or_none, after_where}

@@ -17,11 +17,7 @@ use Rattle.attributes.specs.AttributeReading.{begin_attributes}
 use Rattle.syntax.specs.ItemWords.{is_restriction}
 use Rattle.syntax.specs.ItemGrammar.{IsVisibility, private, public, restricted}
 use Rattle.syntax.specs.ItemReading.{is_scope, ends_item, after_scope, after_pub, after_visibility, inner_at}
-use Rattle.words.proofs.Stands.{keyword-is}
-
-pub bool_cases : (b : Bool) → (b ≡ true) ⊎ (b ≡ false)
-bool_cases true = inl refl
-bool_cases false = inr refl
+use Rattle.words.proofs.Laws.{keyword-is}
 
 -- no attribute stands first
 abbrev pub NoAttribute : List Word → Type 0

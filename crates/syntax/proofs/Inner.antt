@@ -6,7 +6,7 @@ use Rattle.words.specs.Reading.{Fault, wrong, as_sign, as_group, sign_at, group_
 use Rattle.tokens.specs.declared.token.Bracket.TheVariants.{Square}
 use Rattle.attributes.specs.AttributeWords.{is_inner_doc}
 use Rattle.syntax.specs.ItemReading.{after_inner_attribute, inner_at, inner_from, after_inner_within, after_inner}
-use Rattle.words.proofs.Read.{bind_ok, first_shortens}
+use Rattle.words.proofs.Laws.{bind_ok, first_shortens}
 
 attribute_shortens : (ws us : List Word) → after_inner_attribute ws ≡ Ok us → length us < length ws
 attribute_shortens ws us e =

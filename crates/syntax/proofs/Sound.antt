@@ -17,21 +17,18 @@ use Rattle.attributes.specs.Attributes.{AttributeItem}
 use Rattle.attributes.specs.AttributeWords.{is_inner_doc}
 use Rattle.attributes.specs.AttributeGrammar.{IsAttributes}
 use Rattle.attributes.specs.AttributeReading.{attributes_at}
-use Rattle.attributes.proofs.Whole.{attributes_sound, attributes_no_longer}
+use Rattle.attributes.proofs.Laws.{attributes_sound, attributes_no_longer}
 use Rattle.syntax.specs.Items.{FieldItem, FieldItems, named, unnamed, unit, VariantItem, HeadItem, DeclaredItem}
 use Rattle.syntax.specs.ItemWords.{after_semicolon, before_comma, from_comma, is_end}
 use Rattle.syntax.specs.ItemGrammar.{IsVisibility, IsNamedField, named_field, IsUnnamedField, unnamed_field, IsFields, named_fields, unnamed_fields, no_fields, IsStructBody, in_braces, in_parentheses, fieldless, IsDiscriminant, no_discriminant, discriminant, IsVariant, variant_item, IsUse, use_line, IsEnumBody, variants_in_braces, struct_item, enum_item, IsDeclaration, structure, enumeration, IsItems, nothing, used, declared, IsSource, inner_doc, inner_attribute, items}
 use Rattle.syntax.specs.Generics.{IsWhere}
 use Rattle.syntax.specs.ItemReading.{after_visibility, field_of, named_field_at, unnamed_field_at, fields_in, fields_at, begins_group, without_fields, tuple_body_at, other_body_at, struct_body_at, value_or_none, discriminant_at, variant_of, variant_at, declared_of, struct_at, enum_body_at, enum_at, struct_or_enum, declaration_at, left_by, use_or_declaration, item_at, kept, after_inner_attribute, inner_at, inner_from, after_inner_within, after_inner, source_at}
-use Rattle.words.proofs.Read.{bind_ok, ok_is, along}
-use Rattle.words.proofs.Stands.{same_bracket-is, name-is, keyword-is, sign-is, group-is}
+use Rattle.words.proofs.Laws.{bind_ok, ok_is, along, same_bracket-is, name-is, keyword-is, sign-is, group-is, Shortens, list_sound}
 use Rattle.syntax.proofs.Fronts.{visibility_sound, visibility_no_longer}
 use Rattle.syntax.specs.GenericReading.{Readers, generics_at, after_where}
 use Rattle.syntax.proofs.Types.{type_shorter}
 use Rattle.syntax.proofs.SoundGenerics.{AreSound, generics_sound, where_sound, generics_no_longer, where_no_longer}
 use Rattle.syntax.proofs.Commas.{from_comma_no_longer}
-use Rattle.words.proofs.Many.{Shortens}
-use Rattle.words.proofs.Sound.{list_sound}
 
 -- ---- what an item is longer than
 pub named_shorter : {ws rest : List Word} {f : FieldItem} → IsNamedField ws f rest → length rest < length ws

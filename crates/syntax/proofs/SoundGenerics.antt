@@ -7,17 +7,14 @@ use Rattle.words.specs.declared.vocabulary.Keyword.TheVariants.{Const, Where}
 use Rattle.words.specs.declared.vocabulary.Sign.TheVariants.{Less, Greater, Colon, Plus}
 use Rattle.words.specs.Words.{Word, name, keyword, sign, lifetime}
 use Rattle.words.specs.Reading.{Read, name_at, keyword_at, sign_at, lifetime_at}
-use Rattle.words.proofs.Many.{Shortens}
-use Rattle.words.proofs.Read.{bind_ok, ok_is, along}
-use Rattle.words.proofs.Stands.{name-is, keyword-is, sign-is}
+use Rattle.words.proofs.Laws.{Shortens, bind_ok, ok_is, along, name-is, keyword-is, sign-is}
 use Rattle.type_grammar.specs.Grammar.{IsType, IsBounds, IsListOf, no_items, last_item, more_items}
 use Rattle.type_grammar.specs.Reading.{ends_list, ends_clause, list_until}
-use Rattle.type_grammar.proofs.Firsts.{lifetime_at-is}
-use Rattle.type_grammar.proofs.Sound.{until_sound}
+use Rattle.type_grammar.proofs.Laws.{lifetime_at-is, until_sound}
 use Rattle.attributes.specs.Attributes.{AttributeItem}
 use Rattle.attributes.specs.AttributeGrammar.{IsAttributes}
 use Rattle.attributes.specs.AttributeReading.{attributes_at}
-use Rattle.attributes.proofs.Whole.{attributes_sound, attributes_no_longer}
+use Rattle.attributes.proofs.Laws.{attributes_sound, attributes_no_longer}
 use Rattle.syntax.specs.Items.{ParameterItem, lifetime_parameter, type_parameter, const_parameter}
 use Rattle.syntax.specs.Generics.{AreLifetimes, the_last_lifetime, one_more_lifetime, MayBeOutlived, not_outlived, outlived_by_none, outlived, MayBeBounded, not_bounded, bounded, IsParameter, of_lifetime, of_type, of_const, IsGenerics, no_generics, in_angles, IsPredicate, on_lifetime, on_type, IsWhere, no_where, where_clause}
 use Rattle.syntax.specs.GenericReading.{Readers, after_lifetimes, lifetimes_or_none, outlived_or_not, after_outlived, bounded_or_not, after_bounded, type_at, const_at, const_or_type, lifetime_or_other, bare_parameter_at, parameter_at, generics_or_none, generics_at, after_bounded_type, predicate_at, predicates_or_none, after_where}

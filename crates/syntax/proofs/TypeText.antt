@@ -12,7 +12,7 @@ use Rattle.words.specs.Words.{words_of}
 use Rattle.words.specs.Reading.{IsWrong}
 use Rattle.type_grammar.specs.Grammar.{IsType}
 use Rattle.type_grammar.specs.Opening.{OpensType}
-use Rattle.type_grammar.proofs.Unique.{type_one}
+use Rattle.type_grammar.proofs.Laws.{type_one}
 use Rattle.syntax.specs.ItemDepth.{most_levels}
 use Rattle.syntax.specs.ItemReading.{IsRefusalOf}
 use Rattle.syntax.specs.Source.{ReadsType, TypeNestsTooDeep, IsNoType, IsDeepType}

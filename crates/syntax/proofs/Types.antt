@@ -12,33 +12,29 @@ use Rattle.type_grammar.specs.Starts.{Stops, begins_type}
 use Rattle.type_grammar.specs.Grammar.{IsType, IsBounds, pathed, referred, wrapped, unit, several, sliced, arrayed, object}
 use Rattle.type_grammar.specs.Opening.{OpensType, OpensTypeOf, OpensInBounds}
 use Rattle.type_grammar.specs.Reading.{after_bounds, type_at, type_in, type_step, path_at, segments_in, segments_at, segment_at, round_at}
-use Rattle.type_grammar.proofs.Sound as sound
-use Rattle.type_grammar.proofs.Complete as complete
-use Rattle.type_grammar.proofs.Deep as opening
-use Rattle.type_grammar.proofs.Measures as measures
-use Rattle.type_grammar.proofs.Unique as unique
+use Rattle.type_grammar.proofs.Laws as laws
 use Rattle.syntax.specs.ItemWords.{is_restriction}
 use Rattle.syntax.specs.ItemDepth.{most_levels}
 
 pub type_sound : (n : ℕ) (ws : List Word) (t : Written) (rest : List Word) → type_at n ws ≡ Ok (t, rest) → IsType ws t rest
-type_sound n ws t rest e = sound.type_sound n Any ws t rest e
+type_sound n ws t rest e = laws.type_sound n Any ws t rest e
 
 pub type_shorter : {ws rest : List Word} {t : Written} → IsType ws t rest → length rest < length ws
-type_shorter {ws = ws} {rest = rest} r = measures.fewer_words ws rest (measures.type_lighter (λ w. 0) r)
+type_shorter {ws = ws} {rest = rest} r = laws.fewer_words ws rest (laws.type_lighter (λ w. 0) r)
 
 pub type_complete : {ws rest : List Word} {t : Written} → IsType ws t rest → Stops rest → (n : ℕ) → (type_at n ws ≡ Ok (t, rest)) ⊎ ((at : Span) × (type_at n ws ≡ Err (deep at)))
-type_complete r stops n = complete.type_complete r stops n
+type_complete r stops n = laws.type_complete r stops n
 
 -- a type begins with a word that may begin one
 abbrev pub Begins : List Word → Type 0
 Begins ws = (w : Word) × (us : List Word) × (ws ≡ w ∷ us) × (begins_type w ≡ true)
 
 pub type_begins : {ws rest : List Word} {t : Written} → IsType ws t rest → Begins ws
-type_begins r = complete.type_begins r
+type_begins r = laws.type_begins r
 
 -- a type that begins with a group in round brackets is the group
 pub group_alone : {ws rest more : List Word} {t : Written} {g : Trees} {s : Span} → IsType ws t rest → ws ≡ group Round g s ∷ more → rest ≡ more
-group_alone (pathed p) e = let h = complete.path_starts p in cc
+group_alone (pathed p) e = let h = laws.path_starts p in cc
 group_alone (referred l m r) e = cc
 group_alone (wrapped r) e = cc
 group_alone unit e = cc
@@ -47,21 +43,21 @@ group_alone (sliced r) e = cc
 group_alone (arrayed r) e = cc
 group_alone (object l q p b) e = cc
 
-pub type_agrees : (n : ℕ) → opening.Agrees (type_at n) (OpensType n)
-type_agrees n = opening.type_agrees n Any
+pub type_agrees : (n : ℕ) → laws.Agrees (type_at n) (OpensType n)
+type_agrees n = laws.type_agrees n Any
 
 pub opens_begins : (ws : List Word) (at : Span) → OpensType most_levels ws at → Begins ws
-opens_begins ws at o = opening.opens_begins most_levels Any ws at o
+opens_begins ws at o = laws.opens_begins most_levels Any ws at o
 
 -- ---- bounds
 pub bounds_sound : (n : ℕ) (ws rest : List Word) → after_bounds (type_in n) ws ≡ Ok rest → IsBounds ws rest
-bounds_sound n ws rest e = sound.bounds_sound (type_in n) (sound.type_sound n) ws rest e
+bounds_sound n ws rest e = laws.bounds_sound (type_in n) (laws.type_sound n) ws rest e
 
 pub bounds_no_longer : {ws rest : List Word} → IsBounds ws rest → length rest ≤ length ws
-bounds_no_longer {ws = ws} {rest = rest} r = omega (arith, measures.bounds_lighter (λ w. 0) r, measures.total_length ws, measures.total_length rest)
+bounds_no_longer {ws = ws} {rest = rest} r = omega (arith, laws.bounds_lighter (λ w. 0) r, laws.total_length ws, laws.total_length rest)
 
-pub bounds_agree : (n : ℕ) → opening.Agrees (after_bounds (type_in n)) (OpensInBounds (OpensTypeOf n))
-bounds_agree n = opening.in_bounds_agree n (opening.type_agrees n)
+pub bounds_agree : (n : ℕ) → laws.Agrees (after_bounds (type_in n)) (OpensInBounds (OpensTypeOf n))
+bounds_agree n = laws.in_bounds_agree n (laws.type_agrees n)
 
 -- the group that restricts `pub` is no deep type
 abbrev with_rest : List Word → Written → Read Written
@@ -93,10 +89,10 @@ scope_shallow ws more at s g o e h = scope_read (words_of g) s more at h (ap (ty
 -- with enough levels, nothing is too deep
 pub deep_enough : (ws : List Word) → (n : ℕ) × ((at : Span) → type_at n ws ≡ Err (deep at) → ⊥)
 deep_enough ws =
-    let n = measures.total unique.inside ws in
-    (n, λ at e. let less : n < n = unique.opens_light n Any ws at ((type_agrees n ws at).0 e) in absurd (omega arith))
+    let n = laws.total laws.inside ws in
+    (n, λ at e. let less : n < n = laws.opens_light n Any ws at ((type_agrees n ws at).0 e) in absurd (omega arith))
 
 pub bounds_deep_enough : (ws : List Word) → (n : ℕ) × ((at : Span) → after_bounds (type_in n) ws ≡ Err (deep at) → ⊥)
 bounds_deep_enough ws =
-    let n = measures.total unique.inside ws in
-    (n, λ at e. let less : suc n < n = unique.in_bounds_light n (unique.opens_light n) ((bounds_agree n ws at).0 e) in absurd (omega arith))
+    let n = laws.total laws.inside ws in
+    (n, λ at e. let less : suc n < n = laws.in_bounds_light n (laws.opens_light n) ((bounds_agree n ws at).0 e) in absurd (omega arith))

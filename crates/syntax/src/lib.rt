@@ -26,7 +26,7 @@ mod fields;
 mod generics;
 mod item;
 mod items;
-mod laws;
+mod law;
 mod parse;
 mod scope;
 mod struct_body;
@@ -35,7 +35,7 @@ mod where_clause;
 
 pub use attributes::{Attribute, CommentAttributes, Meta};
 pub use item::{Body, Declaration, Declarations, Field, Fields, GenericParam, Generics, Variant};
-pub use laws::{one_deep_place, one_reading, one_type_reading, read_fields_are_named};
+pub use law::{one_deep_place, one_reading, one_type_reading, read_fields_are_named};
 pub use lexing::{lex, one_cut};
 pub use literal_values::{LiteralValue, literal_value};
 pub use parse::{parse_declarations, parse_type};

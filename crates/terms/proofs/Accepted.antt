@@ -2,6 +2,8 @@
 use Rattle.std.proofs.Common.{ℕ, suc, drop, length, None, Option, pos, int_le, List, [], ◌∷◌, Bool, true, false, not, ◌&&◌, ◌||◌, cond, Some, IsTrue, ◌≡◌, ◌≢◌, refl, ap, sym, subst, ◌∙◌, map as map_over}
 use Rattle.std.specs.List.{list_all}
 use Rattle.std.proofs.Math.Dec.{leb-zero, leb-suc-zero, leb-suc-suc}
+use Rattle.std.proofs.lemmas.Bool.{and_parts}
+use Rattle.std.proofs.Math.Bool.{or-false}
 use Rattle.acceptance.specs.Acceptance.{others_pass, names_pass}
 use Rattle.acceptance.specs.Json.{Json, Members, null, boolean, number, text, list, map, entries, names, look, distinct, on_map, on_list, if_there}
 use Rattle.texts.specs.Names.{is_in}
@@ -47,14 +49,6 @@ pub and-assoc : (a b c : Bool) → ((a && b) && c) ≡ (a && (b && c))
 and-assoc true b c = refl
 and-assoc false b c = refl
 
-and-left : (a b : Bool) → IsTrue (a && b) → IsTrue a
-and-left true b h = refl
-and-left false b h = h
-
-and-right : (a b : Bool) → IsTrue (a && b) → IsTrue b
-and-right true b h = h
-and-right false b h = cc
-
 and-both : (a b : Bool) → IsTrue a → IsTrue b → IsTrue (a && b)
 and-both true b f g = g
 and-both false b f g = f
@@ -79,10 +73,6 @@ and-third false b false d = refl
 pub and-last : (a b c : Bool) → (a && (b && c)) ≡ ((a && c) && b)
 and-last true b c = and-swap b c
 and-last false b c = refl
-
-pub or-false : (a : Bool) → (a || false) ≡ a
-or-false true = refl
-or-false false = refl
 
 or-swap : (a b : Bool) → (a || (b || false)) ≡ (b || a)
 or-swap true true = refl
@@ -341,10 +331,10 @@ module _ (ss : List DeclarationOf) (instance : Open → Json → Bool) (args : O
   elements-accept same t [] h (v ∷ vs) = λ i. leb-suc-zero (length vs) i && (int_le (pos 0) (pos (suc (length vs))) && list_all (has t) (v ∷ vs))
   elements-accept same t (u ∷ us) h [] = λ i. leb-zero (suc (length us)) i && (leb-suc-zero (length us) i && true)
   elements-accept same t (u ∷ us) h (v ∷ vs) =
-      let equal : t ≡ u = (same t u).0 (and-left (same_type t u) (are_all t us) h) in
+      let equal : t ≡ u = (same t u).0 (and_parts (same_type t u) (are_all t us) h).0 in
       (λ i. leb-suc-suc (length vs) (length us) i && (leb-suc-suc (length us) (length vs) i && list_all (has t) (v ∷ vs)))
       ∙ and-third (int_le (pos (length vs)) (pos (length us))) (int_le (pos (length us)) (pos (length vs))) (has t v) (list_all (has t) vs)
-      ∙ (λ i. has (equal i) v && elements-accept same t us (and-right (same_type t u) (are_all t us) h) vs i)
+      ∙ (λ i. has (equal i) v && elements-accept same t us (and_parts (same_type t u) (are_all t us) h).1 vs i)
 
   -- Elements that the fields' schemas accept by position, as many as there are types, fit the types.
   in_order-accept : (ts : List Open) → AreAllPlain ss (over ts) → (vs : List Json) →

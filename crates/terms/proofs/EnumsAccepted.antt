@@ -1,6 +1,7 @@
 -- What the schemas of enums accept: each variant what has its shape, and the whole what fits one of them.
 use Rattle.std.proofs.Common.{ℕ, List, [], ◌∷◌, ◌++◌, Bool, true, false, not, ◌&&◌, ◌||◌, cond, Some, bytes_eq, map as map_over, ◌≡◌, refl, ap, sym, subst, ◌∙◌}
 use Rattle.std.specs.List.{list_all, list_any}
+use Rattle.std.proofs.Math.Bool.{or-false}
 use Rattle.acceptance.specs.Acceptance.{others_pass}
 use Rattle.acceptance.specs.Json.{Json, Members, null, boolean, number, text, list, map, entries, names, look, same, there, if_there}
 use Rattle.texts.specs.Names.{is_in}
@@ -26,7 +27,7 @@ use Rattle.shapes.specs.Shape.{is_null, is_map, only_named, is_the, has_member, 
 use Rattle.shapes.specs.Plain.{IsPlainType, AreAllPlain, IsContent, IsPlainForm, CanBeTagged, IsPlainVariant, ArePlainVariants, KeepsVariant, IsPlainBody}
 use Rattle.terms.specs.Terms.{keywords_of, field_place, field_term, properties_of, required_names, object_of, unnamed_term, form_term, texts_schema, requiring, tag_schema, tag_alone, null_term, units_term, unit_term, with_property, beside_tag, tagged_content, internal_term, adjacent_term, told_term, variant_form, variant_term, body_term, term}
 use Rattle.terms.specs.Meaning.{leaf_shape, TermsAccept, InstanceTermsAccept, PlacesAccept}
-use Rattle.terms.proofs.Accepted.{and-true, and-assoc, and-last, or-false, others-denied, property_names-are, null-accepts, place-accepts, members-accept, form-accepts, closed-accepts}
+use Rattle.terms.proofs.Accepted.{and-true, and-assoc, and-last, others-denied, property_names-are, null-accepts, place-accepts, members-accept, form-accepts, closed-accepts}
 
 -- ---- conditions
 

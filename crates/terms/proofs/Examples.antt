@@ -1,51 +1,27 @@
 -- Small sources, computed: null, what is required, what is alike, an enum with a tag, and what stands at leaves.
-use Rattle.std.proofs.Common.{ℕ, List, [], ◌∷◌, Bool, true, false, codes, ◌≡◌, refl}
-use Rattle.acceptance.specs.Json.{Json, null, text, boolean, map, no_members, member}
+use Rattle.std.proofs.Common.{List, [], ◌∷◌, Bool, true, false, codes, ◌≡◌, refl}
+use Rattle.acceptance.specs.Json.{Json, null, member}
 use Rattle.leaves.specs.declared.leaf.Leaf.TheVariants.{I32, Bool as BoolLeaf}
 use Rattle.schema_trees.specs.Annotations.{no_annotations}
 use Rattle.schema_trees.specs.Schema.{SchemaOf, no_schemas, schema, no_properties, property, truth, part}
 use Rattle.schema_trees.specs.Schema as tree
 use Rattle.schema_core.specs.Meaning.{tree_accepts}
-use Rattle.open_types.specs.Open.{Open, Opens, leaf, option, param, named, no_types, more_types}
+use Rattle.open_types.specs.Open.{Open, leaf, param, named, no_types}
 use Rattle.component.specs.Leaves.{LeafOf}
 use Rattle.component.specs.Leaves as leaves
 use Rattle.component.specs.Places.{null_alone, leaf_object, one_of_null}
-use Rattle.shapes.specs.declared.tagging.Tagging.TheVariants.{Internal}
-use Rattle.shapes.specs.Declarations.{MemberOf, named_fields, unnamed_fields, no_fields, fields, variants, DeclarationOf, unannotated}
+use Rattle.shapes.specs.Declarations.{unnamed_fields, fields, DeclarationOf, unannotated}
 use Rattle.shapes.specs.Instances.{declared_by}
 use Rattle.shapes.specs.InstanceShape.{shape}
+use Rattle.shapes.proofs.Laws.{one, at_i32, at_option, empty, with_v, n_source, s_source, tagged, told, tag_only, e_u}
 use Rattle.terms.specs.Terms.{object_of, list_of_length, term}
 use Rattle.terms.specs.InstanceTerms.{with_arguments, instance_term}
 use Rattle.terms.specs.Meaning.{leaf_shape}
 
-abbrev a_member : List ℕ → Bool → Open → MemberOf
-a_member name required t = record { name = name; required = required; annotations = unannotated; of = t }
-
-abbrev a_struct : List ℕ → ℕ → List MemberOf → DeclarationOf
-a_struct name parameters ms = record { name = name; parameters = parameters; annotations = unannotated; body = fields (named_fields false ms) }
-
-abbrev one : Open → Opens
-one t = more_types t no_types
-
-abbrev at_i32 : Open
-at_i32 = named 0 (one (leaf I32))
-
-abbrev at_option : Open
-at_option = named 0 (one (option (leaf I32)))
-
-abbrev empty : Json
-empty = map no_members
-
-abbrev with_v : Json → Json
-with_v x = map (member (codes "v") x no_members)
-
 abbrev an_i32 : SchemaOf LeafOf
 an_i32 = leaf_object false no_annotations I32
 
--- struct N<T> { v: Option<T> }: the member may be missing, or null; at Option<i32> both schemas accept null
-abbrev n_source : List DeclarationOf
-n_source = a_struct (codes "N") 1 (a_member (codes "v") false (option (param 0)) ∷ []) ∷ []
-
+-- struct N<T> { v: Option<T> }: at Option<i32> both schemas accept null
 n_term : instance_term n_source at_option ≡ object_of no_annotations false [] (property (codes "v") (one_of_null no_annotations (leaf_object true no_annotations I32)) no_properties)
 n_term = refl
 
@@ -53,9 +29,6 @@ null_twice : (says : LeafOf → Json → Bool) → (tree_accepts says (leaf_obje
 null_twice says = (refl, refl)
 
 -- struct S<T> { v: T }: at Option<i32> the member may be null, and must be there
-abbrev s_source : List DeclarationOf
-s_source = a_struct (codes "S") 1 (a_member (codes "v") true (param 0) ∷ []) ∷ []
-
 s_accepts : (says : LeafOf → Json → Bool) → (tree_accepts says (instance_term s_source at_option) (with_v null) ≡ true) × (tree_accepts says (instance_term s_source at_option) empty ≡ false)
 s_accepts says = (refl, refl)
 
@@ -71,26 +44,7 @@ mixed = refl
 alike : instance_term pairs (named 1 (one (leaf I32))) ≡ list_of_length 2 no_annotations no_schemas (part an_i32)
 alike = refl
 
--- #[serde(tag = "t")] enum E<T> { A(T), C }  struct U { x: bool }: at U the content stands beside the tag
-abbrev tagged : List DeclarationOf
-tagged =
-    record {
-      name = codes "E";
-      parameters = 1;
-      annotations = unannotated;
-      body = variants (Internal (codes "t")) (record { name = codes "A"; annotations = unannotated; form = unnamed_fields (param 0 ∷ []) } ∷ record { name = codes "C"; annotations = unannotated; form = no_fields } ∷ []);
-    }
-    ∷ a_struct (codes "U") 0 (a_member (codes "x") true (leaf BoolLeaf) ∷ []) ∷ []
-
-abbrev told : List ℕ → Json
-told name = map (member (codes "t") (text name) (member (codes "x") (boolean true) no_members))
-
-abbrev tag_only : List ℕ → Json
-tag_only name = map (member (codes "t") (text name) no_members)
-
-abbrev e_u : Open
-e_u = named 0 (one (named 1 no_types))
-
+-- the enum with a tag: at U the content stands beside the tag
 e_accepts : (tree_accepts (leaf_shape (shape tagged 1)) (instance_term tagged e_u) (told (codes "A")) ≡ true) × (tree_accepts (leaf_shape (shape tagged 1)) (instance_term tagged e_u) (tag_only (codes "A")) ≡ false)
 e_accepts = (refl, refl)
 

@@ -3,10 +3,10 @@
 
 mod copy;
 mod cursor;
-mod laws;
+mod law;
 mod token;
 
 pub use copy::copy_trees;
 pub use cursor::Cursor;
-pub use laws::trees_are_equal_by_text;
+pub use law::trees_are_equal_by_text;
 pub use token::{Bracket, Group, Token, TokenKind, TokenTree};

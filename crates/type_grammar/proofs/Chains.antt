@@ -1,16 +1,16 @@
 -- The readers of segments and of bounds, turn by turn.
-use Rattle.std.proofs.Common.{◌≡◌, ℕ, zero, suc, ◌<◌, List, [], ◌∷◌, ◌++◌, length, refl, ap, sym, ◌∙◌, arith, Bool, true, Option, Some, None, Ok, Err, Result, append_assoc}
+use Rattle.std.proofs.Common.{◌≡◌, ℕ, zero, suc, ◌<◌, List, [], ◌∷◌, ◌++◌, length, refl, ap, sym, ◌∙◌, arith, Bool, true, Option, Some, None, Ok, Err, append_assoc}
 use Rattle.texts.specs.declared.span.Span.{Span}
 use Rattle.written_types.specs.Written.{Segment}
 use Rattle.words.specs.declared.vocabulary.Sign.TheVariants.{Colons, Plus, Question}
 use Rattle.words.specs.declared.stopping.Stop.{Stop}
 use Rattle.words.specs.declared.stopping.Stop.TheVariants as stop
 use Rattle.words.specs.Words.{Word}
-use Rattle.words.specs.Reading.{Read, Fault, deep, wrong, ◌>>=◌, Fails, as_lifetime, as_sign, lifetime_at}
+use Rattle.words.specs.Reading.{Read, deep, wrong, ◌>>=◌, Fails, as_lifetime, as_sign, lifetime_at}
 use Rattle.type_grammar.specs.Starts.{span_of}
 use Rattle.type_grammar.specs.Reading.{TypeReader, after_sign, without, path_at, bound_from, Chain, segment_at, segments_after, segments_step, segments_at, segments_in, bound_at, bounds_after, bounds_at, bounds_in, with_segments}
 use Rattle.type_grammar.proofs.Firsts.{after_sign-shorter, taken-not}
-use Rattle.words.proofs.Many.{Shortens}
+use Rattle.words.proofs.Laws.{Shortens}
 
 front_front : (front : List Segment) (s : Segment) (r : Read Chain) → with_segments (front ++ s ∷ []) r ≡ with_segments front (r >>= λ p. Ok ((s ∷ p.0.0, p.0.1), p.1))
 front_front front s (Ok p) = ap (λ v. Ok ((v, p.0.1), p.1)) (append_assoc front (s ∷ []) p.0.0)
@@ -95,9 +95,3 @@ pub bound_else : (inner : TypeReader) (ws : List Word) → lifetime_at ws ≡ Er
 unfolding bound_at path_at
 bound_else inner [] e = refl
 bound_else inner (w ∷ ws) e = ap (λ o. bound_from inner (w ∷ ws) o w ws) (taken-not (as_lifetime w) ws e)
-
-pub fails_as : {A : Type 0} {r q : Result A Fault} → r ≡ q → (e : Stop) → Fails e r → Fails e q
-fails_as e stop.Memory f = tt
-fails_as e (stop.Deep at) f = sym e ∙ f
-fails_as e (stop.Unexpected at) f = sym e ∙ f
-fails_as e stop.Ended f = sym e ∙ f

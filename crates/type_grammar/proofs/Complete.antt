@@ -14,7 +14,7 @@ use Rattle.type_grammar.specs.declared.starts.Bounds.TheVariants.{One, Any}
 use Rattle.type_grammar.specs.Starts.{starts_path, type_start, begins_type, is_type_start, begins_path, begins_bound, Stops, StopsPath, span_of}
 use Rattle.type_grammar.specs.Grammar.{MayBeLifetime, no_lifetime, a_lifetime, MayBeMut, no_mut, a_mut, MayBeQuestion, no_question, a_question, LifetimesFirst, no_more_lifetimes, a_lifetime_first, MayBeBinding, no_binding, a_binding, a_literal, a_negative, a_true, a_false, a_block, IsTypeOf, pathed, referred, wrapped, unit, several, sliced, arrayed, object, MoreBounds, no_more_bounds, one_more_bound, IsBound, a_lifetime_bound, a_path_bound, IsPath, from_here, from_root, IsSegments, last_segment, more_segments, IsSegment, without_arguments, with_arguments, with_colons, IsArgument, of_lifetime, of_constant, of_type, IsArguments, no_argument, last_argument, another_argument, IsTypes, no_type, last_type, another_type, IsBounds, no_bounds, some_bounds}
 use Rattle.type_grammar.specs.Reading.{TypeReader, after_sign, unless, without, is_end, all, ends_list, list_after, list_until, list_of, after_binding, after_lifetimes, first_bound, plain_argument, argument_or, argument_at, first_of_two, then_less, arguments_after, segment_after, segment_at, segments_after, segments_in, path_from, path_at, bound_from, bound_at, bounds_in, after_bounds, more_bounds, object_at, reference_at, tuple_after, round_at, array_after, square_at, type_from, type_step, too_deep, type_in}
-use Rattle.words.proofs.Many.{Shortens}
+use Rattle.words.proofs.Laws.{Shortens}
 use Rattle.type_grammar.proofs.Lists.{list_until_step, list_ends}
 use Rattle.type_grammar.proofs.Chains.{segments_in_step, bounds_done, bounds_turn}
 use Rattle.type_grammar.proofs.Sound.{type_shortens, argument_shortens, segment_shortens, bound_shortens}

@@ -16,8 +16,7 @@ use Rattle.type_grammar.specs.Grammar.{IsTypeOf, IsSegment, IsArgument}
 use Rattle.type_grammar.specs.Opening.{Passes, OpensList, in_first, behind, OpensTypes, OpensArgument, OpensArguments, OpensSegment, in_arguments, in_colon_arguments, OpensSegments, in_segment, behind_segment, OpensPath, in_segments, in_rooted, OpensBound, in_bound_path, OpensBounds, in_bound, behind_bound, OpensInBounds, in_the_first, in_the_others, OpensWithin, in_path, in_reference, in_round, in_several, in_square, in_first_bound, in_later_bound, BeginsAt, here, OpensTypeOf}
 use Rattle.type_grammar.specs.Reading.{after_sign, without, is_end, all, ends_list, list_after, list_at, list_until, list_of, after_binding, first_bound, plain_argument, argument_or, argument_at, arguments_after, segment_after, segment_at, Chain, segments_after, segments_at, segments_in, path_from, path_at, bound_from, bound_at, bounds_after, bounds_at, bounds_in, after_bounds, more_bounds, object_at, reference_at, tuple_after, round_at, array_after, square_at, type_from, type_step, too_deep, type_in}
 use Rattle.type_grammar.proofs.Firsts.{first_as-is, as_sign-is, sign_at-is, after_sign-is}
-use Rattle.words.proofs.Many.{Shortens}
-use Rattle.words.proofs.Read.{bind_err, first_shallow}
+use Rattle.words.proofs.Laws.{Shortens, bind_err, first_shallow}
 use Rattle.type_grammar.proofs.Found.{either}
 use Rattle.type_grammar.proofs.Optional.{is_lifetime, is_mut, is_question, is_first, is_binding}
 use Rattle.type_grammar.proofs.Chains.{segments_in_step, bounds_turn}

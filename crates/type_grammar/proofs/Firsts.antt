@@ -6,7 +6,7 @@ use Rattle.words.specs.declared.vocabulary.Sign.{Sign}
 use Rattle.words.specs.declared.vocabulary.Sign.TheVariants as signs
 use Rattle.words.specs.Words.{Word, name, underscore, keyword, sign, lifetime, literal, doc, group}
 use Rattle.words.specs.Reading.{wrong, taken, first_as, as_sign, as_lifetime, sign_at, lifetime_at}
-pub use Rattle.words.proofs.Signs.{as_sign-is}
+pub use Rattle.words.proofs.Laws.{as_sign-is}
 use Rattle.type_grammar.specs.Reading.{kept, after_sign, unless, without, after_lifetimes}
 
 -- the first word is of the kind, or it is not

@@ -10,3 +10,4 @@ pub mod Complete
 pub mod Deep
 pub mod Unique
 pub mod Answered
+pub mod Laws

@@ -6,7 +6,7 @@ use Rattle.words.specs.declared.stopping.Stop.{Stop}
 use Rattle.words.specs.declared.stopping.Stop.TheVariants as stop
 use Rattle.words.specs.Words.{Word}
 use Rattle.words.specs.Reading.{Read, Fault, deep, wrong, ◌>>=◌, Fails}
-use Rattle.words.proofs.Many.{Shortens}
+use Rattle.words.proofs.Laws.{Shortens}
 use Rattle.type_grammar.specs.Reading.{after_sign, list_after, list_step, list_at, list_until, with_front}
 use Rattle.type_grammar.proofs.Firsts.{after_sign-shorter}
 

@@ -15,8 +15,7 @@ use Rattle.type_grammar.specs.Starts.{TypeStart, starts_path, starts_reference, 
 use Rattle.type_grammar.specs.Grammar.{a_literal, a_negative, a_true, a_false, a_block, IsTypeOf, pathed, referred, wrapped, unit, several, sliced, arrayed, object, MoreBounds, no_more_bounds, one_more_bound, IsBound, a_lifetime_bound, a_path_bound, IsPath, from_here, from_root, IsSegments, last_segment, more_segments, IsSegment, without_arguments, with_arguments, with_colons, IsArgument, of_lifetime, of_constant, of_type, IsArguments, no_argument, last_argument, another_argument, IsTypes, no_type, last_type, another_type, IsBounds, no_bounds, some_bounds, IsListOf, no_items, last_item, more_items}
 use Rattle.type_grammar.specs.Reading.{TypeReader, after_sign, without, is_end, all, ends_list, list_after, list_at, list_until, list_of, after_binding, first_bound, plain_argument, argument_or, argument_at, first_of_two, then_less, arguments_after, segment_after, segment_at, Chain, segments_after, segments_at, segments_in, path_from, path_at, bound_from, bound_at, bounds_after, bounds_at, bounds_in, after_bounds, more_bounds, object_at, reference_at, round_at, square_at, type_from, type_step, too_deep, type_in}
 use Rattle.type_grammar.proofs.Firsts.{first_as-is, as_sign-is, as_lifetime-is, sign_at-is, after_sign-is}
-use Rattle.words.proofs.Read.{bind_ok, ok_is}
-use Rattle.words.proofs.Many.{Shortens}
+use Rattle.words.proofs.Laws.{bind_ok, ok_is, Shortens}
 use Rattle.type_grammar.proofs.Found.{either, along, along_some, along_three, is_end-is, goes_on-is, all-is}
 use Rattle.type_grammar.proofs.Optional.{is_lifetime, is_mut, is_question, is_first, is_binding}
 use Rattle.type_grammar.proofs.Measures.{type_lighter, bound_lighter, segment_lighter, argument_lighter, fewer_words}

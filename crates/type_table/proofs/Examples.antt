@@ -1,5 +1,5 @@
 -- Small tables, computed.
-use Rattle.std.proofs.Common.{ℕ, ◌<◌, List, [], ◌∷◌, Some, None, Less, Greater, ◌≡◌, refl, arith}
+use Rattle.std.proofs.Common.{◌<◌, List, [], ◌∷◌, Some, None, Less, Greater, ◌≡◌, refl, arith}
 use Rattle.leaves.specs.declared.leaf.Leaf.TheVariants as leaves
 use Rattle.open_types.specs.declared.open_type.ListHead.TheVariants as lists
 use Rattle.open_types.specs.declared.open_type.MapHead.TheVariants as maps
@@ -7,7 +7,7 @@ use Rattle.open_types.specs.Open.{Open, Opens, leaf, unit, tuple, items, map_of,
 use Rattle.type_table.specs.declared.node.Node.{Node}
 use Rattle.type_table.specs.declared.node.Node.TheVariants as nodes
 use Rattle.type_table.specs.Keys.{leaf_place, key_of, key_cmp}
-use Rattle.type_table.specs.Nodes.{items_of, node_type, node_parts, types_of, IsTuple, HasParts, AreWhole}
+use Rattle.type_table.specs.Nodes.{items_of, node_parts, types_of, HasParts, AreWhole}
 use Rattle.type_table.specs.Types.{type_at, types_at, IsFront, IsFound, found, declaration_of, in_word, parts_of, numbers_in, AreApart}
 
 abbrev u8 : Open

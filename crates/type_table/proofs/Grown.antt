@@ -4,6 +4,7 @@ use Rattle.std.specs.BTreeMap.{is_at}
 use Rattle.std.proofs.Math.ListN.{get_or-append}
 use Rattle.std.proofs.Math.Seq.{get_or-append_seam}
 use Rattle.std.proofs.lemmas.Option.{none-some, same_Some}
+use Rattle.std.proofs.lemmas.Bool.{cases_Bool}
 use Rattle.open_types.specs.Open.{Open}
 use Rattle.type_table.specs.declared.node.Node.{Node}
 use Rattle.type_table.specs.Keys.{key_of, key_cmp}
@@ -14,10 +15,6 @@ use Rattle.type_table.proofs.Listed.{as_many, node-at, whole-more, IsNode}
 use Rattle.type_table.proofs.Tables.{nodes-grow, one-node, apart-stay, type-behind, more-long}
 
 -- ---- the index of a node more
-
-tested : (b : Bool) → (b ≡ true) ⊎ (b ≡ false)
-tested true = inl refl
-tested false = inr refl
 
 equal-is : (o : Ordering) → is_eq o ≡ true → o ≡ Equal
 equal-is Less e = cc
@@ -52,11 +49,11 @@ module _ (look new : ℕ × ℕ × ℕ → Option ℕ) (ns : List Node) (m : Nod
       before w (inr e) = no (key_of (get_or ns n x)) e ∙ old.there n x w
 
       by : (n < length ns) ⊎ (n ≡ length ns) → new (key_of (get_or (ns ++ m ∷ []) n x)) ≡ Some n
-      by (inl w) = ap (λ y. new (key_of y)) (get_or-append ns (m ∷ []) x n w) ∙ before w (tested (at (key_of (get_or ns n x))))
+      by (inl w) = ap (λ y. new (key_of y)) (get_or-append ns (m ∷ []) x n w) ∙ before w (cases_Bool (at (key_of (get_or ns n x))))
       by (inr e) = ap (λ y. new (key_of y)) (ap (λ k. get_or (ns ++ m ∷ []) k x) e ∙ get_or-append_seam ns m [] x) ∙ yes (key_of m) itself ∙ ap Some (sym e)
 
   its_node : (x : Node) (n : ℕ) → new (key_of x) ≡ Some n → (n < length (ns ++ m ∷ [])) × (get_or (ns ++ m ∷ []) n x ≡ x)
-  its_node x n e = by (tested (at (key_of x)))
+  its_node x n e = by (cases_Bool (at (key_of x)))
     where
       by : (at (key_of x) ≡ true) ⊎ (at (key_of x) ≡ false) → (n < length (ns ++ m ∷ [])) × (get_or (ns ++ m ∷ []) n x ≡ x)
       by (inl t) =

@@ -9,3 +9,4 @@ pub mod Parts
 pub mod Sizes
 pub mod Tables
 pub mod Views
+pub mod Laws

@@ -7,14 +7,14 @@ mod build;
 mod copy;
 mod format_value;
 mod known_format;
-mod laws;
+mod law;
 mod path;
 mod primitive;
 mod schema_type;
 mod tree;
 
 pub use known_format::KnownFormat;
-pub use laws::{formats_are_equal, trees_are_equal_by_text};
+pub use law::{formats_are_equal, trees_are_equal_by_text};
 pub use open_types::{
     ClosedType, Leaf, ListHead, MapHead, OpenType, SetHead, ThroughHead, substitute,
 };

@@ -7,3 +7,4 @@ pub mod Turns
 pub mod Many
 pub mod Sound
 pub mod Complete
+pub mod Laws

@@ -9,7 +9,7 @@ use Rattle.std.proofs.lemmas.Bool.Decides.{Decides-and, Decides-at, Decides-like
 use Rattle.std.proofs.lemmas.Slice.Eq.{bytes_eq-Decides}
 use Rattle.texts.specs.Span.{no_span}
 use Rattle.tokens.specs.Trees.{trees_view}
-use Rattle.tokens.proofs.Equal.{same_trees, lists_equal, each_beside, each_of}
+use Rattle.tokens.proofs.Laws.{same_trees, lists_equal, each_beside, each_of}
 use Rattle.written_types.specs.declared.written.Ident.{Ident}
 use Rattle.written_types.specs.declared.written.Path.{Path}
 use Rattle.written_types.specs.declared.written.PathSegment.{PathSegment}
@@ -194,7 +194,7 @@ at_argument x y is u =
     (subst (λ v. Decides (argument_level v z) (argument_without_spans (argument_shown v) ≡ argument_without_spans (argument_shown z))) is (argument_levels y z))))
 
 -- ---- paths
-path_view_is : (p : Path) → path_view p ≡ path_of (views.out-Path p).leading (segments_view (views.out-Path p).segments) (views.out-Path p).span
+pub path_view_is : (p : Path) → path_view p ≡ path_of (views.out-Path p).leading (segments_view (views.out-Path p).segments) (views.out-Path p).span
 path_view_is p = folds.fold_out-Path Argument Written WrittenPath Segment argument_step written_step path_step segment_step p
 
 path_is : (p q : Path) → same_paths p q ≡ (beq (views.out-Path p).leading (views.out-Path q).leading && pointwise same_segments (views.out-Path p).segments (views.out-Path q).segments)

@@ -2,8 +2,8 @@
 #![tactic(auto)]
 
 mod copy;
-mod laws;
+mod law;
 mod written;
 
-pub use laws::types_are_equal_by_text;
+pub use law::types_are_equal_by_text;
 pub use written::{GenericArgument, Ident, Path, PathSegment, WrittenType};

@@ -1,6 +1,6 @@
 -- The laws of `==` on types: its test holds of a type and itself, and of no two that differ.
-use Rattle.std.proofs.Common.{◌≡◌, ℕ, Bool, true, false, ◌&&◌, ◌==◌, bytes_eq, Some, unwrap_or, refl, ap, ap₂, sym, subst, ◌∙◌, eq-eqb}
-use Rattle.std.proofs.lemmas.Bool.{false≢true, eqb-true}
+use Rattle.std.proofs.Common.{◌≡◌, ℕ, true, ◌==◌, bytes_eq, Some, unwrap_or, refl, ap, ap₂, sym, subst, ◌∙◌, eq-eqb}
+use Rattle.std.proofs.lemmas.Bool.{false≢true, eqb-true, and_parts, and_from}
 use Rattle.std.proofs.lemmas.Slice.Eq.{bytes_eq-Decides}
 use Rattle.std.specs.Bool.{Decides}
 use Rattle.std.specs.Cmp.{IsEquivalence, IsPartialEquivalence, partial_equiv_from_equiv, decided}
@@ -9,6 +9,7 @@ use Rattle.std.proofs.lemmas.Cmp.{on_equiv}
 use Rattle.leaves.specs.declared.leaf.Leaf.{Leaf}
 use Rattle.leaves.specs.declared.leaf.Leaf.TheVariants as leaves
 use Rattle.leaves.specs.Leaves.{leaf_of, name_of}
+use Rattle.leaves.proofs.Laws.{named_leaf}
 use Rattle.open_types.specs.declared.open_type.ListHead.{ListHead}
 use Rattle.open_types.specs.declared.open_type.ListHead.TheVariants as lists
 use Rattle.open_types.specs.declared.open_type.SetHead.{SetHead}
@@ -22,29 +23,9 @@ use Rattle.open_types.specs.Same.{list_place, set_place, map_place, through_plac
 
 -- ---- names
 
-leaf_named : (l : Leaf) → leaf_of (name_of l) ≡ Some l
-leaf_named leaves.String = refl
-leaf_named leaves.Str = refl
-leaf_named leaves.Char = refl
-leaf_named leaves.Bool = refl
-leaf_named leaves.I8 = refl
-leaf_named leaves.I16 = refl
-leaf_named leaves.I32 = refl
-leaf_named leaves.I64 = refl
-leaf_named leaves.I128 = refl
-leaf_named leaves.Isize = refl
-leaf_named leaves.U8 = refl
-leaf_named leaves.U16 = refl
-leaf_named leaves.U32 = refl
-leaf_named leaves.U64 = refl
-leaf_named leaves.U128 = refl
-leaf_named leaves.Usize = refl
-leaf_named leaves.F32 = refl
-leaf_named leaves.F64 = refl
-
 one_leaf : (x y : Leaf) → bytes_eq (name_of x) (name_of y) ≡ true → x ≡ y
 one_leaf x y h =
-    let same : Some x ≡ Some y = sym (leaf_named x) ∙ (ap leaf_of ((bytes_eq-Decides (name_of x) (name_of y)).0 h) ∙ leaf_named y) in
+    let same : Some x ≡ Some y = sym (named_leaf x) ∙ (ap leaf_of ((bytes_eq-Decides (name_of x) (name_of y)).0 h) ∙ named_leaf y) in
     ap (λ o. unwrap_or o x) same
 
 one_list : (h k : ListHead) → (list_place h == list_place k) ≡ true → h ≡ k
@@ -76,15 +57,6 @@ one_through _ _ e = absurd (false≢true e)
 
 -- ---- types
 
-both : (a b : Bool) → (a && b) ≡ true → (a ≡ true) × (b ≡ true)
-both true b e = (refl, e)
-both false b e = absurd (false≢true e)
-
--- `true` and another
-with_true : (a b : Bool) → a ≡ true → b ≡ true → (a && b) ≡ true
-with_true true b e f = f
-with_true false b e f = e
-
 mutual
   one_type : (s t : Open) → same_type s t ≡ true → s ≡ t
   one_type (leaf x) (leaf y) e = ap leaf (one_leaf x y e)
@@ -92,18 +64,18 @@ mutual
   one_type free_object free_object e = refl
   one_type unit unit e = refl
   one_type (tuple ts) (tuple us) e = ap tuple (all_one ts us e)
-  one_type (items h t) (items k u) e = let p = both _ _ e in ap₂ items (one_list h k p.0) (one_type t u p.1)
-  one_type (set h t) (set k u) e = let p = both _ _ e in ap₂ set (one_set h k p.0) (one_type t u p.1)
-  one_type (map_of h s t) (map_of k u v) e = let p = both _ _ e in let q = both _ _ p.0 in ap (λ m. map_of m s t) (one_map h k q.0) ∙ ap₂ (map_of k) (one_type s u q.1) (one_type t v p.1)
+  one_type (items h t) (items k u) e = let p = and_parts _ _ e in ap₂ items (one_list h k p.0) (one_type t u p.1)
+  one_type (set h t) (set k u) e = let p = and_parts _ _ e in ap₂ set (one_set h k p.0) (one_type t u p.1)
+  one_type (map_of h s t) (map_of k u v) e = let p = and_parts _ _ e in let q = and_parts _ _ p.0 in ap (λ m. map_of m s t) (one_map h k q.0) ∙ ap₂ (map_of k) (one_type s u q.1) (one_type t v p.1)
   one_type (option t) (option u) e = ap option (one_type t u e)
-  one_type (through h t) (through k u) e = let p = both _ _ e in ap₂ through (one_through h k p.0) (one_type t u p.1)
+  one_type (through h t) (through k u) e = let p = and_parts _ _ e in ap₂ through (one_through h k p.0) (one_type t u p.1)
   one_type (param i) (param j) e = ap param (eqb-true i j e)
-  one_type (named d ts) (named k us) e = let p = both _ _ e in ap₂ named (eqb-true d k p.0) (all_one ts us p.1)
+  one_type (named d ts) (named k us) e = let p = and_parts _ _ e in ap₂ named (eqb-true d k p.0) (all_one ts us p.1)
   one_type _ _ e = absurd (false≢true e)
 
   all_one : (ts us : Opens) → same_types ts us ≡ true → ts ≡ us
   all_one no_types no_types e = refl
-  all_one (more_types t ts) (more_types u us) e = let p = both _ _ e in ap₂ more_types (one_type t u p.0) (all_one ts us p.1)
+  all_one (more_types t ts) (more_types u us) e = let p = and_parts _ _ e in ap₂ more_types (one_type t u p.0) (all_one ts us p.1)
   all_one _ _ e = absurd (false≢true e)
 
 itself : (n : ℕ) → (n == n) ≡ true
@@ -116,17 +88,17 @@ mutual
   same_itself free_object = refl
   same_itself unit = refl
   same_itself (tuple ts) = all_itself ts
-  same_itself (items h t) = with_true _ _ (itself (list_place h)) (same_itself t)
-  same_itself (set h t) = with_true _ _ (itself (set_place h)) (same_itself t)
-  same_itself (map_of h s t) = with_true _ _ (with_true _ _ (itself (map_place h)) (same_itself s)) (same_itself t)
+  same_itself (items h t) = and_from _ _ (itself (list_place h)) (same_itself t)
+  same_itself (set h t) = and_from _ _ (itself (set_place h)) (same_itself t)
+  same_itself (map_of h s t) = and_from _ _ (and_from _ _ (itself (map_place h)) (same_itself s)) (same_itself t)
   same_itself (option t) = same_itself t
-  same_itself (through h t) = with_true _ _ (itself (through_place h)) (same_itself t)
+  same_itself (through h t) = and_from _ _ (itself (through_place h)) (same_itself t)
   same_itself (param i) = itself i
-  same_itself (named d ts) = with_true _ _ (itself d) (all_itself ts)
+  same_itself (named d ts) = and_from _ _ (itself d) (all_itself ts)
 
   all_itself : (ts : Opens) → same_types ts ts ≡ true
   all_itself no_types = refl
-  all_itself (more_types t ts) = with_true _ _ (same_itself t) (all_itself ts)
+  all_itself (more_types t ts) = and_from _ _ (same_itself t) (all_itself ts)
 
 pub same_decides : (s t : Open) → Decides (same_type s t) (s ≡ t)
 same_decides s t = (one_type s t, λ e. subst (λ u. same_type s u ≡ true) e (same_itself s))

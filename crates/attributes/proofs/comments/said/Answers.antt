@@ -1,7 +1,7 @@
 use Rattle.std.proofs.Common.{◌∙◌, ap, sym, length, arith}
 use Rattle.written_types.specs.Written.{path_view}
 use Rattle.words.specs.Words.{words_view}
-use Rattle.words.proofs.Turns.{length_view}
+use Rattle.words.proofs.Laws.{length_view}
 use Rattle.attributes.specs.Attributes.{meta_view}
 use Rattle.attributes.specs.Comments.{said_by}
 use Rattle.attributes.proofs.Words.{several_say_nothing}

@@ -1,6 +1,6 @@
 use Rattle.std.proofs.Common.{arith}
 use Rattle.words.specs.Words.{words_view}
-use Rattle.words.proofs.Turns.{length_view}
+use Rattle.words.proofs.Laws.{length_view}
 use Rattle.attributes.proofs.Words.{value_after}
 use Rattle.attributes.proofs.meta.form_of.Goals as goal
 

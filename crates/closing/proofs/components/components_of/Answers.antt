@@ -6,8 +6,10 @@ use Rattle.shapes.specs.InstanceNames.{instance_name}
 use Rattle.shapes.specs.Views.{declaration_view}
 use Rattle.inlining.specs.Inlining.{IsAmong}
 use Rattle.inlining.specs.Marks.{mark}
+use Rattle.inlining.proofs.Laws.{among_at}
 use Rattle.instances.specs.Names.{instance_names}
-use Rattle.closing.proofs.Made.{AreLeft, schema_at, left_more, one-at, among_at, fresh_at}
+use Rattle.instances.proofs.Laws.{at-one}
+use Rattle.closing.proofs.Made.{AreLeft, schema_at, left_more, fresh_at}
 use Rattle.closing.proofs.Entered.{AreKnown, name_at, its_schema, known_none, known_more, all_entered}
 use Rattle.closing.proofs.components.components_of.Goals as goal
 
@@ -25,7 +27,7 @@ pub index_mut-requires : goal.index_mut-requires
 index_mut-requires c =
     let items = c.as_slice-number-items.result.now in
     let i = c.loop-number.number-index in
-    let among : IsAmong (get_or items i 0) items = among_at items i c.loop-number-test.true in
+    let among : IsAmong (get_or items i 0) items = among_at items i 0 c.loop-number-test.true in
     let here : get_or items i 0 < length c.args.reach.now = c.requires.within (get_or items i 0) (subst (IsAmong (get_or items i 0)) c.as_slice-number-items.ensures among) in
     let within : get_or items i 0 < length c.loop-number.made.items = subst (λ n. get_or items i 0 < n) (sym c.loop-number.invariant.many) here in
     search rules
@@ -35,7 +37,7 @@ bounds-names-number c =
     let ss = map declaration_view c.args.declared.now in
     let items = c.as_slice-number-items.result.now in
     let i = c.loop-number.number-index in
-    let among : IsAmong (get_or items i 0) items = among_at items i c.loop-number-test.true in
+    let among : IsAmong (get_or items i 0) items = among_at items i 0 c.loop-number-test.true in
     let here : get_or items i 0 < length c.args.reach.now = c.requires.within (get_or items i 0) (subst (IsAmong (get_or items i 0)) c.as_slice-number-items.ensures among) in
     subst (λ n. get_or items i 0 < n) (sym (ap length c.requires.names ∙ length-map c.args.reach.now (instance_name ss))) here
 
@@ -44,7 +46,7 @@ offset_bounds-names-number c =
     let ss = map declaration_view c.args.declared.now in
     let items = c.as_slice-number-items.result.now in
     let i = c.loop-number.number-index in
-    let among : IsAmong (get_or items i 0) items = among_at items i c.loop-number-test.true in
+    let among : IsAmong (get_or items i 0) items = among_at items i 0 c.loop-number-test.true in
     let here : get_or items i 0 < length c.args.reach.now = c.requires.within (get_or items i 0) (subst (IsAmong (get_or items i 0)) c.as_slice-number-items.ensures among) in
     let lt : get_or items i 0 < length c.args.names.now = subst (λ n. get_or items i 0 < n) (sym (ap length c.requires.names ∙ length-map c.args.reach.now (instance_name ss))) here in
     search rules
@@ -61,7 +63,7 @@ loop-number-preserved c =
     let at : i < length comps = subst (λ xs. i < length xs) same c.loop-number-test.true in
     let place = get_or comps i 0 in
     let where_is : get_or items i 0 ≡ place = ap (λ xs. get_or xs i 0) same in
-    let among : IsAmong place comps = among_at comps i at in
+    let among : IsAmong place comps = among_at comps i 0 at in
     let here : place < length is = c.requires.within place among in
     let there : place < length made = subst (λ n. place < n) (sym c.loop-number.invariant.many) here in
     let marked : IsTrue (mark c.args.shown.now.marks place) = c.requires.shown place among in
@@ -85,4 +87,4 @@ returns c =
     let is = c.args.reach.now in
     let comps = c.args.shown.now.components in
     let all : take c.loop-number.number-index comps ≡ comps = take_all c.loop-number.number-index comps (subst (λ (xs : List ℕ). length xs ≤ c.loop-number.number-index) c.as_slice-number-items.ensures (omega arith)) in
-    all_entered ss is c.requires.instances c.requires.differ comps c.loop-number.components (λ n a. one-at is n (c.requires.within n a)) (subst (λ ns. AreKnown (name_at ss is) (its_schema ss is) ns c.loop-number.components) all c.loop-number.invariant.known)
+    all_entered ss is c.requires.instances c.requires.differ comps c.loop-number.components (λ n a. at-one is n (c.requires.within n a)) (subst (λ ns. AreKnown (name_at ss is) (its_schema ss is) ns c.loop-number.components) all c.loop-number.invariant.known)

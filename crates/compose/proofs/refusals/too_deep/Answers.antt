@@ -3,12 +3,12 @@ use Rattle.std.proofs.lemmas.Result.{IfOk-weaker}
 use Rattle.diag.specs.declared.kind.Kind.TheVariants.{InlineDepth}
 use Rattle.texts.specs.declared.span.Span.{Span}
 use Rattle.instances.specs.Lists.{instance_at}
+use Rattle.inlining.proofs.Laws.{among_at}
 use Rattle.compose.specs.Bounds.{IsAt, instance_text, IsRefusalOf, deep_message}
-use Rattle.compose.proofs.Placed.{among-at}
 use Rattle.compose.proofs.refusals.too_deep.Goals as goal
 
 pub span_of-span-requires-clause-within : goal.span_of-span-requires-clause-within
-span_of-span-requires-clause-within c = c.requires.within (get_or c.args.path.now 0 0) (among-at c.args.path.now 0 c.requires.some)
+span_of-span-requires-clause-within c = c.requires.within (get_or c.args.path.now 0 0) (among_at c.args.path.now 0 0 c.requires.some)
 
 pub returns : goal.returns
 returns c =

@@ -2,7 +2,7 @@ use Rattle.std.proofs.Common.{◌≡◌, ◌∙◌, ◌<◌, List, length, get_o
 use Rattle.std.proofs.lemmas.List.{length-map}
 use Rattle.syntax.specs.declared.item.Declaration.{Declaration}
 use Rattle.syntax.specs.Items.{declaration_view}
-use Rattle.scopes.proofs.Given.{generics_are}
+use Rattle.scopes.proofs.Laws.{generics_are}
 use Rattle.declaration_schemas.proofs.schema.generics_of.Goals as goal
 
 pub returns : goal.returns

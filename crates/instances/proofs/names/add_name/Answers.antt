@@ -4,8 +4,9 @@ use Rattle.std.specs.String.{string_cmp}
 use Rattle.std.specs.Map.{update}
 use Rattle.std.specs.Cmp.Lexicographic.{slice_cmp}
 use Rattle.std.proofs.lemmas.Map.Text.{btree_map_updates_text}
+use Rattle.texts.proofs.Laws.{ok_before, none_from}
 use Rattle.instances.specs.Numbers.{AreNamed}
-use Rattle.instances.proofs.Places.{ok_before, none_from, named-more}
+use Rattle.instances.proofs.Places.{named-more}
 use Rattle.instances.proofs.names.add_name.Goals as goal
 
 pub returns-in-Some-clause-earlier : goal.returns-in-Some-clause-earlier

@@ -1,7 +1,8 @@
 use Rattle.std.proofs.Common.{ap, sym, ◌∙◌}
 use Rattle.shapes.specs.Views.{declaration_view}
-use Rattle.instances.proofs.DeclaredAt.{declared-at, nameless-past}
+use Rattle.instances.proofs.DeclaredAt.{nameless-past}
 use Rattle.instances.proofs.names.declared_name.Goals as goal
+use Rattle.instances.proofs.Laws.{declared-at}
 
 pub returns-in-Some : goal.returns-in-Some
 returns-in-Some c =

@@ -2,7 +2,8 @@ use Rattle.std.proofs.Common.{◌≡◌, ◌∙◌, ◌<◌, ℕ, List, ◌++◌
 use Rattle.open_types.specs.Open.{Open}
 use Rattle.shapes.specs.InstanceNames.{instance_name}
 use Rattle.shapes.specs.Views.{declaration_view}
-use Rattle.instances.proofs.Places.{none_from, place-found, name-at, name-push}
+use Rattle.texts.proofs.Laws.{none_from, place-found}
+use Rattle.instances.proofs.Places.{name-at, name-push}
 use Rattle.instances.proofs.names.instance_names.Goals as goal
 
 pub returns-in-Some : goal.returns-in-Some

@@ -5,10 +5,10 @@ use Rattle.shapes.specs.Instances.{places_at}
 use Rattle.shapes.specs.Views.{declaration_view}
 use Rattle.instances.specs.Lists.{IsOneOf, instance_at}
 use Rattle.instances.specs.Entering.{AreHeld, roots_among}
-use Rattle.instances.proofs.NameLaws.{at-one}
 use Rattle.instances.proofs.Numbers.{id-within, id-type}
 use Rattle.instances.proofs.Walks.{walked-whole, no-fewer, roots-still, places-more}
 use Rattle.instances.proofs.walk.enter_all.Goals as goal
+use Rattle.instances.proofs.Laws.{at-one}
 
 pub loop-number-init : goal.loop-number-init
 loop-number-init c =

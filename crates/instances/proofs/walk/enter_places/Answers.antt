@@ -5,15 +5,16 @@ use Rattle.open_types.specs.declared.open_type.OpenType.{OpenType}
 use Rattle.open_types.specs.Open.{Open, open_view, substituted, IsOverFirst}
 use Rattle.open_types.specs.Instances.{StandsInOne, declared_place, arguments_of, count}
 use Rattle.type_table.specs.Types.{type_at, types_at, AllBelow}
+use Rattle.type_table.proofs.Laws.{below_front, types_front}
 use Rattle.shapes.specs.Declarations.{DeclarationOf, declaration_at, body_types}
 use Rattle.shapes.specs.Instances.{places_at}
 use Rattle.shapes.specs.InstanceShape.{stands}
 use Rattle.shapes.specs.Views.{declaration_view}
 use Rattle.instances.specs.Fitting.{IsFit}
 use Rattle.instances.specs.Entering.{IsWalked}
-use Rattle.instances.proofs.DeclaredAt.{declared-at}
-use Rattle.instances.proofs.Walks.{below-up, below-front, types-front, counted-arguments, mapped-at, fit-within, all-places, place-over, place-stands, taken-none, taken-more, walked-none, walked-twice}
+use Rattle.instances.proofs.Walks.{below-up, counted-arguments, mapped-at, fit-within, all-places, place-over, place-stands, taken-none, taken-more, walked-none, walked-twice}
 use Rattle.instances.proofs.walk.enter_places.Goals as goal
+use Rattle.instances.proofs.Laws.{declared-at}
 
 abbrev view : Bor OpenType → Open
 view ty = open_view ty.now
@@ -57,7 +58,7 @@ pub enter_place-requires-clause-numbers : goal.enter_place-requires-clause-numbe
 enter_place-requires-clause-numbers c =
     let known = c.args.types.now in
     subst (AllBelow (length c.loop-ty.types)) (sym c.as_slice-arguments.ensures)
-    (below-front known c.loop-ty.types c.in_ok-ids.ids c.loop-ty.invariant.front (below-up c.args.id known c.in_ok-ids.ids c.requires.within c.in_ok-ids.ensures.below))
+    (below_front known c.loop-ty.types c.in_ok-ids.ids c.loop-ty.invariant.front (below-up c.args.id known c.in_ok-ids.ids c.requires.within c.in_ok-ids.ensures.below))
 
 pub enter_place-requires-clause-found : goal.enter_place-requires-clause-found
 enter_place-requires-clause-found c = c.loop-ty.invariant.found
@@ -77,7 +78,7 @@ enter_place-requires-clause-reached c =
     let within : n < length (map view items) = omega (arith, at, length-map items view) in
     let here : view item ≡ get_or (map view items) n (view item) = ap view c.ty-item.is ∙ sym (mapped-at view items n item at) in
     let args : types_at c.loop-ty.types c.as_slice-arguments.result.now ≡ arguments_of t =
-    ap (types_at c.loop-ty.types) c.as_slice-arguments.ensures ∙ types-front known c.loop-ty.types c.in_ok-ids.ids c.loop-ty.invariant.front (below-up c.args.id known c.in_ok-ids.ids c.requires.within c.in_ok-ids.ensures.below) ∙ c.in_ok-ids.ensures.arguments in
+    ap (types_at c.loop-ty.types) c.as_slice-arguments.ensures ∙ types_front known c.loop-ty.types c.in_ok-ids.ids c.loop-ty.invariant.front (below-up c.args.id known c.in_ok-ids.ids c.requires.within c.in_ok-ids.ensures.below) ∙ c.in_ok-ids.ensures.arguments in
     λ u s. stands t u c.requires.reached (place-stands ss c.requires.fitting t fit (map view items) are n (view item) within here u (subst (λ ts. StandsInOne u (substituted ts (view item) ∷ [])) args s))
 
 pub loop-ty-preserved : goal.loop-ty-preserved
@@ -93,7 +94,7 @@ loop-ty-preserved c =
     let after = c.enter_place.new.types in
     let new = c.enter_place.new.found in
     let args : types_at c.loop-ty.types c.as_slice-arguments.result.now ≡ arguments_of t =
-    ap (types_at c.loop-ty.types) c.as_slice-arguments.ensures ∙ types-front known c.loop-ty.types c.in_ok-ids.ids c.loop-ty.invariant.front (below-up c.args.id known c.in_ok-ids.ids c.requires.within c.in_ok-ids.ensures.below) ∙ c.in_ok-ids.ensures.arguments in
+    ap (types_at c.loop-ty.types) c.as_slice-arguments.ensures ∙ types_front known c.loop-ty.types c.in_ok-ids.ids c.loop-ty.invariant.front (below-up c.args.id known c.in_ok-ids.ids c.requires.within c.in_ok-ids.ensures.below) ∙ c.in_ok-ids.ensures.arguments in
     let one : IsWalked ss c.args.bounds c.loop-ty.types c.loop-ty.found.instances after new (put (view item) ∷ []) =
     subst (λ ts. IsWalked ss c.args.bounds c.loop-ty.types c.loop-ty.found.instances after new (substituted ts (view item) ∷ [])) args c.in_ok-enter_place.ensures.walked in
     subst (IsWalked ss c.args.bounds known old after new) (sym (taken-more view put items n item c.loop-ty-test.true c.ty-item.is))

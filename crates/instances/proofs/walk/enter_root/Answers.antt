@@ -5,9 +5,9 @@ use Rattle.open_types.specs.Instances.{StandsInOne}
 use Rattle.shapes.specs.Declarations.{parameters_in}
 use Rattle.shapes.specs.Views.{declaration_view}
 use Rattle.instances.specs.Entering.{IsWalked, root_at}
-use Rattle.instances.proofs.DeclaredAt.{declared-at}
 use Rattle.instances.proofs.Walks.{walked-none, root-none, root-one, root-reached}
 use Rattle.instances.proofs.walk.enter_root.Goals as goal
+use Rattle.instances.proofs.Laws.{declared-at}
 
 pub returns-then-declared-place-ne0-clause-walked : goal.returns-then-declared-place-ne0-clause-walked
 returns-then-declared-place-ne0-clause-walked c =

@@ -1,5 +1,5 @@
 use Rattle.std.proofs.Common.{arith}
-use Rattle.literals.proofs.Codes.{code_fits}
+use Rattle.literals.proofs.Laws.{code_fits}
 use Rattle.literal_values.proofs.escapes.code.Goals as goal
 
 pub overflow_mul-number : goal.overflow_mul-number

@@ -6,8 +6,9 @@ use Rattle.std.specs.Cmp.Lexicographic.{slice_cmp}
 use Rattle.std.proofs.lemmas.List.{length-map, length-take-le}
 use Rattle.std.proofs.lemmas.Map.Text.{btree_map_updates_text}
 use Rattle.texts.specs.Names.{place_in}
+use Rattle.texts.proofs.Laws.{places_more, places_stay, ok_before}
 use Rattle.scopes.specs.Names.{texts}
-use Rattle.scopes.proofs.PlaceLaws.{places_more, places_stay, texts_grown, length-texts, ok_before}
+use Rattle.scopes.proofs.PlaceLaws.{texts_grown, length-texts}
 use Rattle.scopes.proofs.names.first_places.Goals as goal
 
 pub loop-at-preserved-in-Some : goal.loop-at-preserved-in-Some

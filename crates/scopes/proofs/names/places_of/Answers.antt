@@ -9,8 +9,9 @@ use Rattle.std.proofs.lemmas.Map.Text.{btree_map_updates_text}
 use Rattle.diag.specs.Refusal.{IsRefusal}
 use Rattle.diag.specs.declared.kind.Kind.TheVariants.{DuplicateName}
 use Rattle.texts.specs.Names.{IsDistinct, place_in}
+use Rattle.texts.proofs.Laws.{places_more, distinct-push, ok_before, none_from}
 use Rattle.scopes.specs.Names.{texts, duplicate_message}
-use Rattle.scopes.proofs.PlaceLaws.{places_more, distinct-push, is_in-from_place, texts_grown, length-texts, map-split, none_from, ok_before, distinct_once}
+use Rattle.scopes.proofs.PlaceLaws.{is_in-from_place, texts_grown, length-texts, map-split, distinct_once}
 use Rattle.scopes.proofs.names.places_of.Goals as goal
 
 pub returns-in-Some-clause-refused : goal.returns-in-Some-clause-refused

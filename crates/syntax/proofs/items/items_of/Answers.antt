@@ -4,8 +4,7 @@ use Rattle.std.proofs.lemmas.List.{map_push, append-nil}
 use Rattle.std.specs.Option.{option_map}
 use Rattle.words.specs.Words.{Word, words_view}
 use Rattle.words.specs.Reading.{Fault}
-use Rattle.words.proofs.Many.{SoFar, ends, goes_on, many_start, many_done, many_turn, many_fails}
-use Rattle.words.proofs.Turns.{length_view}
+use Rattle.words.proofs.Laws.{SoFar, ends, goes_on, many_start, many_done, many_turn, many_fails, length_view}
 use Rattle.syntax.specs.declared.item.Declaration.{Declaration}
 use Rattle.syntax.specs.Items.{DeclaredItem, declaration_view}
 use Rattle.syntax.specs.ItemDepth.{within_levels}

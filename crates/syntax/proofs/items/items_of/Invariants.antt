@@ -1,6 +1,6 @@
 use Rattle.std.proofs.Common.{length, map}
 use Rattle.words.specs.Words.{words_view}
-use Rattle.words.proofs.Many.{SoFar}
+use Rattle.words.proofs.Laws.{SoFar}
 use Rattle.syntax.specs.Items.{declaration_view}
 use Rattle.syntax.specs.ItemDepth.{within_levels}
 use Rattle.syntax.specs.ItemReading.{kept, item_at, items_at}

@@ -1,6 +1,6 @@
 use Rattle.std.proofs.Common.{refl}
 use Rattle.std.proofs.lemmas.Result.{err_from_is_err_and}
-use Rattle.attributes.proofs.Idents.{first_fails}
+use Rattle.attributes.proofs.Laws.{first_fails}
 use Rattle.syntax.specs.ItemReading.{enum_body_at}
 use Rattle.syntax.proofs.variants.enum_body_at.Goals as goal
 

@@ -2,7 +2,7 @@ use Rattle.std.proofs.Common.{◌≡◌, ◌<◌, ◌≤◌, ◌++◌, ◌∷◌
 use Rattle.std.proofs.lemmas.Result.{err_from_is_err_and}
 use Rattle.std.proofs.lemmas.List.{map_push}
 use Rattle.words.specs.Words.{words_view}
-use Rattle.words.proofs.Turns.{length_view}
+use Rattle.words.proofs.Laws.{length_view}
 use Rattle.type_grammar.specs.Reading.{ends_at}
 use Rattle.type_grammar.proofs.Lists.{list_start, list_done, list_last, list_turn, list_fails}
 use Rattle.type_grammar.proofs.ended_list.list_until.Goals as goal

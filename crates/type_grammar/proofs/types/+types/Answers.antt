@@ -5,9 +5,9 @@ use Rattle.written_types.specs.Written.{written_view, segment_view, argument_vie
 use Rattle.words.specs.Words.{words_view}
 use Rattle.type_grammar.specs.declared.starts.Bounds.TheVariants.{Any}
 use Rattle.type_grammar.specs.Reading.{type_in, argument_at, ends_list}
-use Rattle.words.proofs.Turns.{length_view}
+use Rattle.words.proofs.Laws.{length_view, like_fails}
 use Rattle.type_grammar.proofs.Lists.{list_start, list_done, list_last, list_turn, list_fails}
-use Rattle.type_grammar.proofs.Chains.{segments_last, segments_turn, segments_fail, bounds_done, bounds_turn, bounds_fail, fails_as}
+use Rattle.type_grammar.proofs.Chains.{segments_last, segments_turn, segments_fail, bounds_done, bounds_turn, bounds_fail}
 use Rattle.type_grammar.proofs.Sound.{segment_shortens, bound_shortens}
 use Rattle.type_grammar.proofs.types.+types.Goals as goal
 
@@ -111,7 +111,7 @@ bounds_at-returns-in_err-bound-in-Some-clause-value t c =
     let p = err_from_is_err_and c.from_residual.result c.from_residual.ensures.1 in
     let last = unwrap_or c.bounds.later c.args.first in
     rw (p.1, p.2)
-    (fails_as c.bounds.invariant.1 c.in_err-bound-in-Some.field-0.0
+    (like_fails c.in_err-bound-in-Some.field-0.0 (sym c.bounds.invariant.1)
     (bounds_fail (type_in c.args.left) (bound_shortens c.args.left) last (words_view c.bounds.rest.now) (words_view c.in-Some.inside.now) c.in_err-bound-in-Some.field-0.0 c.in-Some.ensures.value c.in_err-bound-in-Some.ensures.value))
 
 pub bounds_at-bounds-preserved : goal.bounds_at-bounds-preserved

@@ -1,7 +1,7 @@
-use Rattle.std.proofs.Common.{arith, rules, ◌≡◌, ◌∙◌, ◌<◌, sym, ap, subst, length, map, get_or, take}
+use Rattle.std.proofs.Common.{arith, rules, ◌∙◌, ◌<◌, sym, ap, subst, length, map, get_or}
 use Rattle.std.proofs.lemmas.List.{take_all}
 use denote.Param.Weighed.{at_most}
-use Rattle.open_types.specs.Open.{opens_of, open_view}
+use Rattle.open_types.specs.Open.{opens_of}
 use Rattle.type_table.specs.Types.{type_at}
 use Rattle.type_table.proofs.Chains.{types-are}
 use Rattle.type_table.proofs.Fronts.{argument_within}

@@ -1,8 +1,9 @@
 use Rattle.std.proofs.Common.{◌∙◌, ◌<◌, ap, sym, subst, length, get_or, None}
 use Rattle.std.proofs.lemmas.List.{get_or_default}
 use Rattle.open_types.specs.Open.{open_view}
+use Rattle.type_table.proofs.Laws.{not-listed}
 use Rattle.instances.specs.Lists.{number_in}
-use Rattle.instances.proofs.Numbers.{number-found, number-missing, found-type, missing-type}
+use Rattle.instances.proofs.Numbers.{number-found, number-missing, found-type}
 use Rattle.instances.proofs.reach.Reach.number.Goals as goal
 
 pub returns-in_err-id : goal.returns-in_err-id
@@ -10,7 +11,7 @@ returns-in_err-id c =
     let known = c.self.inside.types in
     let t = open_view c.args.ty.now in
     c.from_residual.ensures
-    ∙ sym (number-missing c.same_types_are_equal.ensures known c.stand_apart.ensures.apart t c.self.inside.instances c.self.invariant.within (missing-type known t c.in_err-id.ensures))
+    ∙ sym (number-missing c.same_types_are_equal.ensures known c.stand_apart.ensures.apart t c.self.inside.instances c.self.invariant.within (not-listed known t c.in_err-id.ensures))
     ∙ ap (λ is. number_in is t) c.self.view_is
 
 pub returns : goal.returns

@@ -1,6 +1,6 @@
 use Rattle.std.proofs.Common.{refl}
 use Rattle.std.proofs.lemmas.Result.{err_from_is_err_and}
-use Rattle.attributes.proofs.Idents.{first_fails}
+use Rattle.attributes.proofs.Laws.{first_fails}
 use Rattle.syntax.specs.ItemReading.{variant_at}
 use Rattle.syntax.proofs.variants.EnumVariantReadItem.item_at.Goals as goal
 

@@ -1,4 +1,4 @@
-use Rattle.std.proofs.Common.{arith, ◌≡◌, ◌∙◌, ◌<◌, sym, ap, List, subst}
+use Rattle.std.proofs.Common.{arith, ◌∙◌, ◌<◌, sym, ap, List, subst}
 use Rattle.open_types.specs.Open.{Open, Opens}
 use Rattle.type_table.specs.Nodes.{items_of}
 use Rattle.type_table.specs.Types.{type_at, AllBelow}

@@ -1,8 +1,0 @@
-use Rattle.literals.proofs.LiteralLaws.{literal_sound, literal_reads}
-use Rattle.literals.proofs.laws.literals_are_longest.Goals as goal
-
-pub returns-clause-sound : goal.returns-clause-sound
-returns-clause-sound c = literal_sound
-
-pub returns-clause-longest : goal.returns-clause-longest
-returns-clause-longest c = literal_reads

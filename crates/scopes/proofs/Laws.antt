@@ -1,0 +1,6 @@
+-- Laws of what is known in a scope, for other crates.
+
+-- the generic parameters of a declaration that is there
+pub use Rattle.scopes.proofs.Given.{generics_are}
+-- the place of a name is one of the identifiers
+pub use Rattle.scopes.proofs.Given.{place_below}

@@ -1,5 +1,0 @@
-use Rattle.syntax.proofs.Answered.{one}
-use Rattle.syntax.proofs.laws.one_reading.Goals as goal
-
-pub returns : goal.returns
-returns c = one c.one_cut.ensures

@@ -1,5 +1,0 @@
-use Rattle.syntax.proofs.Named.{source_named}
-use Rattle.syntax.proofs.laws.read_fields_are_named.Goals as goal
-
-pub returns : goal.returns
-returns c = λ source ds read. source_named read.2
