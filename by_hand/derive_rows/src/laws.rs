@@ -40,6 +40,10 @@ fn of_schemas() {
     schema_core::forms_accept();
     schema_core::forms_refer();
     schema_core::documents_hold();
+    schema_core::texts_are_one();
+    schema_core::documents_are_one();
+    schema_core::texts_read_back();
+    schema_core::documents_are_held();
     schema_core::type_words_are_equal();
     component::references_are_leaves();
     shapes::shapes_deepen();

@@ -2,9 +2,14 @@ pub mod EntryLaws
 pub mod Fields
 pub mod Forms
 pub mod Found
+pub mod Held
+pub mod OneText
 pub mod Puts
+pub mod ReadBack
 pub mod Refers
 pub mod Values
+mod Examples
+mod InOrder
 mod Placed
 mod Plain
 mod Writes

@@ -1,7 +1,9 @@
 pub mod Document
 pub mod Entries
 pub mod Form
+pub mod Held
 pub mod Meaning
 pub mod Members
+pub mod OneText
 pub mod proved
 pub mod Writes

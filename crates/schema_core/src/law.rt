@@ -1,6 +1,8 @@
 //! What rests on the definitions alone: laws that callers rely on, as contracts of functions that do nothing.
 
 ghost use Rattle.schema_core.specs.Meaning.{FormsAccept, FormsRefer, DocumentsHold};
+ghost use Rattle.schema_core.specs.Held.{DocumentsAreHeld};
+ghost use Rattle.schema_core.specs.OneText.{OneText, OneDocument, TextsReadBack};
 
 /// The JSON of a schema accepts a value exactly if the tree does.
 pub fn forms_accept()
@@ -15,4 +17,24 @@ pub fn forms_refer()
 /// A component is found in the document under its name, and no other is.
 pub fn documents_hold()
     ensures { DocumentsHold }
+{}
+
+/// Two JSON values of one text are equal, however deep they nest, where their numbers fit 64 bits.
+pub fn texts_are_one()
+    ensures { OneText }
+{}
+
+/// Two documents of one text have the same components, the names and the JSON of each, where their numbers fit 64 bits.
+pub fn documents_are_one()
+    ensures { OneDocument }
+{}
+
+/// The text of a value that `serde_json` can hold reads as that value, where it nests no deeper than is read.
+pub fn texts_read_back()
+    ensures { TextsReadBack }
+{}
+
+/// A document is a value that `serde_json` can hold where each value that stands in its schemas is one.
+pub fn documents_are_held()
+    ensures { DocumentsAreHeld }
 {}
