@@ -181,8 +181,39 @@ fn declared_place(types: &Types, id: TypeId) -> usize
     }
 }
 
-/// Enters the type with the arguments in the places of its parameters.
+/// Enters what stands in the type with the arguments in the places of its parameters. Of a type around another it is this that
+/// is entered. It recurses as deep as types nest.
+#[cycle(place)]
 fn enter_place(
+    declared: &[Declaration],
+    types: &mut Types,
+    bounds: Bounds,
+    found: &mut Found,
+    ty: &OpenType,
+    arguments: &[TypeId],
+) -> Result<(), WalkError>
+    requires over { IsOverFirst (length arguments.now) (open_view ty.now) }
+    requires numbers { AllBelow (length types.old) arguments.now }
+    requires found { AreFound (map declaration_view declared.now) types.old bounds found.old }
+    requires reached { AreAllReached (map declaration_view declared.now)
+        (substituted (types_at types.old arguments.now) (open_view ty.now) ∷ []) }
+    ensures walked { OnOk result (IsWalked (map declaration_view declared.now) bounds
+        types.old found.old.instances types.new found.new
+        (substituted (types_at types.old arguments.now) (open_view ty.now) ∷ [])) }
+    ensures beyond { IfErr result
+        (IsWalkError (map declaration_view declared.now) bounds.limit bounds.most) }
+{
+    match ty {
+        OpenType::Items(_, of) => enter_place(declared, types, bounds, found, of, arguments),
+        OpenType::Set(_, of) => enter_place(declared, types, bounds, found, of, arguments),
+        OpenType::Option(of) => enter_place(declared, types, bounds, found, of, arguments),
+        OpenType::Through(_, of) => enter_place(declared, types, bounds, found, of, arguments),
+        _ => enter_type(declared, types, bounds, found, ty, arguments),
+    }
+}
+
+/// Enters the type with the arguments in the places of its parameters.
+fn enter_type(
     declared: &[Declaration],
     types: &mut Types,
     bounds: Bounds,

@@ -5,7 +5,7 @@ use Rattle.type_table.specs.Types.{type_at, types_at}
 use Rattle.shapes.specs.Views.{declaration_view}
 use Rattle.instances.specs.Entering.{IsWalked}
 use Rattle.instances.proofs.Walks.{entered-front, walked-before}
-use Rattle.instances.proofs.walk.enter_place.Goals as goal
+use Rattle.instances.proofs.walk.enter_type.Goals as goal
 
 pub enter_grown-requires-clause-found : goal.enter_grown-requires-clause-found
 enter_grown-requires-clause-found c =
