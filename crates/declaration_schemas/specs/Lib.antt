@@ -1,2 +1,2 @@
-pub mod Annotations
+pub mod Made
 pub mod Schemas

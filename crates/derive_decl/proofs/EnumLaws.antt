@@ -1,7 +1,9 @@
 -- Variants of enums: their names, and what is refused where none has fields.
-use Rattle.std.proofs.Common.{ℕ, List, [], ◌∷◌, map, Bool, true, false, ◌&&◌, cond, Option, Some, None, option_map, option_and_then, ◌≡◌, ◌∙◌, refl, ap, sym, subst, inl, inr}
+use Rattle.std.proofs.Common.{ℕ, List, [], ◌∷◌, map, Bool, true, false, ◌&&◌, cond, Option, Some, None, option_map, option_and_then, Result, IfOk, ◌≡◌, ◌∙◌, refl, ap, sym, subst, inl, inr}
 use Rattle.std.proofs.lemmas.Bool.{false≢true}
 use Rattle.std.proofs.lemmas.Option.{none-some, same_Some}
+use Rattle.std.proofs.lemmas.Result.{IfOk-weaker, IfErr-weaker}
+use Rattle.diag.specs.Refusal.{Refuses, IsErrorFor}
 use Rattle.diag.specs.declared.error.DeriveError.{DeriveError}
 use Rattle.diag.specs.declared.rename_rule.RenameRule.{RenameRule}
 use Rattle.texts.specs.Lists.{Somewhere}
@@ -12,14 +14,16 @@ use Rattle.written_types.specs.declared.written.Ident.{Ident}
 use Rattle.syntax.specs.Items.{FieldItems, named, unnamed, unit, VariantItem}
 use Rattle.scopes.specs.Names.{texts}
 use Rattle.shapes.specs.declared.tagging.Tagging.{Tagging}
+use Rattle.shapes.specs.declared.declaration.Body.{Body}
 use Rattle.shapes.specs.Declarations.{no_fields, BodyOf, variant_names}
+use Rattle.shapes.specs.Views.{body_view}
 use Rattle.derive_decl.specs.declared.written_variant.WrittenVariant.{WrittenVariant}
 use Rattle.serde_names.specs.Kept.{is_kept_variant, kept_variants}
 use Rattle.serde_names.specs.Names.{named_at}
 use Rattle.derive_decl.specs.Fields.{are_allowed}
 use Rattle.derive_decl.specs.Variants.{tagging_in, is_unit, are_units}
 use Rattle.derive_decl.specs.Resolved.{Around, form_of, enum_by}
-use Rattle.derive_decl.specs.Faults.{AreFaultyFields, IsUnnamed, IsFaultyVariant, AreUnnamed, AreFaultyVariants, IsFaultyEnum}
+use Rattle.derive_decl.specs.Faults.{AreFaultyFields, IsUnnamed, IsFaultyVariant, AreUnnamed, AreFaultyVariants, IsFaultyTagging, IsFaultyBy, IsFaultyPlain, IsFaultyEnum}
 use Rattle.derive_decl.specs.Tags.{IsMisplacedTag}
 use Rattle.derive_decl.specs.Views.{written_variant_view}
 use Rattle.derive_decl.proofs.TagLaws.{alone-tag}
@@ -74,12 +78,22 @@ module _ (around : Around) (rule : Option RenameRule) (tagging : Tagging) (e : D
 
 -- ---- the whole enum
 
-module _ (around : Around) (items : List SerdeItem) (x : Ident) (vs : List VariantItem) (rule : Option RenameRule) (tagging : Tagging) (told : tagging_in items ≡ Some tagging) (rules : rule ≡ rename_rule items) where
-  pub enum_refused : (e : DeriveError) → AreFaultyVariants around rule tagging vs e → IsFaultyEnum around items x vs e
-  enum_refused e fault = inr (tagging, told, subst (λ r. AreFaultyVariants around r tagging vs e) rules fault)
+-- an answer that refuses serde's items refuses the enum
+pub untold : (items : List SerdeItem) (x : Ident) (faulty : Option RenameRule → Tagging → DeriveError → Type 0) (e : DeriveError) → IsErrorFor (IsFaultyTagging items x) e → IsErrorFor (IsFaultyBy items x faulty) e
+untold items x faulty e (inl memory) = inl memory
+untold items x faulty e (inr fault) = inr (inl fault)
 
 -- an enum is what it is by its rule of names and by how its values tell their variant
-pub enum_is : (items : List SerdeItem) (of : Option RenameRule → Tagging → Option BodyOf) (rule : Option RenameRule) (tagging : Tagging) (body : BodyOf) → are_allowed items ≡ true → rule ≡ rename_rule items → tagging_in items ≡ Some tagging →
-    of rule tagging ≡ Some body → enum_by items of ≡ Some body
-enum_is items of rule tagging body allowed rules told is =
-    ap (λ b. cond b (option_and_then (of (rename_rule items)) (tagging_in items)) None) allowed ∙ ap (option_and_then (of (rename_rule items))) told ∙ subst (λ r. of r tagging ≡ Some body) rules is
+module _ (items : List SerdeItem) (rule : Option RenameRule) (tagging : Tagging) (rules : rule ≡ rename_rule items) (told : tagging_in items ≡ Some tagging) (r : Result Body DeriveError) where
+  pub body_by : (of : Option RenameRule → Tagging → Option BodyOf) → are_allowed items ≡ true → IfOk r (λ b. of rule tagging ≡ Some (body_view b)) → IfOk r (λ b. enum_by items of ≡ Some (body_view b))
+  body_by of allowed h =
+      IfOk-weaker r _ _ (λ b is. ap (λ a. cond a (option_and_then (of (rename_rule items)) (tagging_in items)) None) allowed ∙ ap (option_and_then (of (rename_rule items))) told ∙ subst (λ k. of k tagging ≡ Some (body_view b)) rules is) h
+
+  pub refused_by : (x : Ident) (faulty : Option RenameRule → Tagging → DeriveError → Type 0) → Refuses r (faulty rule tagging) → Refuses r (IsFaultyBy items x faulty)
+  refused_by x faulty h = IfErr-weaker r _ _ (λ e fault. elim fault [ inl memory ↦ inl memory | inr h ↦ inr (inr (tagging, told, subst (λ k. faulty k tagging e) rules h)) ]) h
+
+-- what refuses an enum by its names refuses it
+pub plain_faulty : (around : Around) (items : List SerdeItem) (x : Ident) (vs : List VariantItem) (e : DeriveError) → IsErrorFor (IsFaultyPlain around items x vs) e → IsErrorFor (IsFaultyEnum around items x vs) e
+plain_faulty around items x vs e (inl memory) = inl memory
+plain_faulty around items x vs e (inr (inl fault)) = inr (inl fault)
+plain_faulty around items x vs e (inr (inr (tagging, told, fault))) = inr (inr (tagging, told, unnamed-faulty around (rename_rule items) tagging e vs fault))

@@ -20,7 +20,7 @@ use syntax::Variant;
 
 /// The body of an enum with these variants by their fields, where the rule is that of their names and their values are told
 /// so. It is refused as `enum_body` says of variants.
-pub fn variants_body(
+pub(crate) fn variants_body(
     alloc: Global,
     root: &Root<'_>,
     rule: Option<RenameRule>,

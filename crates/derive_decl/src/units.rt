@@ -17,7 +17,7 @@ use syntax::Variant;
 
 /// The body of an enum with these variants by their names alone, where the rule is that of their names and their values are
 /// told so. It is refused as `enum_body` says of names.
-pub fn units_body(
+pub(crate) fn units_body(
     alloc: Global,
     root: &Root<'_>,
     rule: Option<RenameRule>,

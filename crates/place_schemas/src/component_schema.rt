@@ -129,11 +129,7 @@ impl ToTerm for ComponentSchema {
     ghost use Rattle.std.specs.Prelude.{◌≡◌};
     ghost use Rattle.component.specs.Leaves.{term_view};
 
-    ghost is_ready = { λ _. Unit {0} };
-
     ghost has_term = { λ made s. s ≡ term_view made.term };
-
-    ghost is_refused = { λ _ _. ⊥ };
 
     fn to_term(&self, alloc: Global) -> Result<Term, DeriveError> {
         Ok(copy_term(alloc, &self.term)?)

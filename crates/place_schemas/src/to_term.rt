@@ -12,14 +12,14 @@ use std::alloc::Global;
 
 /// What has a term.
 pub trait ToTerm {
-    /// What is asked of the value.
-    ghost is_ready: { Self → Type 0 };
+    /// What is asked of the value: nothing, unless it says more.
+    ghost is_ready: { Self → Type 0 } = { λ _. Unit {0} };
 
     /// What its term says.
     ghost has_term: { Self → SchemaOf LeafOf → Type 0 };
 
-    /// Why it has none.
-    ghost is_refused: { Self → AnyError → Type 0 };
+    /// Why it has none: for nothing but want of memory, unless it says more.
+    ghost is_refused: { Self → AnyError → Type 0 } = { λ _ _. ⊥ };
 
     fn to_term(&self, alloc: Global) -> Result<Term, DeriveError>
         requires { is_ready self.now }

@@ -10,7 +10,7 @@ ghost use Rattle.terms.specs.Terms.{tag_alone, tags_term, units_term, body_term,
 
 use crate::form::form_term;
 use crate::tagged::{null_term, tag_alone, texts_schema};
-use crate::variant_term::variant_terms;
+use crate::variants::variant_terms;
 use component::{Term, annotated};
 use schema_trees::{Annotations as SchemaAnnotations, OneOfSchema, Tree};
 use shapes::{Annotations, Body, Declaration, Tagging, Variant};

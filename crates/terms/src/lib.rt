@@ -2,15 +2,18 @@
 #![tactic(auto)]
 
 mod body;
-mod field_term;
+mod field;
 mod form;
 mod law;
 mod named_fields;
 mod object;
 mod tagged;
 mod unnamed_fields;
-mod variant_term;
+mod variants;
 
 pub use body::{body_term, declaration_term};
+pub use field::field_term;
 pub use form::form_term;
 pub use law::{instance_terms_accept, places_accept, root_terms, terms_accept};
+pub use tagged::{requiring, texts_schema};
+pub use variants::{tagged_fields, variant_term};

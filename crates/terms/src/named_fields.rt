@@ -8,7 +8,7 @@ ghost use Rattle.shapes.specs.Views.{member_view};
 ghost use Rattle.open_types.specs.Open.{open_view};
 ghost use Rattle.terms.specs.Terms.{field_term, properties_of, required_names, form_term, internal_term, tag_schema, with_property};
 
-use crate::field_term::field_term;
+use crate::field::field_term;
 use crate::object::object_term;
 use crate::tagged::{push_name, push_tag};
 use component::{Term, annotated};

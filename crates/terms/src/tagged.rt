@@ -49,7 +49,7 @@ fn texts_object(alloc: Global, keywords: SchemaAnnotations, texts: List<Json>) -
 }
 
 /// One of the names.
-pub(crate) fn texts_schema(
+pub fn texts_schema(
     alloc: Global,
     keywords: SchemaAnnotations,
     names: &[Text],
@@ -125,7 +125,7 @@ fn one_property(alloc: Global, name: &Text, schema: Term) -> Result<List<(Text, 
 }
 
 /// An object that has this member, and perhaps others.
-pub(crate) fn requiring(
+pub fn requiring(
     alloc: Global,
     keywords: SchemaAnnotations,
     name: &Text,

@@ -6,7 +6,7 @@ ghost use Rattle.schema_trees.specs.Schema.{tree_views, array_items_view};
 ghost use Rattle.component.specs.Leaves.{leaf_view, term_view};
 ghost use Rattle.terms.specs.Terms.{are_all, list_of_length, alike_term, field_terms, mixed_term, unnamed_term};
 
-use crate::field_term::{field_term, unannotated_term};
+use crate::field::{field_term, unannotated_term};
 use component::{Term, TermLeaf, annotated};
 use open_types::OpenType;
 use schema_trees::{Annotations as SchemaAnnotations, Array, ArrayItems, Bound, Tree};

@@ -1,34 +1,35 @@
-use Rattle.std.proofs.Common.{map, inl, inr}
-use Rattle.std.proofs.lemmas.Result.{IfOk-weaker, IfErr-weaker, err_from_is_err_and}
+use Rattle.std.proofs.Common.{◌≡◌, ◌∙◌, map, true, false, cond, ap, sym}
+use Rattle.std.proofs.lemmas.Result.{IfOk-weaker, IfErr-weaker}
 use Rattle.syntax.specs.Items.{variant_view}
-use Rattle.shapes.specs.Views.{body_view}
-use Rattle.derive_decl.specs.Resolved.{enum_of}
+use Rattle.derive_decl.specs.Variants.{are_units}
+use Rattle.derive_decl.specs.Resolved.{units_of, mixed_of, enum_by}
 use Rattle.derive_decl.specs.Views.{items_of, known}
-use Rattle.derive_decl.proofs.EnumLaws.{enum_is, enum_refused}
+use Rattle.derive_decl.proofs.EnumLaws.{plain_faulty}
 use Rattle.derive_decl.proofs.enums.enum_body.Goals as goal
 
-pub returns-in_err-rules-clause-refused : goal.returns-in_err-rules-clause-refused
-returns-in_err-rules-clause-refused c =
-    let p = err_from_is_err_and c.from_residual.result c.from_residual.ensures.1 in
-    rw (p.1, p.2)
-    (elim c.in_err-rules.ensures.refused [ inl memory ↦ inl memory | inr fault ↦ inr (inl fault) ])
+-- ---- no variant has fields
 
-pub returns-clause-refused : goal.returns-clause-refused
-returns-clause-refused c =
+pub returns-then-are_units-clause-refused : goal.returns-then-are_units-clause-refused
+returns-then-are_units-clause-refused c =
+    let root = c.args.root.now in
+    IfErr-weaker c.plain_body.result _ _ (plain_faulty (known root.container.now) (items_of root) root.ident.now (map variant_view c.args.variants.now)) c.plain_body.ensures.refused
+
+pub returns-then-are_units-clause-body : goal.returns-then-are_units-clause-body
+returns-then-are_units-clause-body c =
     let root = c.args.root.now in
     let vs = map variant_view c.args.variants.now in
-    let rules = c.in_ok-rules.rules in
-    IfErr-weaker c.told_by.result _ _
-    (λ e fault. elim fault [
-      | inl memory ↦ inl memory
-      | inr h ↦ inr (enum_refused (known root.container.now) (items_of root) root.ident.now vs rules.rule rules.tagging c.in_ok-rules.ensures.tagging c.in_ok-rules.ensures.rule e h)
-    ])
-    c.told_by.ensures.refused
+    let units : are_units vs ≡ true = sym c.are_units.ensures ∙ c.if-are_units.true in
+    IfOk-weaker c.plain_body.result _ _
+    (λ b is. ap (λ u. enum_by (items_of root) (λ rule tagging. cond u (units_of (known root.container.now) rule vs tagging) (mixed_of (known root.container.now) rule vs tagging))) units ∙ is)
+    c.plain_body.ensures.body
+
+-- ---- a variant has fields
 
 pub returns-clause-body : goal.returns-clause-body
 returns-clause-body c =
     let root = c.args.root.now in
-    let rules = c.in_ok-rules.rules in
-    IfOk-weaker c.told_by.result _ _
-    (λ b is. enum_is (items_of root) (λ rule. enum_of (known root.container.now) rule (map variant_view c.args.variants.now)) rules.rule rules.tagging (body_view b) c.in_ok-rules.ensures.allowed c.in_ok-rules.ensures.rule c.in_ok-rules.ensures.tagging is)
-    c.told_by.ensures.body
+    let vs = map variant_view c.args.variants.now in
+    let mixed : are_units vs ≡ false = sym c.are_units.ensures ∙ c.if-are_units.false in
+    IfOk-weaker c.mixed_body.result _ _
+    (λ b is. ap (λ u. enum_by (items_of root) (λ rule tagging. cond u (units_of (known root.container.now) rule vs tagging) (mixed_of (known root.container.now) rule vs tagging))) mixed ∙ is)
+    c.mixed_body.ensures.body

@@ -81,7 +81,7 @@ fn tagged_content(
 }
 
 /// The schema of unnamed fields with a tag.
-fn tagged_fields(
+pub fn tagged_fields(
     alloc: Global,
     annotations: &Annotations,
     types: &[OpenType],
@@ -146,7 +146,7 @@ fn adjacent_term(
 }
 
 /// The schema of a variant.
-fn variant_term(alloc: Global, tagging: &Tagging, variant: &Variant) -> Result<Term, AllocError>
+pub fn variant_term(alloc: Global, tagging: &Tagging, variant: &Variant) -> Result<Term, AllocError>
     ensures { IfOk result (λ t. term_view t ≡ variant_term tagging.now (variant_view variant.now)) }
 {
     match tagging {

@@ -4,7 +4,7 @@ use Rattle.std.proofs.lemmas.Simd.{map-map}
 use Rattle.schema_trees.specs.Schema.{schemas_of}
 use Rattle.terms.specs.Terms.{variant_term}
 use Rattle.shapes.specs.Views.{variant_view}
-use Rattle.terms.proofs.variant_term.variant_terms.Goals as goal
+use Rattle.terms.proofs.variants.variant_terms.Goals as goal
 
 pub returns : goal.returns
 returns c =

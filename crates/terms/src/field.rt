@@ -10,7 +10,7 @@ use shapes::Annotations;
 use std::alloc::{AllocError, Global};
 
 /// The schema of a field of the type.
-pub(crate) fn field_term(
+pub fn field_term(
     alloc: Global,
     annotations: &Annotations,
     ty: &OpenType,
