@@ -5,6 +5,7 @@ mod accepted;
 mod answers;
 mod arguments;
 mod composed;
+mod parts;
 mod reported;
 mod single_words;
 mod term_rows;
@@ -37,7 +38,7 @@ fn told(alloc: Global, row: &Row) -> anyhow::Result<String> {
         "type_text" => arguments::text(alloc, given),
         "numbers" => arguments::numbers(alloc),
         "instances" => composed::of_source(alloc, given),
-        "terms" | "place" => term_rows::of_source(alloc, row.call.as_str(), given),
+        "terms" | "parts" | "place" => term_rows::of_source(alloc, row.call.as_str(), given),
         other => bail!("no call {other}"),
     }
 }

@@ -6,6 +6,7 @@ ghost use Rattle.syntax.specs.Items.{body_view, declaration_view, declarations_v
 ghost use Rattle.syntax.specs.Named.{AreNamed, HaveNames, IsNamedBody};
 
 use crate::answers::text_or_refusal;
+use crate::parts::document;
 use component::{Term, copy_term};
 use configuration::Config;
 use declaration_schemas::{
@@ -161,6 +162,27 @@ fn places_text(alloc: Global, schema: &Schema<'_>) -> Result<String, DeriveError
     Ok(types.len().to_string(alloc)?)
 }
 
+/// The declaration by its name and attributes.
+fn root_of<'a>(first: &'a Declaration, container: &'a Container<'_>) -> Root<'a> {
+    Root {
+        ident: &first.ident,
+        attributes: first.attrs.as_slice(),
+        container,
+    }
+}
+
+/// The document of what stands in the declaration's body.
+fn of_parts(
+    alloc: Global,
+    first: &Declaration,
+    container: &Container<'_>,
+) -> Result<String, DeriveError>
+    requires { IsNamedBody (declaration_view first.now).body }
+{
+    let made = SchemaVariant::new(alloc, &first.body, &root_of(first, container))?;
+    document(alloc, &made.body)
+}
+
 /// How many places the declaration has, its form, and the forms of what it is resolved to.
 fn of_declaration(
     alloc: Global,
@@ -170,11 +192,7 @@ fn of_declaration(
     requires { IsNamedBody (declaration_view first.now).body }
 {
     let schema = Schema::new(&first.body, first.attrs.as_slice(), &first.ident, container);
-    let root = Root {
-        ident: &first.ident,
-        attributes: first.attrs.as_slice(),
-        container,
-    };
+    let root = root_of(first, container);
     let mut text = places_text(alloc, &schema)?;
     push_schema(alloc, &mut text, &schema)?;
     push_body(alloc, &mut text, &root, &first.body)?;
@@ -239,6 +257,7 @@ fn of_container(
 {
     match call {
         "place" => of_place(alloc, container, given),
+        "parts" => of_parts(alloc, first, container),
         _ => of_declaration(alloc, first, container),
     }
 }

@@ -5,7 +5,7 @@ ghost use Rattle.std.specs.Prelude.{◌≡◌};
 use component::Term;
 use diag::DeriveError;
 use place_schemas::ToTerm;
-use schema_trees::Notes;
+use schema_trees::Annotations;
 use shapes::Member;
 use std::alloc::Global;
 use terms::{field_term, requiring};
@@ -55,7 +55,7 @@ impl<'a, T> ObjectSchema<'a, T> {
 
 impl<T: ToTerm> ToTerm for ObjectSchema<'_, T> {
     ghost use Rattle.std.specs.Prelude.{◌≡◌};
-    ghost use Rattle.schema_trees.specs.Annotations.{no_notes};
+    ghost use Rattle.schema_trees.specs.Annotations.{no_annotations};
     ghost use Rattle.schema_trees.specs.Schema.{SchemaOf};
     ghost use Rattle.component.specs.Leaves.{LeafOf};
     ghost use Rattle.terms.specs.Terms.{requiring};
@@ -63,12 +63,12 @@ impl<T: ToTerm> ToTerm for ObjectSchema<'_, T> {
     ghost is_ready = { λ o. T.is_ready o.item.now };
 
     ghost has_term = { λ o t. (s : SchemaOf LeafOf) × T.has_term o.item.now s
-        × (t ≡ requiring no_notes o.name.now s) };
+        × (t ≡ requiring no_annotations o.name.now s) };
 
     ghost is_refused = { λ o e. T.is_refused o.item.now e };
 
     fn to_term(&self, alloc: Global) -> Result<Term, DeriveError> {
         let item = self.item.to_term(alloc)?;
-        Ok(requiring(alloc, Notes::new(), self.name, item)?)
+        Ok(requiring(alloc, Annotations::new(), self.name, item)?)
     }
 }

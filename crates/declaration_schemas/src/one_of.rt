@@ -4,14 +4,14 @@ ghost use Rattle.std.specs.Prelude.{◌≡◌, map, All, IfOk};
 ghost use Rattle.std.specs.List.{AllZip};
 ghost use Rattle.diag.specs.Refusal.{Refuses};
 ghost use Rattle.texts.specs.Lists.{Somewhere};
-ghost use Rattle.schema_trees.specs.Annotations.{no_notes};
+ghost use Rattle.schema_trees.specs.Annotations.{no_annotations};
 ghost use Rattle.schema_trees.specs.Schema.{one_of, schemas_of};
 ghost use Rattle.component.specs.Leaves.{term_view};
 
 use component::Term;
 use diag::DeriveError;
 use place_schemas::ToTerm;
-use schema_trees::{Notes, OneOfSchema, Tree};
+use schema_trees::{Annotations, OneOfSchema, Tree};
 use std::alloc::{AllocError, Global};
 use texts::List;
 
@@ -45,24 +45,24 @@ fn terms_of<T: ToTerm>(alloc: Global, items: &[T]) -> Result<List<Term>, DeriveE
 /// One of the schemas.
 fn one_of_terms(alloc: Global, items: List<Term>) -> Result<Term, AllocError>
     ensures { IfOk result (λ t. term_view t
-        ≡ one_of no_notes (schemas_of (map term_view items))) }
+        ≡ one_of no_annotations (schemas_of (map term_view items))) }
 {
-    let notes = Notes::new();
-    Ok(Tree::OneOf(Box::new(alloc, OneOfSchema { items, notes })?))
+    let annotations = Annotations::new();
+    Ok(Tree::OneOf(Box::new(alloc, OneOfSchema { items, annotations })?))
 }
 
 impl<T: ToTerm> ToTerm for OneOf<'_, T> {
     ghost use Rattle.std.specs.Prelude.{◌≡◌, All, List as AnyList};
     ghost use Rattle.std.specs.List.{AllZip};
     ghost use Rattle.texts.specs.Lists.{Somewhere};
-    ghost use Rattle.schema_trees.specs.Annotations.{no_notes};
+    ghost use Rattle.schema_trees.specs.Annotations.{no_annotations};
     ghost use Rattle.schema_trees.specs.Schema.{SchemaOf, one_of, schemas_of};
     ghost use Rattle.component.specs.Leaves.{LeafOf};
 
     ghost is_ready = { λ o. All T.is_ready o.items.now };
 
     ghost has_term = { λ o t. (ss : AnyList (SchemaOf LeafOf)) × AllZip T.has_term o.items.now ss
-        × (t ≡ one_of no_notes (schemas_of ss)) };
+        × (t ≡ one_of no_annotations (schemas_of ss)) };
 
     ghost is_refused = { λ o e. Somewhere (λ x. T.is_refused x e) o.items.now };
 

@@ -6,7 +6,7 @@ use component::Term;
 use diag::DeriveError;
 use open_types::OpenType;
 use place_schemas::ToTerm;
-use schema_trees::Notes;
+use schema_trees::Annotations as SchemaAnnotations;
 use shapes::{Annotations, Tagging, Variant};
 use std::alloc::Global;
 use std::slice;
@@ -104,12 +104,12 @@ impl<'a> PlainSchema<'a> {
 
 impl ToTerm for PlainSchema<'_> {
     ghost use Rattle.std.specs.Prelude.{◌≡◌};
-    ghost use Rattle.schema_trees.specs.Annotations.{no_notes};
+    ghost use Rattle.schema_trees.specs.Annotations.{no_annotations};
     ghost use Rattle.terms.specs.Terms.{texts_schema};
 
-    ghost has_term = { λ p t. t ≡ texts_schema no_notes p.names.now };
+    ghost has_term = { λ p t. t ≡ texts_schema no_annotations p.names.now };
 
     fn to_term(&self, alloc: Global) -> Result<Term, DeriveError> {
-        Ok(texts_schema(alloc, Notes::new(), self.names)?)
+        Ok(texts_schema(alloc, SchemaAnnotations::new(), self.names)?)
     }
 }

@@ -10,7 +10,7 @@ use Rattle.prepare.specs.declared.choice.Choice.{Choice}
 use Rattle.prepare.specs.declared.item.Standing.{Standing}
 use Rattle.prepare.specs.Masked.{IsBlanked}
 use Rattle.prepare.specs.Prepared.{IsFile, IsPrepared, IsNoFile}
-use Rattle.renaming.specs.Asked.{HaveNoRows}
+use Rattle.renaming.specs.Refusals.{HaveNoRows}
 use Rattle.renaming.specs.Whole.{AreWritten, HasNoText}
 use Rattle.preparing.specs.Shown.{shown}
 use Rattle.preparing.specs.Words.{Request, declarations, renames, place}

@@ -15,7 +15,7 @@ pub use Rattle.lexing.specs.Cut
 pub use Rattle.prepare.specs.Masked
 pub use Rattle.prepare.specs.Positions
 pub use Rattle.prepare.specs.Prepared
-pub use Rattle.renaming.specs.Asked
+pub use Rattle.renaming.specs.Refusals as RowRefusals
 pub use Rattle.renaming.specs.Whole
 pub use Rattle.reporting.specs.Beginning
 pub use Rattle.reporting.specs.Bytes

@@ -2,7 +2,7 @@ use Rattle.std.proofs.Common.{◌≡◌, ℕ, List, inl, inr, subst}
 use Rattle.diag.specs.declared.error.DeriveError.{DeriveError}
 use Rattle.syntax.specs.Items.{DeclaredItem}
 use Rattle.syntax.specs.Source.{Reads}
-use Rattle.renaming.specs.Asked.{HaveNoRows}
+use Rattle.renaming.specs.Refusals.{HaveNoRows}
 use Rattle.preparing.specs.Answers.{IsRefusedFor, IsSoundFor}
 use Rattle.preparing.specs.Given.{Given}
 use Rattle.preparing.specs.Refusals.{IsRefusedSource, IsSound}
