@@ -96,4 +96,4 @@ declarations_apart rows all ss is = among all ss is
     among [] ss is = subst AreApartBodies (same_Some [] ss is) tt
     among (d ∷ ds) ss is =
         let j = joined (resolved_among rows all d) (all_of (resolved_among rows all) ds) ss is in
-        subst AreApartBodies j.4 (items_apart (around_of rows all d.generics) d j.0 j.2, among ds j.1 j.3)
+        subst AreApartBodies j.4 (items_apart (around_of rows all d.ident.text d.generics) d j.0 j.2, among ds j.1 j.3)

@@ -209,4 +209,4 @@ module _ (exact : ResolutionIsExact) (once : NamesOnce) (allowed : RulesAllowed)
 
   pub declarations_clear : (rows : List RenameRow) (ds : List DeclaredItem) (ss : List DeclarationOf) → resolved_declarations rows ds ≡ Some ss → RefusesNone (AreFaultyItems rows ds)
   declarations_clear rows ds ss is =
-      all_clear (resolved_among rows ds) (λ d e. IsFaultyItem (around_of rows ds d.generics) d e) (λ d s. item_clear (around_of rows ds d.generics) d s) ds ss is
+      all_clear (resolved_among rows ds) (λ d e. IsFaultyItem (around_of rows ds d.ident.text d.generics) d e) (λ d s. item_clear (around_of rows ds d.ident.text d.generics) d s) ds ss is

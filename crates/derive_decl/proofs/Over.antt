@@ -39,7 +39,7 @@ many_names (s ∷ ss) = ap suc (many_names ss)
 -- ---- declarations
 
 -- the declaration of a declaration
-declaration_parts : (around : Around) (d : DeclaredItem) (s : DeclarationOf) → resolved_of around d ≡ Some s → (s.name ≡ d.ident.text) × (body_of around (serde_items d.attrs) d.body ≡ Some s.body) × (s.parameters ≡ around.parameters)
+declaration_parts : (around : Around) (d : DeclaredItem) (s : DeclarationOf) → resolved_of around d ≡ Some s → (s.name ≡ d.ident.text) × (body_of around (serde_items d.attrs) d.body ≡ Some s.body) × (s.parameters ≡ around.known.parameters)
 declaration_parts around d s e =
     let m = mapped (declaration_from around d.attrs d.ident) (derived_body around d.attrs d.body) s (chosen (parameters_are_distinct d.generics) (declaration_of around d.attrs d.ident d.body) s e).1 in
     let derived = chosen (are_derivable (attributes_with d.attrs d.body)) (body_of around (serde_items d.attrs) d.body) m.0 m.1 in
@@ -51,14 +51,14 @@ module _ (rows : List RenameRow) (all : List DeclaredItem) where
   declaration_names-are [] ss e = ap declaration_names (sym (same_Some [] ss e))
   declaration_names-are (d ∷ ds) ss e =
       let j = joined (resolved_among rows all d) (all_of (resolved_among rows all) ds) ss e in
-      sym (ap declaration_names j.4) ∙ ap (λ n. n ∷ declaration_names j.1) (declaration_parts (around_of rows all d.generics) d j.0 j.2).0 ∙ ap (λ ns. d.ident.text ∷ ns) (declaration_names-are ds j.1 j.3)
+      sym (ap declaration_names j.4) ∙ ap (λ n. n ∷ declaration_names j.1) (declaration_parts (around_of rows all d.ident.text d.generics) d j.0 j.2).0 ∙ ap (λ ns. d.ident.text ∷ ns) (declaration_names-are ds j.1 j.3)
 
   -- and as many parameters
   parameters-are : (ds : List DeclaredItem) (ss : List DeclarationOf) → all_of (resolved_among rows all) ds ≡ Some ss → (d : ℕ) → slice_index (parameter_counts ds) d ≡ parameters_in ss d
   parameters-are [] ss e d = subst (λ xs. 0 ≡ parameters_in xs d) (same_Some [] ss e) refl
   parameters-are (x ∷ ds) ss e d =
       let j = joined (resolved_among rows all x) (all_of (resolved_among rows all) ds) ss e in
-      subst (λ xs. slice_index (parameter_counts (x ∷ ds)) d ≡ parameters_in xs d) j.4 (by j.0 j.1 d (declaration_parts (around_of rows all x.generics) x j.0 j.2).2 (parameters-are ds j.1 j.3))
+      subst (λ xs. slice_index (parameter_counts (x ∷ ds)) d ≡ parameters_in xs d) j.4 (by j.0 j.1 d (declaration_parts (around_of rows all x.ident.text x.generics) x j.0 j.2).2 (parameters-are ds j.1 j.3))
     where
       by : (s : DeclarationOf) (ss : List DeclarationOf) (d : ℕ) → s.parameters ≡ length (type_parameters x.generics) → ((d : ℕ) → slice_index (parameter_counts ds) d ≡ parameters_in ss d) → slice_index (parameter_counts (x ∷ ds)) d ≡ parameters_in (s ∷ ss) d
       by s ss zero h later = sym h
@@ -67,13 +67,14 @@ module _ (rows : List RenameRow) (all : List DeclaredItem) where
 -- ---- types are over the declarations
 
 module _ (over : ResolvedAreOver) where
-  module _ (around : Around) (n : ℕ) (own : ℕ) (below : (k : List ℕ) (d : ℕ) → around.known.place_of k ≡ Some d → d < n) (within : (k : List ℕ) (i : ℕ) → around.known.parameter_of k ≡ Some i → i < own) where
+  module _ (around : Around) (n : ℕ) (below : (k : List ℕ) (d : ℕ) → around.known.place_of k ≡ Some d → d < n) (itself : (d : ℕ) → around.known.own ≡ Some d → d < n)
+      (within : (k : List ℕ) (i : ℕ) → around.known.parameter_of k ≡ Some i → i < around.known.parameters) where
     abbrev AreTypesOver : List Open → Type 0
-    AreTypesOver ts = AreAllOver n around.known.parameters_at own ts
+    AreTypesOver ts = AreAllOver n around.known.parameters_at around.known.parameters ts
 
     -- a resolved type is over the declarations
-    type_over : (f : FieldItem) (u : Open) → resolved_type around.known f.ty ≡ Some u → IsOver n around.known.parameters_at own u
-    type_over f u is = over around.known n own below within f.ty u (chosen (leb (size around.known f.ty) most_names) (type_of around.known f.ty) u is).1
+    type_over : (f : FieldItem) (u : Open) → resolved_type around.known f.ty ≡ Some u → IsOver n around.known.parameters_at around.known.parameters u
+    type_over f u is = over around.known n below itself within f.ty u (chosen (leb (size around.known f.ty) most_names) (type_of around.known f.ty) u is).1
 
     members_over : (rules : FieldRules) (fs : List FieldItem) (ms : List MemberOf) → all_of (member_of around rules) fs ≡ Some ms → AreTypesOver (member_types ms)
     members_over rules [] ms e = subst (λ xs. AreTypesOver (member_types xs)) (same_Some [] ms e) tt
@@ -138,14 +139,14 @@ module _ (over : ResolvedAreOver) where
         AreAllOver n (slice_index (parameter_counts all)) (parameters_in ss d) (body_types (declaration_at ss d).body)
     at_over [] ss e d l = absurd (subst (λ xs. ¬ (d < length xs)) (same_Some [] ss e) (λ h. omega arith) l)
     at_over (x ∷ ds) ss e d l =
-        let around = around_of rows all x.generics in
+        let around = around_of rows all x.ident.text x.generics in
         let j = joined (resolved_among rows all x) (all_of (resolved_among rows all) ds) ss e in
         let parts = declaration_parts around x j.0 j.2 in
         let within : (k : List ℕ) (i : ℕ) → place_in k (texts (type_parameters x.generics)) ≡ Some i → i < length (type_parameters x.generics) =
         λ k i is. place_below k (type_parameters x.generics) i is in
         subst (λ xs. d < length xs → AreAllOver n (slice_index (parameter_counts all)) (parameters_in xs d) (body_types (declaration_at xs d).body)) j.4
         (by j.0 j.1 d
-        (subst (λ m. AreAllOver n (slice_index (parameter_counts all)) m (body_types j.0.body)) (sym parts.2) (body_over around n (length (type_parameters x.generics)) below within (serde_items x.attrs) x.body j.0.body parts.1))
+        (subst (λ m. AreAllOver n (slice_index (parameter_counts all)) m (body_types j.0.body)) (sym parts.2) (body_over around n below (below x.ident.text) within (serde_items x.attrs) x.body j.0.body parts.1))
         (at_over ds j.1 j.3)) l
       where
         by : (s : DeclarationOf) (ss : List DeclarationOf) (d : ℕ) → AreAllOver n (slice_index (parameter_counts all)) s.parameters (body_types s.body) →

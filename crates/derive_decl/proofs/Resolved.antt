@@ -244,4 +244,4 @@ module _ (exact : ResolutionIsExact) (decided : NamesDecided) (rules_decided : R
 
   pub declarations_given : (rows : List RenameRow) (ds : List DeclaredItem) → AreNamed ds → RefusesNone (AreFaultyItems rows ds) → Given (resolved_declarations rows ds)
   declarations_given rows ds have none =
-      all_given (resolved_among rows ds) (λ d e. IsFaultyItem (around_of rows ds d.generics) d e) (λ d. IsNamedBody d.body) (λ d. item_given (around_of rows ds d.generics) d) ds have none
+      all_given (resolved_among rows ds) (λ d e. IsFaultyItem (around_of rows ds d.ident.text d.generics) d e) (λ d. IsNamedBody d.body) (λ d. item_given (around_of rows ds d.ident.text d.generics) d) ds have none

@@ -154,4 +154,4 @@ IsFaultyItem around d e = AreFaultyParameters d.generics e ⊎ IsFaultyDeclarati
 
 -- the error refuses one of the declarations
 abbrev pub AreFaultyItems : List RenameRow → List DeclaredItem → DeriveError → Type 0
-AreFaultyItems rows ds e = Somewhere (λ d. IsFaultyItem (around_of rows ds d.generics) d e) ds
+AreFaultyItems rows ds e = Somewhere (λ d. IsFaultyItem (around_of rows ds d.ident.text d.generics) d e) ds

@@ -7,7 +7,7 @@ use Rattle.derive_decl.specs.Resolved.{around_of, all_of, resolved_of}
 
 -- what one of these declarations is resolved to
 abbrev pub resolved_among : List RenameRow → List DeclaredItem → DeclaredItem → Option DeclarationOf
-resolved_among rows ds d = resolved_of (around_of rows ds d.generics) d
+resolved_among rows ds d = resolved_of (around_of rows ds d.ident.text d.generics) d
 
 -- what all declarations are resolved to, where each is to something
 abbrev pub resolved_declarations : List RenameRow → List DeclaredItem → Option (List DeclarationOf)

@@ -21,7 +21,7 @@ use Rattle.open_types.specs.declared.head.Head.{Head}
 use Rattle.open_types.proofs.Laws.{append, push_views, append_none}
 use Rattle.resolving.specs.Known.{Known}
 use Rattle.resolving.specs.Names.{ident_of, nameless, where_none, meaning, path_size, names_in_path, names_in, names_in_arguments, names_in_argument, names_in_types, names_in_last, names_in_segment, last_size, segment_size, is_constant_type}
-use Rattle.resolving.specs.Resolved.{contained, alone, meant, tuple_of, type_of, path_type, segment_type, last_type, argument_types, argument_type, all_types}
+use Rattle.resolving.specs.Resolved.{contained, alone, own_type, meant, tuple_of, type_of, path_type, segment_type, last_type, argument_types, argument_type, all_types}
 use Rattle.texts.specs.Lists.{Somewhere}
 use Rattle.resolving.specs.Bad.{path_holds_bad, last_holds_bad, segment_holds_bad}
 
@@ -30,6 +30,10 @@ use Rattle.resolving.specs.Bad.{path_holds_bad, last_holds_bad, segment_holds_ba
 pub alone-none : (t : Open) (us : List OpenType) → false ≡ (length us == 0) → None ≡ alone t (opens_view us)
 alone-none t [] h = absurd (false≢true h)
 alone-none t (u ∷ us) h = refl
+
+pub own-none : (p : Known) (d : ℕ) (us : List OpenType) → false ≡ (length us == 0) → None ≡ own_type p d (opens_view us)
+own-none p d [] h = absurd (false≢true h)
+own-none p d (u ∷ us) h = refl
 
 pub contained-none : (h : Head) (us : List OpenType) → length us ≢ 1 → length us ≢ 2 → None ≡ contained h (opens_view us)
 contained-none h [] f g = refl

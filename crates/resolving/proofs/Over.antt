@@ -1,5 +1,5 @@
 -- The declarations that stand in a resolved type, and their arguments.
-use Rattle.std.proofs.Common.{◌≡◌, ◌<◌, ℕ, List, Bool, true, false, cond, Option, Some, None, option_map, option_and_then, bytes_eq, codes, refl, subst}
+use Rattle.std.proofs.Common.{◌≡◌, ◌<◌, ◌≤◌, ℕ, zero, suc, List, [], ◌∷◌, ◌++◌, arith, Bool, true, false, cond, Option, Some, None, option_map, option_and_then, bytes_eq, codes, refl, subst}
 use Rattle.std.proofs.lemmas.Option.{none-some, same_Some}
 use Rattle.leaves.specs.declared.leaf.Leaf.{Leaf}
 use Rattle.leaves.specs.Leaves.{leaf_of}
@@ -7,7 +7,7 @@ use Rattle.texts.specs.declared.span.Span.{Span}
 use Rattle.texts.proofs.Laws.{mapped, and_then}
 use Rattle.written_types.specs.Written.{Written, Writtens, WrittenPath, Segments, Segment, Arguments, path, reference, tuple, slice, array, trait_object, no_types, more_types, path_of, no_segments, more_segments, plain, applied, no_arguments, more_arguments, lifetime_argument, constant_argument, type_argument}
 use Rattle.open_types.specs.declared.open_type.ListHead.TheVariants as lists
-use Rattle.open_types.specs.Open.{Open, Opens}
+use Rattle.open_types.specs.Open.{Open, Opens, opens_of}
 use Rattle.open_types.specs.Open as types
 use Rattle.open_types.specs.Heads.{container_of}
 use Rattle.open_types.specs.declared.head.Head.{Head}
@@ -15,22 +15,23 @@ use Rattle.open_types.specs.declared.head.Head.TheVariants as heads
 use Rattle.resolving.specs.Known.{Known}
 use Rattle.resolving.specs.declared.meaning.Meaning.{Meaning}
 use Rattle.resolving.specs.declared.meaning.Meaning.TheVariants as meanings
-use Rattle.resolving.specs.Names.{nameless, where_none, declared_or_unknown, parameter_or, other_meaning, leaf_or, container_or, name_meaning, meaning, is_constant_type}
-use Rattle.resolving.specs.Resolved.{small_list, of_one, of_two, contained, alone, meant, tuple_of, type_of, path_type, last_type, segment_type, argument_types, all_types}
+use Rattle.resolving.specs.Names.{nameless, where_none, own_or_unknown, declared_or_unknown, parameter_or, other_meaning, leaf_or, container_or, name_meaning, meaning, is_constant_type}
+use Rattle.resolving.specs.Resolved.{small_list, of_one, of_two, contained, alone, first_parameters, own_type, meant, tuple_of, type_of, path_type, last_type, segment_type, argument_types, all_types}
 use Rattle.open_types.specs.Within.{IsOver, AreOver}
 use Rattle.resolving.proofs.Right.{not_bad}
 use Rattle.resolving.proofs.Taken.{taken, declared-cases}
 use Rattle.resolving.specs.Bad.{are_bad}
+use Rattle.resolving.specs.Free.{declared_with}
 
-module _ (p : Known) (n : ℕ) (own : ℕ) where
+module _ (p : Known) (n : ℕ) where
   abbrev parameters : ℕ → ℕ
   parameters = p.parameters_at
 
   abbrev IsTypeOver : Open → Type 0
-  IsTypeOver t = IsOver n parameters own t
+  IsTypeOver t = IsOver n parameters p.parameters t
 
   abbrev AreTypesOver : Opens → Type 0
-  AreTypesOver ts = AreOver n parameters own ts
+  AreTypesOver ts = AreOver n parameters p.parameters ts
 
   -- ---- with arguments that are over
 
@@ -80,12 +81,28 @@ module _ (p : Known) (n : ℕ) (own : ℕ) where
 
   abbrev IsBelow : Meaning → Type 0
   IsBelow (meanings.Declared d) = d < n
-  IsBelow (meanings.Parameter i) = i < own
+  IsBelow (meanings.Own d) = d < n
+  IsBelow (meanings.Parameter i) = i < p.parameters
   IsBelow (meanings.Container h) = Unit {0}
   IsBelow (meanings.Leaf x) = Unit {0}
   IsBelow meanings.Value = Unit {0}
   IsBelow meanings.Object = Unit {0}
   IsBelow meanings.Unknown = Unit {0}
+
+  declared-over : (d : ℕ) (ts : Opens) (u : Open) → d < n → AreTypesOver ts → declared_with p d ts ≡ Some u → IsTypeOver u
+  declared-over d ts u b w e = let t = taken p d ts u e in subst IsTypeOver t.1 (declared-cases IsTypeOver d ts tt (b, t.0, w))
+
+  more-over : (ts : List Open) (t : Open) → AreTypesOver (opens_of ts) → IsTypeOver t → AreTypesOver (opens_of (ts ++ t ∷ []))
+  more-over [] t w v = (v, tt)
+  more-over (u ∷ ts) t w v = (w.0, more-over ts t w.1 v)
+
+  parameters-over : (k : ℕ) → k ≤ p.parameters → AreTypesOver (opens_of (first_parameters k))
+  parameters-over zero l = tt
+  parameters-over (suc k) l = more-over (first_parameters k) (types.param k) (parameters-over k (omega (arith, l))) (omega (arith, l))
+
+  own-over : (d : ℕ) (ts : Opens) (u : Open) → d < n → own_type p d ts ≡ Some u → IsTypeOver u
+  own-over d types.no_types u b e = declared-over d (opens_of (first_parameters p.parameters)) u b (parameters-over p.parameters (omega arith)) e
+  own-over d (types.more_types t ts) u b e = absurd (none-some u e)
 
   meant-over : (m : Meaning) (ts : Opens) (u : Open) → IsBelow m → AreTypesOver ts → meant p m ts ≡ Some u → IsTypeOver u
   meant-over (meanings.Container h) ts u b w e = contained-over h ts u w e
@@ -93,13 +110,14 @@ module _ (p : Known) (n : ℕ) (own : ℕ) where
   meant-over meanings.Value ts u b w e = alone-over types.any_value ts u tt e
   meant-over meanings.Object ts u b w e = alone-over types.free_object ts u tt e
   meant-over (meanings.Parameter i) ts u b w e = alone-over (types.param i) ts u b e
-  meant-over (meanings.Declared d) ts u b w e =
-      let t = taken p d ts u e in subst IsTypeOver t.1 (declared-cases IsTypeOver d ts tt (b, t.0, w))
+  meant-over (meanings.Declared d) ts u b w e = declared-over d ts u b w e
+  meant-over (meanings.Own d) ts u b w e = own-over d ts u b e
   meant-over meanings.Unknown ts u b w e = absurd (none-some u e)
 
   -- ---- names whose places are below
 
-  module _ (below : (name : List ℕ) (d : ℕ) → p.place_of name ≡ Some d → d < n) (within : (name : List ℕ) (i : ℕ) → p.parameter_of name ≡ Some i → i < own) where
+  module _ (below : (name : List ℕ) (d : ℕ) → p.place_of name ≡ Some d → d < n) (itself : (d : ℕ) → p.own ≡ Some d → d < n)
+      (within : (name : List ℕ) (i : ℕ) → p.parameter_of name ≡ Some i → i < p.parameters) where
     by_test : (b : Bool) (m k : Meaning) → IsBelow m → IsBelow k → IsBelow (cond b m k)
     by_test true m k f g = f
     by_test false m k f g = g
@@ -108,7 +126,11 @@ module _ (p : Known) (n : ℕ) (own : ℕ) where
     declared-below None h = tt
     declared-below (Some d) h = h d refl
 
-    parameter-below : (o : Option ℕ) (m : Meaning) → ((i : ℕ) → o ≡ Some i → i < own) → IsBelow m → IsBelow (parameter_or o m)
+    own-below : (o : Option ℕ) → ((d : ℕ) → o ≡ Some d → d < n) → IsBelow (own_or_unknown o)
+    own-below None h = tt
+    own-below (Some d) h = h d refl
+
+    parameter-below : (o : Option ℕ) (m : Meaning) → ((i : ℕ) → o ≡ Some i → i < p.parameters) → IsBelow m → IsBelow (parameter_or o m)
     parameter-below None m h g = g
     parameter-below (Some i) m h g = h i refl
 
@@ -119,7 +141,7 @@ module _ (p : Known) (n : ℕ) (own : ℕ) where
     name-below : (k : List ℕ) → IsBelow (name_meaning p k)
     name-below k =
         leaf-below (leaf_of k) (other_meaning p k)
-        (by_test (bytes_eq k (codes "Value")) meanings.Value _ tt (by_test (bytes_eq k (codes "Object")) meanings.Object _ tt (by_test (bytes_eq k (codes "Self")) meanings.Unknown _ tt (parameter-below (p.parameter_of k) (declared_or_unknown (p.place_of k)) (within k) (declared-below (p.place_of k) (below k))))))
+        (by_test (bytes_eq k (codes "Value")) meanings.Value _ tt (by_test (bytes_eq k (codes "Object")) meanings.Object _ tt (by_test (bytes_eq k (codes "Self")) (own_or_unknown p.own) _ (own-below p.own itself) (parameter-below (p.parameter_of k) (declared_or_unknown (p.place_of k)) (within k) (declared-below (p.place_of k) (below k))))))
 
     container-below : (o : Option Head) (m : Meaning) → IsBelow m → IsBelow (container_or o m)
     container-below None m h = h

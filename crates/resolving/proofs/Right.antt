@@ -8,7 +8,7 @@ use Rattle.leaves.specs.Leaves.{leaf_of}
 use Rattle.written_types.specs.Written.{Written, WrittenPath, Segments, Segment, path, reference, tuple, slice, array, trait_object, path_of, no_segments, more_segments, plain, applied}
 use Rattle.open_types.specs.declared.open_type.ListHead.{ListHead}
 use Rattle.open_types.specs.declared.open_type.ListHead.TheVariants as lists
-use Rattle.open_types.specs.Open.{Open, Opens}
+use Rattle.open_types.specs.Open.{Open, Opens, opens_of}
 use Rattle.open_types.specs.Open as types
 use Rattle.open_types.specs.Heads.{head_name, containers, container_among}
 use Rattle.open_types.specs.declared.head.Head.{Head}
@@ -17,11 +17,12 @@ use Rattle.texts.proofs.Laws.{mapped, and_then}
 use Rattle.resolving.specs.Known.{Known}
 use Rattle.resolving.specs.declared.meaning.Meaning.{Meaning}
 use Rattle.resolving.specs.declared.meaning.Meaning.TheVariants as meanings
-use Rattle.resolving.specs.Names.{nameless, where_none, is_array, declared_or_unknown, parameter_or, other_meaning, leaf_or, container_or, name_meaning, meaning}
-use Rattle.resolving.specs.Resolved.{small_list, list_of, of_one, of_two, contained, alone, meant, tuple_of, type_of, path_type, last_type, segment_type, argument_types, all_types, is_wrong_item, is_wrong_one, is_no_map, are_wrong_in, are_any, are_wrong}
+use Rattle.resolving.specs.Names.{nameless, where_none, is_array, own_or_unknown, declared_or_unknown, parameter_or, other_meaning, leaf_or, container_or, name_meaning, meaning}
+use Rattle.resolving.specs.Resolved.{small_list, list_of, of_one, of_two, contained, alone, first_parameters, own_type, meant, tuple_of, type_of, path_type, last_type, segment_type, argument_types, all_types, is_wrong_item, is_wrong_one, is_no_map, are_wrong_in, are_any, are_wrong}
 use Rattle.resolving.proofs.Stands.{Stand, stand-length}
-use Rattle.resolving.proofs.Taken.{taken, declared-cases}
+use Rattle.resolving.proofs.Taken.{taken, declared-cases, own-count}
 use Rattle.resolving.specs.Bad.{are_bad}
+use Rattle.resolving.specs.Free.{declared_with}
 
 -- ---- no name stands for an array
 
@@ -45,6 +46,10 @@ parameter-named : (o : Option ℕ) (m : Meaning) → is_named m ≡ true → is_
 parameter-named None m h = h
 parameter-named (Some i) m h = refl
 
+own-named : (o : Option ℕ) → is_named (own_or_unknown o) ≡ true
+own-named None = refl
+own-named (Some d) = refl
+
 leaf-named : (o : Option Leaf) (m : Meaning) → is_named m ≡ true → is_named (leaf_or o m) ≡ true
 leaf-named None m h = h
 leaf-named (Some x) m h = refl
@@ -52,7 +57,7 @@ leaf-named (Some x) m h = refl
 name-named : (p : Known) (n : List ℕ) → is_named (name_meaning p n) ≡ true
 name-named p n =
     leaf-named (leaf_of n) (other_meaning p n)
-    (by_test (bytes_eq n (codes "Value")) meanings.Value _ refl (by_test (bytes_eq n (codes "Object")) meanings.Object _ refl (by_test (bytes_eq n (codes "Self")) meanings.Unknown _ refl (parameter-named (p.parameter_of n) (declared_or_unknown (p.place_of n)) (declared-named (p.place_of n))))))
+    (by_test (bytes_eq n (codes "Value")) meanings.Value _ refl (by_test (bytes_eq n (codes "Object")) meanings.Object _ refl (by_test (bytes_eq n (codes "Self")) (own_or_unknown p.own) _ (own-named p.own) (parameter-named (p.parameter_of n) (declared_or_unknown (p.place_of n)) (declared-named (p.place_of n))))))
 
 container-named : (n : List ℕ) (hs : List Head) (m : Meaning) → list_all (λ h. is_named (meanings.Container h)) hs ≡ true → is_named m ≡ true → is_named (container_or (container_among n hs) m) ≡ true
 container-named n [] m e g = g
@@ -116,13 +121,21 @@ alone-not : (a : Open) (ts : Opens) (u : Open) → is_array_type a ≡ false →
 alone-not a types.no_types u f e = seen a u e f
 alone-not a (types.more_types t ts) u f e = absurd (none-some u e)
 
+declared-not : (p : Known) (d : ℕ) (ts : Opens) (u : Open) → declared_with p d ts ≡ Some u → is_array_type u ≡ false
+declared-not p d ts u e = subst (λ t. is_array_type t ≡ false) (taken p d ts u e).1 (declared-cases (λ t. is_array_type t ≡ false) d ts refl refl)
+
+own-not : (p : Known) (d : ℕ) (ts : Opens) (u : Open) → own_type p d ts ≡ Some u → is_array_type u ≡ false
+own-not p d types.no_types u e = declared-not p d (opens_of (first_parameters p.parameters)) u e
+own-not p d (types.more_types t ts) u e = absurd (none-some u e)
+
 meant-not : (p : Known) (m : Meaning) (ts : Opens) (u : Open) → is_named m ≡ true → meant p m ts ≡ Some u → is_array_type u ≡ false
 meant-not p (meanings.Container h) ts u g e = contained-not h ts u g e
 meant-not p (meanings.Leaf x) ts u g e = alone-not (types.leaf x) ts u refl e
 meant-not p meanings.Value ts u g e = alone-not types.any_value ts u refl e
 meant-not p meanings.Object ts u g e = alone-not types.free_object ts u refl e
 meant-not p (meanings.Parameter i) ts u g e = alone-not (types.param i) ts u refl e
-meant-not p (meanings.Declared d) ts u g e = subst (λ t. is_array_type t ≡ false) (taken p d ts u e).1 (declared-cases (λ t. is_array_type t ≡ false) d ts refl refl)
+meant-not p (meanings.Declared d) ts u g e = declared-not p d ts u e
+meant-not p (meanings.Own d) ts u g e = own-not p d ts u e
 meant-not p meanings.Unknown ts u g e = absurd (none-some u e)
 
 -- a segment whose arguments are not bad stands for what its name means with them
@@ -200,6 +213,13 @@ right-alone p a [] ts u s f = refl
 right-alone p a (w ∷ ws) types.no_types u s f = absurd s
 right-alone p a (w ∷ ws) (types.more_types t ts) u s f = absurd (none-some u f)
 
+right-own : (p : Known) (d : ℕ) (ws : List Written) (ts : Opens) (u : Open) → Stand p ws ts → own_type p d ts ≡ Some u → are_wrong p (meanings.Own d) ws ≡ false
+right-own p d [] types.no_types u s f =
+    ap not (eq-eqb p.parameters (p.parameters_at d) (sym (own-count p.parameters) ∙ (taken p d (opens_of (first_parameters p.parameters)) u f).0))
+right-own p d (w ∷ ws) types.no_types u s f = absurd s
+right-own p d [] (types.more_types t ts) u s f = absurd s
+right-own p d (w ∷ ws) (types.more_types t ts) u s f = absurd (none-some u f)
+
 pub right : (p : Known) (m : Meaning) (ws : List Written) (ts : Opens) (u : Open) → Stand p ws ts → meant p m ts ≡ Some u → are_wrong p m ws ≡ false
 right p (meanings.Container h) ws ts u s f = right-in p h ws ts u s f
 right p (meanings.Leaf x) ws ts u s f = right-alone p (types.leaf x) ws ts u s f
@@ -207,4 +227,5 @@ right p meanings.Value ws ts u s f = right-alone p types.any_value ws ts u s f
 right p meanings.Object ws ts u s f = right-alone p types.free_object ws ts u s f
 right p (meanings.Parameter i) ws ts u s f = right-alone p (types.param i) ws ts u s f
 right p (meanings.Declared d) ws ts u s f = ap not (eq-eqb (length ws) (p.parameters_at d) (stand-length p ws ts s ∙ (taken p d ts u f).0))
+right p (meanings.Own d) ws ts u s f = right-own p d ws ts u s f
 right p meanings.Unknown ws ts u s f = refl

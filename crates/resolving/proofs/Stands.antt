@@ -1,10 +1,10 @@
 -- Type arguments and what they stand for.
-use Rattle.std.proofs.Common.{◌≡◌, ◌≢◌, List, [], ◌∷◌, subst, true, not, Option, Some, None, option_map, option_and_then, refl, ap, sym, ◌∙◌, ◌==◌, suc, length, Bool, false, cond}
+use Rattle.std.proofs.Common.{◌≡◌, ◌≢◌, ℕ, List, [], ◌∷◌, subst, true, not, Option, Some, None, option_map, option_and_then, refl, ap, sym, ◌∙◌, ◌==◌, suc, length, Bool, false, cond}
 use Rattle.std.proofs.lemmas.Option.{none-some, same_Some}
 use Rattle.written_types.specs.Written.{Written, Segment, Arguments, path, reference, tuple, slice, array, trait_object, plain, applied, no_arguments, more_arguments, lifetime_argument, constant_argument, type_argument}
 use Rattle.open_types.specs.declared.open_type.ListHead.{ListHead}
 use Rattle.open_types.specs.declared.open_type.ListHead.TheVariants as lists
-use Rattle.open_types.specs.Open.{Open, Opens}
+use Rattle.open_types.specs.Open.{Open, Opens, opens_of}
 use Rattle.open_types.specs.Open as types
 use Rattle.open_types.specs.declared.head.Head.{Head}
 use Rattle.open_types.specs.declared.head.Head.TheVariants as heads
@@ -13,10 +13,10 @@ use Rattle.resolving.specs.Known.{Known}
 use Rattle.resolving.specs.declared.meaning.Meaning.{Meaning}
 use Rattle.resolving.specs.declared.meaning.Meaning.TheVariants as meanings
 use Rattle.resolving.specs.Names.{types_of, arguments_of, is_array, is_constant_type}
-use Rattle.resolving.specs.Resolved.{small_list, list_of, of_one, of_two, contained, alone, meant, type_of, argument_types, is_wrong_item, is_wrong_one, is_no_map, are_wrong_in, are_any, are_wrong}
+use Rattle.resolving.specs.Resolved.{small_list, list_of, of_one, of_two, contained, alone, first_parameters, own_type, meant, type_of, argument_types, is_wrong_item, is_wrong_one, is_no_map, are_wrong_in, are_any, are_wrong}
 use Rattle.resolving.specs.Reading.{segment_arguments}
 use Rattle.open_types.specs.Instances.{count}
-use Rattle.resolving.proofs.Taken.{not_taken}
+use Rattle.resolving.proofs.Taken.{not_taken, own-count}
 
 -- the types stand for these, one by one
 abbrev pub Stand : Known → List Written → Opens → Type 0
@@ -102,6 +102,12 @@ stand-length p [] (types.more_types t ts) s = absurd s
 stand-length p (w ∷ ws) types.no_types s = absurd s
 stand-length p (w ∷ ws) (types.more_types t ts) s = ap suc (stand-length p ws ts s.1)
 
+wrong-own : (p : Known) (d : ℕ) (ws : List Written) (ts : Opens) → Stand p ws ts → own_type p d ts ≡ None → are_wrong p (meanings.Own d) ws ≡ true
+wrong-own p d [] types.no_types s n =
+    ap not (ap (λ k. k == p.parameters_at d) (sym (own-count p.parameters)) ∙ not_taken p d (opens_of (first_parameters p.parameters)) n)
+wrong-own p d [] (types.more_types t ts) s n = absurd s
+wrong-own p d (w ∷ ws) ts s n = refl
+
 pub wrong : (p : Known) (m : Meaning) (ws : List Written) (ts : Opens) → Stand p ws ts → meant p m ts ≡ None → m ≢ meanings.Unknown → are_wrong p m ws ≡ true
 wrong p (meanings.Container h) ws ts s n u = wrong-in p h ws ts s n
 wrong p (meanings.Leaf x) ws ts s n u = any-alone p (types.leaf x) ws ts s n
@@ -109,4 +115,5 @@ wrong p meanings.Value ws ts s n u = any-alone p types.any_value ws ts s n
 wrong p meanings.Object ws ts s n u = any-alone p types.free_object ws ts s n
 wrong p (meanings.Parameter i) ws ts s n u = any-alone p (types.param i) ws ts s n
 wrong p (meanings.Declared d) ws ts s n u = ap not (ap (λ k. k == p.parameters_at d) (stand-length p ws ts s) ∙ not_taken p d ts n)
+wrong p (meanings.Own d) ws ts s n u = wrong-own p d ws ts s n
 wrong p meanings.Unknown ws ts s n u = absurd (u refl)

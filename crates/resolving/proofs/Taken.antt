@@ -1,18 +1,28 @@
 -- Declared types with their arguments.
-use Rattle.std.proofs.Common.{◌≡◌, ◌==◌, ℕ, suc, List, [], ◌∷◌, Bool, true, false, cond, length, Some, None, refl, ap, sym, ◌∙◌, ◌≢◌, eq-eqb, rules}
+use Rattle.std.proofs.Common.{◌≡◌, ◌==◌, ℕ, zero, suc, List, [], ◌∷◌, ◌++◌, Bool, true, false, cond, length, Some, None, refl, ap, sym, ◌∙◌, ◌≢◌, eq-eqb, rules}
 use Rattle.std.proofs.lemmas.Option.{none-some, same_Some}
 use Rattle.std.proofs.lemmas.Bool.{eqb-true}
 use Rattle.open_types.specs.declared.open_type.OpenType.{OpenType, the_lemmas}
 use Rattle.open_types.specs.declared.open_type.OpenType.TheVariants as variants
-use Rattle.open_types.specs.Open.{Open, Opens, opens_view, open_view}
+use Rattle.open_types.specs.Open.{Open, Opens, opens_of, opens_view, open_view}
 use Rattle.open_types.specs.Open as types
 use Rattle.open_types.specs.Instances.{count}
 use Rattle.resolving.specs.Known.{Known}
 use Rattle.resolving.specs.Free.{hold_free, declared, declared_with}
+use Rattle.resolving.specs.Resolved.{first_parameters}
 
 pub count-views : (ts : List OpenType) → count (opens_view ts) ≡ length ts
 count-views [] = refl
 count-views (t ∷ ts) = ap suc (count-views ts)
+
+count-more : (ts : List Open) (t : Open) → count (opens_of (ts ++ t ∷ [])) ≡ suc (count (opens_of ts))
+count-more [] t = refl
+count-more (u ∷ ts) t = ap suc (count-more ts t)
+
+-- a declaration has as many type parameters of its own as it has
+pub own-count : (n : ℕ) → count (opens_of (first_parameters n)) ≡ n
+own-count zero = refl
+own-count (suc n) = count-more (first_parameters n) (types.param n) ∙ ap suc (own-count n)
 
 -- the number of arguments is right
 pub taken : (p : Known) (d : ℕ) (ts : Opens) (u : Open) → declared_with p d ts ≡ Some u → (count ts ≡ p.parameters_at d) × (declared d ts ≡ u)

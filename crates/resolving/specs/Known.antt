@@ -4,10 +4,13 @@ use Rattle.std.specs.BTreeMap.{get_by_text}
 use Rattle.resolving.specs.declared.known.KnownNames.{KnownNames}
 use Rattle.std.specs.Option.{is_some}
 
--- the places of the declarations, and how many type parameters each has; the first type parameter of a name, and whether it is a constant parameter, where the type is written
+-- the places of the declarations, and how many type parameters each has; where the type is written: the declaration that is `Self`, how many
+-- type parameters it has, the first of a name, and whether a name is that of a constant parameter
 pub record Known : Type 0 where
   pub place_of : List ℕ → Option ℕ
   pub parameters_at : ℕ → ℕ
+  pub own : Option ℕ
+  pub parameters : ℕ
   pub parameter_of : List ℕ → Option ℕ
   pub is_constant : List ℕ → Bool
 
@@ -16,6 +19,8 @@ abbrev pub known : KnownNames → Known
 known names = record {
   place_of = get_by_text names.places.now;
   parameters_at = slice_index names.counts.now;
+  own = names.own;
+  parameters = names.count;
   parameter_of = get_by_text names.parameters.now;
   is_constant = λ name. is_some (get_by_text names.constants.now name);
 }

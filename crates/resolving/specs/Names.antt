@@ -158,10 +158,18 @@ abbrev pub parameter_or : Option ℕ → Meaning → Meaning
 parameter_or (Some i) other = meanings.Parameter i
 parameter_or None other = other
 
--- a name that is no container and no leaf: `Self` is not known yet
+-- `Self` stands for the declaration in which it is written, where there is one
+abbrev pub own_or_unknown : Option ℕ → Meaning
+own_or_unknown (Some d) = meanings.Own d
+own_or_unknown None = meanings.Unknown
+
+-- a name that is no container and no leaf
 abbrev pub other_meaning : Known → List ℕ → Meaning
 other_meaning known name =
-    cond (bytes_eq name (codes "Value")) meanings.Value (cond (bytes_eq name (codes "Object")) meanings.Object (cond (bytes_eq name (codes "Self")) meanings.Unknown (parameter_or (known.parameter_of name) (declared_or_unknown (known.place_of name)))))
+    cond (bytes_eq name (codes "Value")) meanings.Value
+    (cond (bytes_eq name (codes "Object")) meanings.Object
+    (cond (bytes_eq name (codes "Self")) (own_or_unknown known.own)
+    (parameter_or (known.parameter_of name) (declared_or_unknown (known.place_of name)))))
 
 abbrev pub leaf_or : Option Leaf → Meaning → Meaning
 leaf_or (Some x) other = meanings.Leaf x
@@ -171,7 +179,7 @@ abbrev pub container_or : Option Head → Meaning → Meaning
 container_or (Some h) other = meanings.Container h
 container_or None other = other
 
--- A name stands for a leaf, any value, any object, a type parameter or a declaration, in this order.
+-- A name stands for a leaf, any value, any object, the declaration itself, a type parameter or a declaration, in this order.
 abbrev pub name_meaning : Known → List ℕ → Meaning
 name_meaning known name = leaf_or (leaf_of name) (other_meaning known name)
 

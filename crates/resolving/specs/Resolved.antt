@@ -1,5 +1,5 @@
 -- What a written type stands for, and why it may stand for nothing.
-use Rattle.std.specs.Prelude.{◌≡◌, ◌<◌, ◌↔◌, leb, IsSome, ℕ, List, [], ◌∷◌, ◌++◌, Bool, true, false, not, Option, Some, None, option_map, option_and_then, IsTrue, codes, length, ◌==◌, cond}
+use Rattle.std.specs.Prelude.{◌≡◌, ◌<◌, ◌↔◌, leb, IsSome, ℕ, zero, suc, ◌||◌, List, [], ◌∷◌, ◌++◌, Bool, true, false, not, Option, Some, None, option_map, option_and_then, IsTrue, codes, length, ◌==◌, cond}
 use Rattle.texts.specs.Lists.{Somewhere}
 use Rattle.diag.specs.Refusal.{IsRefusal}
 use Rattle.diag.specs.declared.error.DeriveError.{DeriveError}
@@ -9,7 +9,7 @@ use Rattle.written_types.specs.declared.written.Ident.{Ident}
 use Rattle.written_types.specs.Written.{Written, Writtens, WrittenPath, Segments, Segment, Arguments, Argument, path, reference, tuple, slice, array, trait_object, no_types, more_types, path_of, no_segments, more_segments, plain, applied, no_arguments, more_arguments, lifetime_argument, constant_argument, type_argument}
 use Rattle.open_types.specs.declared.open_type.ListHead.{ListHead}
 use Rattle.open_types.specs.declared.open_type.ListHead.TheVariants as lists
-use Rattle.open_types.specs.Open.{Open, Opens}
+use Rattle.open_types.specs.Open.{Open, Opens, opens_of}
 use Rattle.open_types.specs.Open as types
 use Rattle.open_types.specs.Within.{IsOver}
 use Rattle.open_types.specs.declared.head.Head.{Head}
@@ -60,12 +60,23 @@ abbrev pub alone : Open → Opens → Option Open
 alone t types.no_types = Some t
 alone t (types.more_types u us) = None
 
+-- the first type parameters, in order
+abbrev pub first_parameters : ℕ → List Open
+first_parameters zero = []
+first_parameters (suc n) = first_parameters n ++ types.param n ∷ []
+
+-- `Self` takes no type arguments: it is the declaration with its own type parameters
+abbrev pub own_type : Known → ℕ → Opens → Option Open
+own_type known d types.no_types = declared_with known d (opens_of (first_parameters known.parameters))
+own_type known d (types.more_types t ts) = None
+
 abbrev pub meant : Known → Meaning → Opens → Option Open
 meant known (meanings.Container h) ts = contained h ts
 meant known (meanings.Leaf x) ts = alone (types.leaf x) ts
 meant known meanings.Value ts = alone types.any_value ts
 meant known meanings.Object ts = alone types.free_object ts
 meant known (meanings.Parameter i) ts = alone (types.param i) ts
+meant known (meanings.Own d) ts = own_type known d ts
 meant known (meanings.Declared d) ts = declared_with known d ts
 meant known meanings.Unknown ts = None
 
@@ -162,6 +173,7 @@ are_wrong known (meanings.Leaf x) ts = are_any ts
 are_wrong known meanings.Value ts = are_any ts
 are_wrong known meanings.Object ts = are_any ts
 are_wrong known (meanings.Parameter i) ts = are_any ts
+are_wrong known (meanings.Own d) ts = are_any ts || not (known.parameters == known.parameters_at d)
 are_wrong known (meanings.Declared d) ts = not (length ts == known.parameters_at d)
 are_wrong known meanings.Unknown ts = false
 
@@ -183,7 +195,10 @@ IsRefusedFor (too_large s) e = IsRefusal TypeSize s (codes "a type has more than
 abbrev pub ResolutionIsExact : Type 0
 ResolutionIsExact = (known : Known) (t : Written) → IsSome (resolved_type known t) ↔ ((fault : Fault) → ¬ (IsFault known t fault))
 
--- The law: where each name's place is below n and each type parameter's place is below m, a resolved type is over the first n declarations and the first m parameters, and none has other arguments than it takes.
+-- The law: where the places of names and of the declaration itself are below n, and those of its type parameters below their number, a resolved type
+-- is over the first n declarations and these parameters, and none has other arguments than it takes.
 abbrev pub ResolvedAreOver : Type 0
 ResolvedAreOver =
-    (known : Known) (n : ℕ) (m : ℕ) → ((name : List ℕ) (d : ℕ) → known.place_of name ≡ Some d → d < n) → ((name : List ℕ) (i : ℕ) → known.parameter_of name ≡ Some i → i < m) → (t : Written) (u : Open) → type_of known t ≡ Some u → IsOver n known.parameters_at m u
+    (known : Known) (n : ℕ) → ((name : List ℕ) (d : ℕ) → known.place_of name ≡ Some d → d < n) → ((d : ℕ) → known.own ≡ Some d → d < n)
+    → ((name : List ℕ) (i : ℕ) → known.parameter_of name ≡ Some i → i < known.parameters)
+    → (t : Written) (u : Open) → type_of known t ≡ Some u → IsOver n known.parameters_at known.parameters u

@@ -1,10 +1,10 @@
 //! Names with their resolved type arguments.
 
-ghost use Rattle.std.specs.Prelude.{◌≡◌, IfOk, option_map};
+ghost use Rattle.std.specs.Prelude.{◌≡◌, map, IfOk, option_map};
 ghost use Rattle.open_types.specs.Open.{open_view, opens_view};
 ghost use Rattle.resolving.specs.Known.{known};
 ghost use Rattle.resolving.specs.Free.{declared_with};
-ghost use Rattle.resolving.specs.Resolved.{list_of, of_one, of_two, contained, alone, meant};
+ghost use Rattle.resolving.specs.Resolved.{list_of, of_one, of_two, contained, alone, first_parameters, own_type, meant};
 
 use crate::free::hold_free;
 use crate::known::KnownNames;
@@ -102,6 +102,35 @@ fn declared_with(
     Some(OpenType::Named(place, arguments))
 }
 
+/// The type parameters of the declaration in which the type is written, in order.
+fn own_parameters(alloc: Global, names: &KnownNames<'_>) -> Result<List<OpenType>, AllocError>
+    ensures { IfOk result
+        (λ ts. map open_view ts ≡ first_parameters (known names.now).parameters) }
+{
+    let mut parameters = List::new(alloc);
+    for place in 0..names.count {
+        parameters.push(OpenType::Param(place))?;
+    }
+    Ok(parameters)
+}
+
+/// The declaration in which the type is written, with its own type parameters, where there are no type arguments.
+fn own_type(
+    alloc: Global,
+    names: &KnownNames<'_>,
+    place: usize,
+    arguments: &[OpenType],
+) -> Result<Option<OpenType>, AllocError>
+    ensures { IfOk result (λ t. option_map open_view t
+        ≡ own_type (known names.now) place (opens_view arguments.now)) }
+{
+    if arguments.is_empty() {
+        Ok(declared_with(names, place, own_parameters(alloc, names)?))
+    } else {
+        Ok(None)
+    }
+}
+
 /// What the name stands for with its type arguments, where it takes these.
 pub(crate) fn meant(
     alloc: Global,
@@ -118,6 +147,7 @@ pub(crate) fn meant(
         Meaning::Value => Ok(alone(OpenType::AnyValue, arguments.as_slice())),
         Meaning::Object => Ok(alone(OpenType::FreeObject, arguments.as_slice())),
         Meaning::Parameter(place) => Ok(alone(OpenType::Param(place), arguments.as_slice())),
+        Meaning::Own(place) => own_type(alloc, names, place, arguments.as_slice()),
         Meaning::Declared(place) => Ok(declared_with(names, place, arguments)),
         Meaning::Unknown => Ok(None),
     }

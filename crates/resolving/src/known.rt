@@ -12,7 +12,11 @@ pub struct KnownNames<'k> {
     pub places: &'k BTreeMap<String, usize>,
     /// How many type parameters each declaration has, by its place.
     pub counts: &'k [usize],
-    /// The places of the type parameters of the declaration in which the type is written.
+    /// The place of the declaration in which the type is written, which is `Self` there.
+    pub own: Option<usize>,
+    /// How many type parameters that declaration has.
+    pub count: usize,
+    /// The places of its type parameters.
     pub parameters: &'k BTreeMap<String, usize>,
     /// The places of its constant parameters.
     pub constants: &'k BTreeMap<String, usize>,

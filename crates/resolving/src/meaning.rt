@@ -3,7 +3,7 @@
 ghost use Rattle.std.specs.Prelude.{◌≡◌};
 ghost use Rattle.written_types.specs.Written.{segment_view};
 ghost use Rattle.resolving.specs.Known.{known};
-ghost use Rattle.resolving.specs.Names.{parameter_or, declared_or_unknown, other_meaning, name_meaning, meaning};
+ghost use Rattle.resolving.specs.Names.{own_or_unknown, parameter_or, declared_or_unknown, other_meaning, name_meaning, meaning};
 
 use crate::known::KnownNames;
 use leaves::Leaf;
@@ -21,6 +21,8 @@ pub enum Meaning {
     Object,
     /// The type parameter at this place of the declaration in which the type is written, from 0 on.
     Parameter(usize),
+    /// The declaration at this place of the source, in which the type is written, with its own type parameters.
+    Own(usize),
     /// The declaration at this place of the source, from 0 on.
     Declared(usize),
     Unknown,
@@ -40,13 +42,23 @@ fn given_meaning(names: &KnownNames<'_>, name: &str) -> Meaning
     }
 }
 
+/// What `Self` stands for.
+fn own_meaning(names: &KnownNames<'_>) -> Meaning
+    ensures { result ≡ own_or_unknown (known names.now).own }
+{
+    match names.own {
+        Some(place) => Meaning::Own(place),
+        None => Meaning::Unknown,
+    }
+}
+
 fn other_meaning(names: &KnownNames<'_>, name: &str) -> Meaning
     ensures { result ≡ other_meaning (known names.now) name.now }
 {
     match name {
         "Value" => Meaning::Value,
         "Object" => Meaning::Object,
-        "Self" => Meaning::Unknown,
+        "Self" => own_meaning(names),
         _ => given_meaning(names, name),
     }
 }

@@ -130,7 +130,7 @@ module _ (ds : List DiangosticsInner) (first : HasFirst ds (λ d. d.kind ≡ Bad
 
   faulty : (rows : List RenameRow) (items : List DeclaredItem) → AreFaultyDeclarations rows items (Refused ds) → ⊥
   faulty rows items (inl h) = twice _ h
-  faulty rows items (inr h) = nowhere _ items (λ d. item (around_of rows items d.generics) d) h
+  faulty rows items (inr h) = nowhere _ items (λ d. item (around_of rows items d.ident.text d.generics) d) h
 
   declared : (c : Configuration) (items : List DeclaredItem) → AreAtFault c.renames items (Refused ds) ⊎ IsBeyond c items (Refused ds) → ⊥
   declared c items (inl (inl (span, attributed, is))) = other Syntax _ _ (λ e. cc) is

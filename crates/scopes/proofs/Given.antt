@@ -12,7 +12,7 @@ use Rattle.syntax.specs.declared.item.GenericParam.{GenericParam}
 use Rattle.syntax.specs.declared.item.Declaration.{Declaration}
 use Rattle.syntax.specs.Items.{ParameterItem, DeclaredItem, parameter_view, declaration_view}
 use Rattle.resolving.specs.Known.{Known}
-use Rattle.scopes.specs.Names.{texts, place_among}
+use Rattle.scopes.specs.Names.{texts, declared_name, place_among}
 use Rattle.scopes.specs.declared.parameters.ParameterKind.{ParameterKind}
 use Rattle.scopes.specs.declared.parameters.ParameterKind.TheVariants.{Constants}
 use Rattle.scopes.specs.Parameters.{ident_of_kind, parameters_of, type_parameters, parameter_counts, generics_at}
@@ -34,6 +34,12 @@ generics_are [] i item l is = absurd (omega arith)
 generics_are (x ∷ items) zero item l is = ap (λ (d : Declaration). (declaration_view d).generics) (sym is)
 generics_are (x ∷ items) (suc i) item l is = generics_are items i item (omega arith) is
 
+-- the name of a declaration that is there
+pub name_is : (items : List Declaration) (i : ℕ) (item : Declaration) → i < length items → item ≡ get_or items i item → declared_name (map declaration_view items) i ≡ item.ident.text
+name_is [] i item l is = absurd (omega arith)
+name_is (x ∷ items) zero item l is = ap (λ (d : Declaration). d.ident.text) (sym is)
+name_is (x ∷ items) (suc i) item l is = name_is items i item (omega arith) is
+
 -- a place is one of a name
 pub place_below : (k : List ℕ) (xs : List Ident) (i : ℕ) → place_in k (texts xs) ≡ Some i → i < length xs
 place_below k xs i e = subst (λ m. i < m) (length-texts xs) (place-found k (texts xs) i e).0
@@ -48,13 +54,16 @@ there k (n ∷ ns) = by (bytes_eq k n) (place_in k ns) (there k ns)
     by false (Some r) h = h
 
 -- what is looked up in a scope is what is known there
-pub known_is : (ds : List DeclaredItem) (ps : List ParameterItem) (places parameters constants : List ℕ → Option ℕ) (counts : List ℕ) → ((k : List ℕ) → places k ≡ place_among ds k) → counts ≡ parameter_counts ds →
+pub known_is : (ds : List DeclaredItem) (owner : List ℕ) (ps : List ParameterItem) (places parameters constants : List ℕ → Option ℕ) (counts : List ℕ) (own : Option ℕ) (count : ℕ) →
+    ((k : List ℕ) → places k ≡ place_among ds k) → counts ≡ parameter_counts ds → own ≡ place_among ds owner → count ≡ length (type_parameters ps) →
     ((k : List ℕ) → parameters k ≡ place_in k (texts (type_parameters ps))) → ((k : List ℕ) → constants k ≡ place_in k (texts (parameters_of Constants ps))) →
-    let found : Known = record { place_of = places; parameters_at = slice_index counts; parameter_of = parameters; is_constant = λ k. is_some (constants k) } in found ≡ known_among ds ps
-known_is ds ps places parameters constants counts placed counted typed constant =
+    let found : Known = record { place_of = places; parameters_at = slice_index counts; own = own; parameters = count; parameter_of = parameters; is_constant = λ k. is_some (constants k) } in found ≡ known_among ds owner ps
+known_is ds owner ps places parameters constants counts own count placed counted itself many typed constant =
     λ i. record {
       place_of = fun_ext placed i;
       parameters_at = slice_index (counted i);
+      own = itself i;
+      parameters = many i;
       parameter_of = fun_ext typed i;
       is_constant = fun_ext (λ k. ap is_some (constant k) ∙ there k (texts (parameters_of Constants ps))) i;
     }

@@ -1,5 +1,5 @@
 -- The names that declarations give, and the places where they stand.
-use Rattle.std.specs.Prelude.{◌≡◌, ℕ, List, [], ◌∷◌, ◌++◌, Bool, true, not, ◌&&◌, Option, IsTrue, codes}
+use Rattle.std.specs.Prelude.{◌≡◌, ℕ, zero, suc, List, [], ◌∷◌, ◌++◌, Bool, true, not, ◌&&◌, Option, IsTrue, codes}
 use Rattle.texts.specs.Names.{is_in, IsDistinct, place_in}
 use Rattle.diag.specs.Refusal.{IsRefusal}
 use Rattle.diag.specs.declared.error.DeriveError.{DeriveError}
@@ -10,6 +10,12 @@ use Rattle.syntax.specs.Items.{DeclaredItem}
 abbrev pub declared_names : List DeclaredItem → List (List ℕ)
 declared_names [] = []
 declared_names (d ∷ ds) = d.ident.text ∷ declared_names ds
+
+-- the name of the declaration at the place; past the end, none
+abbrev pub declared_name : List DeclaredItem → ℕ → List ℕ
+declared_name [] d = []
+declared_name (x ∷ ds) zero = x.ident.text
+declared_name (x ∷ ds) (suc d) = declared_name ds d
 
 -- the place of the first declaration of the name
 abbrev pub place_among : List DeclaredItem → List ℕ → Option ℕ

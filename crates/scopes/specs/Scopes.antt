@@ -3,16 +3,18 @@ use Rattle.std.specs.Prelude.{ℕ, List, length, slice_index}
 use Rattle.texts.specs.Names.{is_in, place_in}
 use Rattle.syntax.specs.Items.{ParameterItem, DeclaredItem, declarations_view}
 use Rattle.resolving.specs.Known.{Known}
-use Rattle.scopes.specs.Names.{texts, place_among}
+use Rattle.scopes.specs.Names.{texts, declared_name, place_among}
 use Rattle.scopes.specs.Parameters.{parameters_of, type_parameters, parameter_counts, generics_at}
 use Rattle.scopes.specs.declared.parameters.ParameterKind.TheVariants.{Constants}
 use Rattle.scopes.specs.declared.scope.Scope.{Scope}
 
--- the names that are known among these declarations, in one with these generic parameters
-abbrev pub known_among : List DeclaredItem → List ParameterItem → Known
-known_among ds ps = record {
+-- the names that are known among these declarations, in the one of the name, which has these generic parameters
+abbrev pub known_among : List DeclaredItem → List ℕ → List ParameterItem → Known
+known_among ds owner ps = record {
   place_of = place_among ds;
   parameters_at = slice_index (parameter_counts ds);
+  own = place_among ds owner;
+  parameters = length (type_parameters ps);
   parameter_of = λ name. place_in name (texts (type_parameters ps));
   is_constant = λ name. is_in name (texts (parameters_of Constants ps));
 }
@@ -25,9 +27,13 @@ declared_in scope = declarations_view scope.places.now.declarations.now
 abbrev pub generics_in : Scope → List ParameterItem
 generics_in scope = generics_at (declared_in scope) scope.owner
 
--- how many of them are types
+-- its name
+abbrev pub name_in : Scope → List ℕ
+name_in scope = declared_name (declared_in scope) scope.owner
+
+-- how many of the parameters are types
 abbrev pub parameters_in : Scope → ℕ
 parameters_in scope = length (type_parameters (generics_in scope))
 
 abbrev pub known_in : Scope → Known
-known_in scope = known_among (declared_in scope) (generics_in scope)
+known_in scope = known_among (declared_in scope) (name_in scope) (generics_in scope)

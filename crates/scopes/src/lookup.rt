@@ -36,6 +36,8 @@ pub fn resolve(
     let names = KnownNames {
         places: &scope.places.by_name,
         counts: scope.places.counts.as_slice(),
+        own: scope.own,
+        count: scope.count,
         parameters: &scope.parameters,
         constants: &scope.constants,
     };

@@ -4,7 +4,7 @@ ghost use Rattle.std.specs.Prelude.{◌≡◌, ◌<◌, ℕ, List as Items, leng
 ghost use Rattle.std.specs.BTreeMap.{get_by_text};
 ghost use Rattle.texts.specs.Names.{place_in};
 ghost use Rattle.syntax.specs.Items.{declarations_view};
-ghost use Rattle.scopes.specs.Names.{texts, place_among};
+ghost use Rattle.scopes.specs.Names.{texts, declared_name, place_among};
 ghost use Rattle.scopes.specs.declared.parameters.ParameterKind.TheVariants as kinds;
 ghost use Rattle.scopes.specs.Parameters.{parameters_of, type_parameters, parameter_counts as counts_of, generics_at};
 
@@ -12,7 +12,7 @@ use crate::names::first_places;
 use crate::parameters::{ParameterKind, parameter_counts, parameters_of};
 use std::alloc::{AllocError, Global};
 use std::collections::BTreeMap;
-use syntax::Declarations;
+use syntax::{Declarations, Ident};
 use texts::List;
 
 /// The places of the names that declarations give.
@@ -61,6 +61,17 @@ impl<'a> Places<'a> {
             counts,
         })
     }
+
+    /// The place of the first declaration of the identifier's name.
+    fn place_of(&self, ident: &Ident) -> Option<usize>
+        ensures { result
+            ≡ place_among (declarations_view self.now.declarations.now) ident.now.text }
+    {
+        match self.by_name.get(ident.text.as_str()) {
+            Some(place) => Some(*place),
+            None => None,
+        }
+    }
 }
 
 /// Where a written type stands.
@@ -70,13 +81,17 @@ pub struct Scope<'a> {
     pub places: &'a Places<'a>,
     /// The place of the declaration in which the type is written.
     pub owner: usize,
-    /// How many type parameters that declaration has.
+    /// The place of the first declaration of its name, which is `Self`: it is the owner where no name is given twice.
+    pub own: Option<usize>,
+    /// How many type parameters the owner has.
     pub count: usize,
     /// The place of each of its type parameters; of several of one name, that of the first.
     pub parameters: BTreeMap<String, usize>,
     /// The place of each of its constant parameters, likewise.
     pub constants: BTreeMap<String, usize>,
     pub ghost owned: { owner < length (declarations_view places.now.declarations.now) },
+    pub ghost itself: { own ≡ place_among (declarations_view places.now.declarations.now)
+        (declared_name (declarations_view places.now.declarations.now) owner) },
     pub ghost counted: { count ≡ length
         (type_parameters (generics_at (declarations_view places.now.declarations.now) owner)) },
     pub ghost typed: { (name : Items ℕ) → get_by_text parameters name ≡ place_in name (texts
@@ -100,6 +115,7 @@ impl<'a> Scope<'a> {
         Ok(Scope {
             places,
             owner,
+            own: places.place_of(&declaration.ident),
             count: types.len(),
             parameters: first_places(alloc, types.as_slice())?,
             constants: first_places(alloc, constants.as_slice())?,

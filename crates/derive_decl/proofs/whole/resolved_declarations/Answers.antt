@@ -14,14 +14,14 @@ use Rattle.derive_decl.proofs.Over.{names_are, all_fitting}
 use Rattle.derive_decl.proofs.whole.resolved_declarations.Goals as goal
 use Rattle.derive_decl.specs.Whole.{resolved_among}
 use Rattle.derive_decl.proofs.Owners.{around_is}
-use Rattle.scopes.specs.Scopes.{declared_in, generics_in}
+use Rattle.scopes.specs.Scopes.{declared_in, name_in, generics_in}
 use Rattle.scopes.specs.declared.scope.Scope.{Scope}
 use Rattle.scopes.specs.declared.scope.Places.{Places}
 use Rattle.configuration.specs.declared.config.Config.{Config}
 
 -- what is known in the scope
 abbrev known_here : Scope → Config → Around
-known_here scope config = around_of config.renames (declared_in scope) (generics_in scope)
+known_here scope config = around_of config.renames (declared_in scope) (name_in scope) (generics_in scope)
 
 pub returns-in_err-resolved_of-clause-refused : goal.returns-in_err-resolved_of-clause-refused
 returns-in_err-resolved_of-clause-refused c =
@@ -31,12 +31,12 @@ returns-in_err-resolved_of-clause-refused c =
     let d = c.index-as_slice-owner.result in
     let lt : at < length items = omega arith in
     let is : d ≡ get_or items at d = c.index-as_slice-owner.is ∙ ap (λ (xs : List Declaration). get_or xs at d) c.as_slice.ensures in
-    let same : known_here c.in_ok-scope.scope c.args.config.now ≡ around_of c.args.config.now.renames (declarations_view c.args.places.now.declarations.now) (declaration_view d).generics =
+    let same : known_here c.in_ok-scope.scope c.args.config.now ≡ around_of c.args.config.now.renames (declarations_view c.args.places.now.declarations.now) d.ident.text (declaration_view d).generics =
     around_is c.args.config.now.renames c.in_ok-scope.scope.places.now.declarations.now c.args.places.now.declarations.now c.in_ok-scope.scope.owner at d (ap (λ (places : Places). places.declarations.now) c.in_ok-scope.ensures.places) c.in_ok-scope.ensures.owner lt is in
     rw (p.1, p.2)
     (elim c.in_err-resolved_of.ensures.refused [
       | inl memory ↦ inl memory
-      | inr fault ↦ inr (somewhere (λ x. IsFaultyItem (around_of c.args.config.now.renames (declarations_view c.args.places.now.declarations.now) x.generics) x c.in_err-resolved_of.field-0.0) declaration_view items at d lt is (subst (λ around. IsFaultyItem around (declaration_view d) c.in_err-resolved_of.field-0.0) same fault))
+      | inr fault ↦ inr (somewhere (λ x. IsFaultyItem (around_of c.args.config.now.renames (declarations_view c.args.places.now.declarations.now) x.ident.text x.generics) x c.in_err-resolved_of.field-0.0) declaration_view items at d lt is (subst (λ around. IsFaultyItem around (declaration_view d) c.in_err-resolved_of.field-0.0) same fault))
     ])
 
 pub loop-owner-preserved : goal.loop-owner-preserved
@@ -46,7 +46,7 @@ loop-owner-preserved c =
     let d = c.index-as_slice-owner.result in
     let lt : at < length items = omega arith in
     let is : d ≡ get_or items at d = c.index-as_slice-owner.is ∙ ap (λ (xs : List Declaration). get_or xs at d) c.as_slice.ensures in
-    let same : known_here c.in_ok-scope.scope c.args.config.now ≡ around_of c.args.config.now.renames (declarations_view c.args.places.now.declarations.now) (declaration_view d).generics =
+    let same : known_here c.in_ok-scope.scope c.args.config.now ≡ around_of c.args.config.now.renames (declarations_view c.args.places.now.declarations.now) d.ident.text (declaration_view d).generics =
     around_is c.args.config.now.renames c.in_ok-scope.scope.places.now.declarations.now c.args.places.now.declarations.now c.in_ok-scope.scope.owner at d (ap (λ (places : Places). places.declarations.now) c.in_ok-scope.ensures.places) c.in_ok-scope.ensures.owner lt is in
     rw c.in_ok-push.ensures.ok (all_more (resolved_among c.args.config.now.renames (declarations_view c.args.places.now.declarations.now)) declaration_view resolved_view items at d c.loop-owner.resolved _ lt is c.loop-owner.invariant
     (subst (λ around. resolved_of around (declaration_view d) ≡ Some (resolved_view c.in_ok-resolved_of.field-0)) same c.in_ok-resolved_of.ensures.resolved))

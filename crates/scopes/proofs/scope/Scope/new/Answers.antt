@@ -5,10 +5,10 @@ use Rattle.texts.specs.Names.{place_in}
 use Rattle.syntax.specs.declared.item.Declaration.{Declaration}
 use Rattle.syntax.specs.declared.item.GenericParam.{GenericParam}
 use Rattle.syntax.specs.Items.{parameter_view, declaration_view}
-use Rattle.scopes.specs.Names.{texts}
+use Rattle.scopes.specs.Names.{texts, place_among}
 use Rattle.scopes.specs.declared.parameters.ParameterKind.TheVariants.{Types, Constants}
 use Rattle.scopes.specs.Parameters.{parameters_of, generics_at}
-use Rattle.scopes.proofs.Given.{generics_are}
+use Rattle.scopes.proofs.Given.{generics_are, name_is}
 use Rattle.scopes.proofs.scope.Scope.new.Goals as goal
 
 pub invariant_of-result : goal.invariant_of-result
@@ -24,6 +24,7 @@ invariant_of-result c =
     let constants : c.in_ok-constants.constants ≡ parameters_of Constants (generics_at (map declaration_view items) at) = c.in_ok-constants.ensures ∙ ap (parameters_of Constants) generics in
     record {
       owned = c.requires;
+      itself = c.place_of.ensures ∙ ap (place_among (map declaration_view items)) (sym (name_is items at d lt is));
       counted = c.len.ensures ∙ ap length types;
       typed = subst (λ xs. (name : List ℕ) → get_by_text c.in_ok-first_places.field-0 name ≡ place_in name (texts xs)) (map-id c.as_slice-2.result.now ∙ c.as_slice-2.ensures ∙ types) c.in_ok-first_places.ensures;
       constant = subst (λ xs. (name : List ℕ) → get_by_text c.in_ok-first_places-2.field-0 name ≡ place_in name (texts xs)) (map-id c.as_slice-3.result.now ∙ c.as_slice-3.ensures ∙ constants) c.in_ok-first_places-2.ensures;

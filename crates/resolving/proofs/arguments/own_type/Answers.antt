@@ -1,0 +1,6 @@
+use Rattle.resolving.specs.Known.{known}
+use Rattle.resolving.proofs.Counted.{own-none}
+use Rattle.resolving.proofs.arguments.own_type.Goals as goal
+
+pub returns-else-is_empty : goal.returns-else-is_empty
+returns-else-is_empty c = own-none (known c.args.names.now) c.args.place c.args.arguments.now c.if-is_empty.ensures
