@@ -1,7 +1,6 @@
 -- What the public readers ensure, from what was read.
 use Rattle.std.proofs.Common.{◌≡◌, ◌∙◌, ℕ, ◌<◌, ◌≤◌, arith, ◌⊎◌, inl, inr, List, length, sym, subst, Result, Ok, Err}
 use Rattle.texts.specs.declared.span.Span.{Span}
-use Rattle.diag.specs.Refusal.{IsSyntaxRefusal}
 use Rattle.diag.specs.declared.error.DeriveError.{DeriveError}
 use Rattle.diag.specs.declared.error.DeriveError.TheVariants as errors
 use Rattle.tokens.specs.Trees.{Trees, depth}
@@ -12,10 +11,11 @@ use Rattle.words.specs.declared.stopping.Stop.TheVariants as stop
 use Rattle.words.specs.Words.{Word, words_of}
 use Rattle.words.specs.Reading.{Fault, deep, wrong, Read, Fails}
 use Rattle.type_grammar.specs.Reading.{type_at, type_in, after_bounds}
+use Rattle.type_grammar.specs.Source.{IsRefusalOf}
 use Rattle.syntax.specs.Items.{DeclaredItem}
 use Rattle.syntax.specs.ItemDepth.{within_levels, OpensSource}
 use Rattle.syntax.specs.ItemGrammar.{IsSource}
-use Rattle.syntax.specs.ItemReading.{source_at, IsRefusalOf, IsPlaced}
+use Rattle.syntax.specs.ItemReading.{source_at}
 use Rattle.syntax.specs.Source.{Reads, NestsTooDeep, IsUnreadable, IsTooDeep}
 use Rattle.type_grammar.proofs.Laws.{bounds_complete, read_passes}
 use Rattle.syntax.specs.GenericReading.{Readers}
@@ -106,8 +106,3 @@ unread unique source ts (stop.Unexpected at) e cut low f (inl h) = inl h
 unread unique source ts (stop.Unexpected at) e cut low f (inr h) = inr (inr (h.0, h.1, h.2, no_reading unique source ts cut f))
 unread unique source ts (stop.Deep at) e cut low f (inl h) = inl h
 unread unique source ts (stop.Deep at) e cut low f (inr h) = inr (inl (at, h, inr (ts, cut, low, (source_agrees (words_of ts) at).0 f)))
-
--- an error at a span within the text
-pub placed : (bytes : ℕ) (e : DeriveError) (span : Span) → (e ≡ errors.Memory) ⊎ IsSyntaxRefusal span e → span.end ≤ bytes → (e ≡ errors.Memory) ⊎ IsPlaced bytes e
-placed bytes e span (inl h) within = inl h
-placed bytes e span (inr h) within = inr (span, h, within)

@@ -11,7 +11,7 @@ use Rattle.words.specs.declared.vocabulary.Keyword.TheVariants.{Struct, Enum, Us
 use Rattle.words.specs.declared.vocabulary.Sign.TheVariants.{Colon, Comma, Semicolon, Less, Equals, Hash, Exclamation}
 use Rattle.words.specs.Words.{Word, name, underscore, keyword, sign, lifetime, literal, doc, group, words_of}
 use Rattle.words.specs.Reading.{Fault, deep, wrong, Read, ◌>>=◌, as_name, as_keyword, as_sign, as_group, name_at, keyword_at, sign_at, group_at}
-use Rattle.type_grammar.specs.Opening.{Passes, OpensList, in_first, behind}
+use Rattle.type_grammar.specs.Opening.{Passes, OpensList, in_first, behind, most_levels}
 use Rattle.type_grammar.specs.Reading.{type_at}
 use Rattle.type_grammar.proofs.Laws.{Agrees, read_passes, passed_reads}
 use Rattle.words.specs.Lists.{after_comma, turn_at, many_at, many_of, itself, list_of}
@@ -22,7 +22,7 @@ use Rattle.attributes.proofs.Laws.{attributes_sound, attributes_no_longer}
 use Rattle.syntax.specs.Items.{FieldItem, FieldItems, named, unnamed, VariantItem, ParameterItem, struct_body, enum_body, HeadItem, DeclaredItem}
 use Rattle.syntax.specs.ItemWords.{after_semicolon, before_comma, from_comma, is_end}
 use Rattle.syntax.specs.ItemGrammar.{IsVisibility, IsNamedField, IsUnnamedField, IsFields, unnamed_fields, IsVariant, use_line}
-use Rattle.syntax.specs.ItemDepth.{most_levels, within_levels, OpensNamed, in_named, OpensUnnamed, in_unnamed, OpensFields, in_named_fields, in_unnamed_fields, OpensVariant, in_variant_fields, OpensGenerics, OpensWhere, in_predicates, OpensStructBody, in_first_clause, in_braced, in_tuple, in_last_clause, OpensStruct, in_struct_generics, in_struct_body, OpensEnumBody, in_enum_clause, in_variants, OpensEnum, in_enum_generics, in_enum_body, OpensDeclaration, in_struct, in_enum, OpensItems, in_declaration, behind_use, behind_declaration, OpensSource, behind_inner_doc, behind_inner_attribute, in_items}
+use Rattle.syntax.specs.ItemDepth.{within_levels, OpensNamed, in_named, OpensUnnamed, in_unnamed, OpensFields, in_named_fields, in_unnamed_fields, OpensVariant, in_variant_fields, OpensGenerics, OpensWhere, in_predicates, OpensStructBody, in_first_clause, in_braced, in_tuple, in_last_clause, OpensStruct, in_struct_generics, in_struct_body, OpensEnumBody, in_enum_clause, in_variants, OpensEnum, in_enum_generics, in_enum_body, OpensDeclaration, in_struct, in_enum, OpensItems, in_declaration, behind_use, behind_declaration, OpensSource, behind_inner_doc, behind_inner_attribute, in_items}
 use Rattle.syntax.specs.Generics.{IsGenerics, IsWhere, no_where, where_clause}
 use Rattle.syntax.specs.GenericReading.{generics_at, after_where}
 use Rattle.syntax.specs.ItemReading.{after_visibility, field_of, named_field_at, unnamed_field_at, fields_in, fields_at, without_fields, begins_group, tuple_body_at, other_body_at, struct_body_at, value_or_none, discriminant_at, variant_of, variant_at, head_of, struct_at, enum_body_at, enum_at, struct_or_enum, declaration_at, left_by, use_or_declaration, item_at, kept, after_inner_attribute, inner_at, inner_from, after_inner_within, after_inner, items_at, source_at}

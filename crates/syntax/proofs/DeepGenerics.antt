@@ -9,7 +9,7 @@ use Rattle.words.specs.Words.{Word, name, keyword, sign, lifetime}
 use Rattle.words.specs.Reading.{Fault, deep, Read, ◌>>=◌, first_as, as_name, as_sign, keyword_at, sign_at, lifetime_at}
 use Rattle.words.proofs.Laws.{bind_ok, bind_err, ok_is, first_shallow, Finds, name-is, keyword-is, sign-is}
 use Rattle.type_grammar.specs.Grammar.{IsType}
-use Rattle.type_grammar.specs.Opening.{OpensList}
+use Rattle.type_grammar.specs.Opening.{OpensList, most_levels}
 use Rattle.type_grammar.specs.Reading.{type_at, type_in, after_bounds, ends_list, ends_clause, list_until}
 use Rattle.type_grammar.proofs.Laws.{lifetime_at-is, Agrees, read_passes, passed_reads, list_agrees}
 use Rattle.type_grammar.proofs.Laws as types
@@ -21,7 +21,7 @@ use Rattle.syntax.specs.Items.{ParameterItem, type_parameter, const_parameter}
 use Rattle.syntax.specs.Generics.{IsParameter, IsPredicate}
 use Rattle.syntax.specs.GenericReading.{Readers, after_lifetimes, lifetimes_or_none, outlived_or_not, after_outlived, bounded_or_not, after_bounded, const_or_type, lifetime_or_other, bare_parameter_at, parameter_at, generics_or_none, generics_at, after_bounded_type, predicate_at, predicates_or_none, after_where}
 use Rattle.syntax.specs.GenericReading as reading
-use Rattle.syntax.specs.ItemDepth.{most_levels, most_in_bounds, within_levels, OpensBounds, OpensParameter, in_type_bounds, in_const_type, OpensGenerics, in_parameters, OpensPredicate, in_lifetime_bounds, in_bounded_type, in_predicate_bounds, OpensWhere, in_predicates}
+use Rattle.syntax.specs.ItemDepth.{most_in_bounds, within_levels, OpensBounds, OpensParameter, in_type_bounds, in_const_type, OpensGenerics, in_parameters, OpensPredicate, in_lifetime_bounds, in_bounded_type, in_predicate_bounds, OpensWhere, in_predicates}
 use Rattle.syntax.proofs.Types.{type_sound, type_complete, type_begins, type_agrees, opens_begins, bounds_sound, bounds_agree}
 use Rattle.syntax.proofs.SoundGenerics.{AreSound, parameter_sound, parameter_shortens, predicate_sound, predicate_shortens}
 use Rattle.syntax.proofs.CompleteGenerics.{AreComplete, type_head, const_head, bounded_head, behind_bounded, predicate_head, parameter_complete, predicate_complete, parameter_begins, predicate_begins, attributes_begin, type_no_clause_end}

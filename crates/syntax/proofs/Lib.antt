@@ -10,5 +10,4 @@ mod Complete
 mod DeepGenerics
 mod Deep
 mod Answered
-mod TypeText
 mod Named

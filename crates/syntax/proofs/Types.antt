@@ -10,11 +10,10 @@ use Rattle.words.specs.Reading.{deep, Read, ◌>>=◌}
 use Rattle.type_grammar.specs.declared.starts.Bounds.TheVariants.{Any}
 use Rattle.type_grammar.specs.Starts.{Stops, begins_type}
 use Rattle.type_grammar.specs.Grammar.{IsType, IsBounds, pathed, referred, wrapped, unit, several, sliced, arrayed, object}
-use Rattle.type_grammar.specs.Opening.{OpensType, OpensTypeOf, OpensInBounds}
+use Rattle.type_grammar.specs.Opening.{OpensType, OpensTypeOf, OpensInBounds, most_levels}
 use Rattle.type_grammar.specs.Reading.{after_bounds, type_at, type_in, type_step, path_at, segments_in, segments_at, segment_at, round_at}
 use Rattle.type_grammar.proofs.Laws as laws
 use Rattle.syntax.specs.ItemWords.{is_restriction}
-use Rattle.syntax.specs.ItemDepth.{most_levels}
 
 pub type_sound : (n : ℕ) (ws : List Word) (t : Written) (rest : List Word) → type_at n ws ≡ Ok (t, rest) → IsType ws t rest
 type_sound n ws t rest e = laws.type_sound n Any ws t rest e

@@ -10,7 +10,7 @@ use Rattle.words.specs.declared.vocabulary.Keyword.TheVariants.{Struct, Enum, Co
 use Rattle.words.specs.declared.vocabulary.Sign.TheVariants.{Colon, Less, Hash, Exclamation}
 use Rattle.words.specs.Words.{Word, name, keyword, sign, lifetime, doc, group, words_of}
 use Rattle.type_grammar.specs.Grammar.{IsType}
-use Rattle.type_grammar.specs.Opening.{Passes, OpensList, OpensInBounds, OpensTypeOf, OpensType}
+use Rattle.type_grammar.specs.Opening.{Passes, OpensList, OpensInBounds, OpensTypeOf, OpensType, most_levels}
 use Rattle.type_grammar.specs.Reading.{type_at, type_in, after_bounds}
 use Rattle.attributes.specs.Attributes.{AttributeItem}
 use Rattle.attributes.specs.AttributeWords.{is_inner_text}
@@ -19,9 +19,6 @@ use Rattle.syntax.specs.Items.{FieldItem, unnamed, ParameterItem, DeclaredItem}
 use Rattle.syntax.specs.Generics.{IsParameter, IsGenerics, IsPredicate, IsWhere}
 use Rattle.syntax.specs.GenericReading.{Readers}
 use Rattle.syntax.specs.ItemGrammar.{IsVisibility, IsNamedField, IsUnnamedField, IsFields, IsVariant, IsUse, IsDeclaration}
-
-abbrev pub most_levels : ℕ
-most_levels = 64
 
 -- A path among bounds is at level 1, as a path that is a type is; what stands in its arguments has the other 63.
 abbrev pub most_in_bounds : ℕ

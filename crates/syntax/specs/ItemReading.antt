@@ -1,8 +1,5 @@
 -- Reading items from left to right, as functions. Types are read by ty, and types and bounds by readers.
-use Rattle.std.specs.Prelude.{◌≡◌, ◌≤◌, ◌⊎◌, ℕ, zero, suc, List, [], ◌∷◌, length, Bool, true, false, not, cond, ◌&&◌, is_some, Option, Some, None, Result, Ok, Err}
-use Rattle.diag.specs.Refusal.{IsSyntaxRefusal, IsDepthRefusal}
-use Rattle.diag.specs.declared.error.DeriveError.{DeriveError}
-use Rattle.diag.specs.declared.error.DeriveError.TheVariants as errors
+use Rattle.std.specs.Prelude.{ℕ, zero, suc, List, [], ◌∷◌, length, Bool, true, false, not, cond, ◌&&◌, is_some, Option, Some, None, Result, Ok, Err}
 use Rattle.texts.specs.declared.span.Span.{Span}
 use Rattle.tokens.specs.declared.token.Bracket.{Bracket}
 use Rattle.tokens.specs.declared.token.Bracket.TheVariants.{Round, Square, Curly}
@@ -10,8 +7,6 @@ use Rattle.written_types.specs.declared.written.Ident.{Ident}
 use Rattle.written_types.specs.Written.{Written}
 use Rattle.words.specs.declared.vocabulary.Keyword.TheVariants.{Pub, Struct, Enum, Use}
 use Rattle.words.specs.declared.vocabulary.Sign.TheVariants.{Colon, Comma, Semicolon, Equals, Hash, Exclamation}
-use Rattle.words.specs.declared.stopping.Stop.{Stop}
-use Rattle.words.specs.declared.stopping.Stop.TheVariants as stop
 use Rattle.words.specs.Words.{Word, group, words_of}
 use Rattle.words.specs.Reading.{Fault, wrong, Read, ◌>>=◌, same_bracket, as_sign, name_at, keyword_at, sign_at, group_at}
 use Rattle.words.specs.Lists.{many_of, list_of}
@@ -168,14 +163,3 @@ items_at r ws = many_of kept (item_at r) ws
 
 unfoldable pub source_at : Readers → List Word → Result (List DeclaredItem) Fault
 source_at r ws = items_at r (after_inner ws)
-
--- an error of the kind at a span of a text with so many bytes
-abbrev pub IsPlaced : ℕ → DeriveError → Type 0
-IsPlaced bytes e = (span : Span) × IsSyntaxRefusal span e × (span.end ≤ bytes)
-
--- the error that tells why reading stopped, in a text of so many bytes
-abbrev pub IsRefusalOf : Stop → ℕ → DeriveError → Type 0
-IsRefusalOf (stop.Unexpected at) bytes e = (e ≡ errors.Memory) ⊎ IsPlaced bytes e
-IsRefusalOf stop.Ended bytes e = (e ≡ errors.Memory) ⊎ IsPlaced bytes e
-IsRefusalOf (stop.Deep at) bytes e = (e ≡ errors.Memory) ⊎ IsDepthRefusal at e
-IsRefusalOf stop.Memory bytes e = e ≡ errors.Memory

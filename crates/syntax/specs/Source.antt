@@ -1,5 +1,5 @@
--- A source and its declarations, and the text of a type.
-use Rattle.std.specs.Prelude.{ℕ, ◌≤◌, ◌⊎◌, List, [], length}
+-- A source and its declarations.
+use Rattle.std.specs.Prelude.{ℕ, ◌≤◌, ◌⊎◌, List, length}
 use Rattle.diag.specs.Refusal.{IsSyntaxRefusal, IsDepthRefusal}
 use Rattle.diag.specs.declared.error.DeriveError.{DeriveError}
 use Rattle.texts.specs.declared.span.Span.{Span}
@@ -8,10 +8,7 @@ use Rattle.words.specs.Words.{words_of}
 use Rattle.lexing.specs.Cut.{IsCut, OpensTooDeep, most_open}
 use Rattle.syntax.specs.Items.{DeclaredItem}
 use Rattle.syntax.specs.ItemGrammar.{IsSource}
-use Rattle.syntax.specs.ItemDepth.{most_levels, OpensSource}
-use Rattle.written_types.specs.Written.{Written}
-use Rattle.type_grammar.specs.Grammar.{IsType}
-use Rattle.type_grammar.specs.Opening.{OpensType}
+use Rattle.syntax.specs.ItemDepth.{OpensSource}
 
 -- the source is cut into trees, and these are a source of the grammar
 abbrev pub Reads : List ℕ → List DeclaredItem → Type 0
@@ -28,19 +25,3 @@ IsUnreadable source e = (span : Span) × IsSyntaxRefusal span e × (span.end ≤
 -- the error refuses a source that nests too deep, where it does
 abbrev pub IsTooDeep : List ℕ → DeriveError → Type 0
 IsTooDeep source e = (span : Span) × IsDepthRefusal span e × NestsTooDeep source span
-
--- the text is cut into trees, and these are one type
-abbrev pub ReadsType : List ℕ → Written → Type 0
-ReadsType text t = (trees : Trees) × IsCut text trees × IsType (words_of trees) t []
-
--- brackets nest deeper than 64 levels, or else parts of the type do, and the first that is too deep begins at the span
-abbrev pub TypeNestsTooDeep : List ℕ → Span → Type 0
-TypeNestsTooDeep text span = OpensTooDeep text span ⊎ ((trees : Trees) × IsCut text trees × (depth trees ≤ most_open) × OpensType most_levels (words_of trees) span)
-
--- the error refuses a text that is no type, at a span of it
-abbrev pub IsNoType : List ℕ → DeriveError → Type 0
-IsNoType text e = (span : Span) × IsSyntaxRefusal span e × (span.end ≤ length text) × ((t : Written) → ¬ (ReadsType text t))
-
--- the error refuses a text of a type that nests too deep, where it does
-abbrev pub IsDeepType : List ℕ → DeriveError → Type 0
-IsDeepType text e = (span : Span) × IsDepthRefusal span e × TypeNestsTooDeep text span

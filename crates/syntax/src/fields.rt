@@ -4,10 +4,10 @@ ghost use Rattle.std.specs.Prelude.{◌<◌, ◌≤◌, length, map, IfOk};
 ghost use Rattle.tokens.specs.Trees.{trees_view};
 ghost use Rattle.words.specs.Words.{words_of, words_view};
 ghost use Rattle.words.specs.Reading.{Gives};
+ghost use Rattle.type_grammar.specs.Opening.{most_levels};
 ghost use Rattle.type_grammar.specs.Reading.{type_at};
 ghost use Rattle.words.specs.Lists.{list_of};
 ghost use Rattle.syntax.specs.Items.{field_view, fields_view};
-ghost use Rattle.syntax.specs.ItemDepth.{most_levels};
 ghost use Rattle.syntax.specs.ItemReading.{named_field_at, unnamed_field_at, fields_at};
 
 use crate::item::{Field, Fields};
@@ -23,9 +23,9 @@ use words::{ReadItem, Sign, Stop, ident_of, list_inside, name_at, sign_at, stop_
 struct NamedField;
 
 impl ReadItem for NamedField {
+    ghost use Rattle.type_grammar.specs.Opening.{most_levels};
     ghost use Rattle.type_grammar.specs.Reading.{type_at};
     ghost use Rattle.syntax.specs.Items.{FieldItem, field_view};
-    ghost use Rattle.syntax.specs.ItemDepth.{most_levels};
     ghost use Rattle.syntax.specs.ItemReading.{named_field_at};
 
     type Item = Field;
@@ -60,9 +60,9 @@ impl ReadItem for NamedField {
 struct UnnamedField;
 
 impl ReadItem for UnnamedField {
+    ghost use Rattle.type_grammar.specs.Opening.{most_levels};
     ghost use Rattle.type_grammar.specs.Reading.{type_at};
     ghost use Rattle.syntax.specs.Items.{FieldItem, field_view};
-    ghost use Rattle.syntax.specs.ItemDepth.{most_levels};
     ghost use Rattle.syntax.specs.ItemReading.{unnamed_field_at};
 
     type Item = Field;

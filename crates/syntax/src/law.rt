@@ -4,8 +4,7 @@ ghost use Rattle.std.specs.Prelude.{◌≡◌, ℕ, List};
 ghost use Rattle.texts.specs.declared.span.Span.{Span};
 ghost use Rattle.syntax.specs.Items.{DeclaredItem};
 ghost use Rattle.syntax.specs.Named.{ReadFieldsAreNamed};
-ghost use Rattle.syntax.specs.Source.{Reads, ReadsType, NestsTooDeep, TypeNestsTooDeep};
-ghost use Rattle.written_types.specs.Written.{Written};
+ghost use Rattle.syntax.specs.Source.{Reads, NestsTooDeep};
 
 use lexing::{deep_brackets_nest_deep, one_cut, one_deep_bracket};
 
@@ -22,19 +21,10 @@ pub fn read_fields_are_named()
     ensures { ReadFieldsAreNamed }
 {}
 
-/// A text reads as at most one type.
-pub fn one_type_reading()
-    ensures { (text : List ℕ) (t u : Written) → ReadsType text t → ReadsType text u → t ≡ u }
-{
-    one_cut();
-}
-
-/// A source, and the text of a type, nests too deep at one place at most: the first that does.
+/// A source nests too deep at one place at most: the first that does.
 pub fn one_deep_place()
-    ensures sources { (source : List ℕ) (here there : Span) → NestsTooDeep source here
+    ensures { (source : List ℕ) (here there : Span) → NestsTooDeep source here
         → NestsTooDeep source there → here ≡ there }
-    ensures types { (text : List ℕ) (here there : Span) → TypeNestsTooDeep text here
-        → TypeNestsTooDeep text there → here ≡ there }
 {
     one_cut();
     one_deep_bracket();

@@ -1,4 +1,4 @@
-//! Syntax: from a source's text to the structs and enums that it declares, and from a text to a written type.
+//! Syntax: from a source's text to the structs and enums that it declares. Texts of types are read by crate `type_grammar`.
 //!
 //! ```text
 //! source  = (inner-doc | "#" "!" square-group)* item*
@@ -35,9 +35,10 @@ mod where_clause;
 
 pub use attributes::{Attribute, CommentAttributes, Meta};
 pub use item::{Body, Declaration, Declarations, Field, Fields, GenericParam, Generics, Variant};
-pub use law::{one_deep_place, one_reading, one_type_reading, read_fields_are_named};
+pub use law::{one_deep_place, one_reading, read_fields_are_named};
 pub use lexing::{lex, one_cut};
 pub use literal_values::{LiteralValue, literal_value};
-pub use parse::{parse_declarations, parse_type};
+pub use parse::parse_declarations;
 pub use tokens::{Bracket, Cursor, Group, Token, TokenKind, TokenTree};
+pub use type_grammar::{one_deep_type, one_type_reading, parse_type};
 pub use written_types::{GenericArgument, Ident, Path, PathSegment, WrittenType};

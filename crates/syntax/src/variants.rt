@@ -5,11 +5,12 @@ ghost use Rattle.std.specs.Option.{option_map};
 ghost use Rattle.tokens.specs.Trees.{trees_view};
 ghost use Rattle.words.specs.Words.{words_of, words_view};
 ghost use Rattle.words.specs.Reading.{Gives};
+ghost use Rattle.type_grammar.specs.Opening.{most_levels};
 ghost use Rattle.type_grammar.specs.Reading.{type_at};
 ghost use Rattle.words.specs.Lists.{list_of};
 ghost use Rattle.syntax.specs.Items.{variant_view};
 ghost use Rattle.syntax.specs.ItemWords.{before_comma, from_comma};
-ghost use Rattle.syntax.specs.ItemDepth.{most_levels, within_levels};
+ghost use Rattle.syntax.specs.ItemDepth.{within_levels};
 ghost use Rattle.syntax.specs.ItemReading.{discriminant_at, variant_at, enum_body_at};
 
 use crate::fields::fields_at;
@@ -75,9 +76,9 @@ fn discriminant_at(
 struct EnumVariant;
 
 impl ReadItem for EnumVariant {
+    ghost use Rattle.type_grammar.specs.Opening.{most_levels};
     ghost use Rattle.type_grammar.specs.Reading.{type_at};
     ghost use Rattle.syntax.specs.Items.{VariantItem, variant_view};
-    ghost use Rattle.syntax.specs.ItemDepth.{most_levels};
     ghost use Rattle.syntax.specs.ItemReading.{variant_at};
 
     type Item = Variant;

@@ -28,3 +28,5 @@ pub use Rattle.type_grammar.proofs.Deep.{opens_begins}
 pub use Rattle.type_grammar.proofs.Unique.{inside, opens_light, in_bounds_light}
 -- a type is of one grammar alone
 pub use Rattle.type_grammar.proofs.Unique.{type_one}
+-- what opens at one place nests too deep at one
+pub use Rattle.type_grammar.proofs.TypeText.{nests_once}

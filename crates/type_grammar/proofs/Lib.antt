@@ -10,4 +10,5 @@ pub mod Complete
 pub mod Deep
 pub mod Unique
 pub mod Answered
+pub mod TypeText
 pub mod Laws

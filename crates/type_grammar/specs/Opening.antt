@@ -87,3 +87,7 @@ OpensTypeOf (suc n) bounds ws at = OpensWithin (OpensTypeOf n) bounds ws at
 -- in a type
 abbrev pub OpensType : ℕ → List Word → Span → Type 0
 OpensType n = OpensTypeOf n Any
+
+-- how many levels a type may nest
+abbrev pub most_levels : ℕ
+most_levels = 64

@@ -1,4 +1,4 @@
-//! The grammar of types.
+//! The grammar of types, and from a text to a type.
 //!
 //! ```text
 //! type     = path | "&" lifetime? "mut"? type | "(" type ")" | "(" ")"
@@ -21,6 +21,8 @@
 mod bound_list;
 mod constants;
 mod ended_list;
+mod law;
+mod parse;
 mod parts;
 mod read;
 mod starts;
@@ -28,6 +30,8 @@ mod types;
 
 pub use bound_list::after_bounds;
 pub use ended_list::list_until;
+pub use law::{one_deep_type, one_type_reading};
+pub use parse::{parse_type, refusal_of};
 pub use read::{
     MAX_LEVELS, bounds_are_read, one_bound, one_type, read_type, types_are_read, types_begin,
 };

@@ -26,4 +26,4 @@ pub returns-clause-refused : goal.returns-clause-refused
 returns-clause-refused c =
     let cut = subst (λ v. IsCut c.args.source.now (trees_view v)) (sym c.as_slice.ensures) c.in_ok-trees.ensures.found in
     let low = subst (λ v. depth (trees_view v) ≤ 64) (sym c.as_slice.ensures) c.in_ok-trees.ensures.shallow in
-    unread c.one_cut.ensures c.args.source.now (trees_view c.as_slice.result.now) c.in-Err.stop c.refusal.result cut low c.in-Err.ensures c.refusal.ensures
+    unread c.one_cut.ensures c.args.source.now (trees_view c.as_slice.result.now) c.in-Err.stop c.refusal_of.result cut low c.in-Err.ensures c.refusal_of.ensures

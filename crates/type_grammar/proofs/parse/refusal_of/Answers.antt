@@ -1,7 +1,7 @@
 use Rattle.std.proofs.Common.{subst, sym, arith, ◌≤◌}
-use Rattle.syntax.specs.ItemReading.{IsRefusalOf}
-use Rattle.syntax.proofs.Answered.{placed}
-use Rattle.syntax.proofs.parse.refusal.Goals as goal
+use Rattle.type_grammar.specs.Source.{IsRefusalOf}
+use Rattle.type_grammar.proofs.TypeText.{placed}
+use Rattle.type_grammar.proofs.parse.refusal_of.Goals as goal
 
 pub returns-in-Unexpected : goal.returns-in-Unexpected
 returns-in-Unexpected c = subst (λ s. IsRefusalOf s c.args.bytes c.syntax.result) (sym c.in-Unexpected.is) (placed c.args.bytes c.syntax.result c.within.result c.syntax.ensures c.within.ensures)

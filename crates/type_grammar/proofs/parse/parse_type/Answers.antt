@@ -4,8 +4,8 @@ use Rattle.tokens.specs.Trees.{trees_view, depth}
 use Rattle.lexing.specs.Cut.{IsCut}
 use Rattle.words.specs.declared.stopping.Stop.{Stop}
 use Rattle.written_types.specs.declared.written.WrittenType.{WrittenType}
-use Rattle.syntax.proofs.TypeText.{type_shallow, type_unread, type_passed_on}
-use Rattle.syntax.proofs.parse.parse_type.Goals as goal
+use Rattle.type_grammar.proofs.TypeText.{type_shallow, type_unread, type_passed_on}
+use Rattle.type_grammar.proofs.parse.parse_type.Goals as goal
 
 pub returns-in_err-trees-clause-refused : goal.returns-in_err-trees-clause-refused
 returns-in_err-trees-clause-refused c =
@@ -28,7 +28,7 @@ returns-clause-refused c =
     let cut = subst (λ v. IsCut c.args.text.now (trees_view v)) (sym c.as_slice.ensures) c.in_ok-trees.ensures.found in
     let low = subst (λ v. depth (trees_view v) ≤ 64) (sym c.as_slice.ensures) c.in_ok-trees.ensures.shallow in
     let err : Stop → Result WrittenType Stop = λ s. Err s in
-    type_unread c.one_cut.ensures c.args.text.now (trees_view c.as_slice.result.now) cut low c.in-Err.stop c.refusal.result
+    type_unread c.one_cut.ensures c.args.text.now (trees_view c.as_slice.result.now) cut low c.in-Err.stop c.refusal_of.result
     (λ at is. c.in-Err.ensures.deep at (ap err is))
     (λ wrong. c.in-Err.ensures.wrong c.in-Err.stop refl wrong)
-    c.refusal.ensures
+    c.refusal_of.ensures

@@ -1,6 +1,7 @@
 -- What the reader of a type's text ensures.
 use Rattle.std.proofs.Common.{◌≡◌, ℕ, ◌<◌, ◌≤◌, arith, ◌⊎◌, inl, inr, List, [], length, refl, subst}
 use Rattle.texts.specs.declared.span.Span.{Span}
+use Rattle.diag.specs.Refusal.{IsSyntaxRefusal}
 use Rattle.diag.specs.declared.error.DeriveError.{DeriveError}
 use Rattle.diag.specs.declared.error.DeriveError.TheVariants as errors
 use Rattle.tokens.specs.Trees.{Trees, depth}
@@ -8,19 +9,19 @@ use Rattle.lexing.specs.Cut.{IsCut, OpensTooDeep, IsDepthError, IsSyntaxError, m
 use Rattle.written_types.specs.Written.{Written}
 use Rattle.words.specs.declared.stopping.Stop.{Stop}
 use Rattle.words.specs.declared.stopping.Stop.TheVariants as stop
-use Rattle.words.specs.Words.{words_of}
+use Rattle.words.specs.Words.{Word, words_of}
 use Rattle.words.specs.Reading.{IsWrong}
 use Rattle.type_grammar.specs.Grammar.{IsType}
-use Rattle.type_grammar.specs.Opening.{OpensType}
-use Rattle.type_grammar.proofs.Laws.{type_one}
-use Rattle.syntax.specs.ItemDepth.{most_levels}
-use Rattle.syntax.specs.ItemReading.{IsRefusalOf}
-use Rattle.syntax.specs.Source.{ReadsType, TypeNestsTooDeep, IsNoType, IsDeepType}
+use Rattle.type_grammar.specs.Opening.{OpensType, most_levels}
+use Rattle.type_grammar.specs.Source.{ReadsType, TypeNestsTooDeep, IsNoType, IsDeepType, IsPlaced, IsRefusalOf}
+use Rattle.type_grammar.proofs.Unique.{type_one}
 
-abbrev OneCut : Type 0
+-- a text has at most one list of trees
+abbrev pub OneCut : Type 0
 OneCut = (source : List ℕ) (ts us : Trees) → IsCut source ts → IsCut source us → ts ≡ us
 
-abbrev DeepNest : Type 0
+-- where a bracket opens too deep, trees nest deeper
+abbrev pub DeepNest : Type 0
 DeepNest = (source : List ℕ) (ts : Trees) (at : Span) → IsCut source ts → OpensTooDeep source at → 64 < depth ts
 
 pub one_type : OneCut → (text : List ℕ) (t u : Written) → ReadsType text t → ReadsType text u → t ≡ u
@@ -49,3 +50,22 @@ module _ (unique : OneCut) (text : List ℕ) (ts : Trees) (cut : IsCut text ts) 
   type_unread (stop.Unexpected at) e deep wrong (inr h) = inr (inr (h.0, h.1, h.2, no_type (wrong tt)))
   type_unread (stop.Deep at) e deep wrong (inl h) = inl h
   type_unread (stop.Deep at) e deep wrong (inr h) = inr (inl (at, h, inr (ts, cut, low, deep at refl)))
+
+-- an error at a span within the text
+pub placed : (bytes : ℕ) (e : DeriveError) (span : Span) → (e ≡ errors.Memory) ⊎ IsSyntaxRefusal span e → span.end ≤ bytes → (e ≡ errors.Memory) ⊎ IsPlaced bytes e
+placed bytes e span (inl h) within = inl h
+placed bytes e span (inr h) within = inr (span, h, within)
+
+-- ---- where texts nest too deep
+
+-- brackets too deep, or else what opens in the words of trees that nest no deeper
+abbrev pub Nests : (List Word → Span → Type 0) → List ℕ → Span → Type 0
+Nests Opens text at = OpensTooDeep text at ⊎ ((trees : Trees) × IsCut text trees × (depth trees ≤ most_open) × Opens (words_of trees) at)
+
+-- what opens at one place nests too deep at one
+pub nests_once : OneCut → ((text : List ℕ) (a b : Span) → OpensTooDeep text a → OpensTooDeep text b → a ≡ b) → DeepNest → (Opens : List Word → Span → Type 0) → ((ws : List Word) (a b : Span) → Opens ws a → Opens ws b → a ≡ b)
+    → (text : List ℕ) (a b : Span) → Nests Opens text a → Nests Opens text b → a ≡ b
+nests_once unique one_bracket deeper Opens one text a b (inl h) (inl k) = one_bracket text a b h k
+nests_once unique one_bracket deeper Opens one text a b (inl h) (inr k) = absurd (omega (arith, deeper text k.0 a k.1 h, k.2))
+nests_once unique one_bracket deeper Opens one text a b (inr h) (inl k) = absurd (omega (arith, deeper text h.0 b h.1 k, h.2))
+nests_once unique one_bracket deeper Opens one text a b (inr h) (inr k) = one (words_of k.0) a b (subst (λ v. Opens (words_of v) a) (unique text h.0 k.0 h.1 k.1) h.3) k.3

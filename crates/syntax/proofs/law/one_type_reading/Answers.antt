@@ -1,5 +1,0 @@
-use Rattle.syntax.proofs.TypeText.{one_type}
-use Rattle.syntax.proofs.law.one_type_reading.Goals as goal
-
-pub returns : goal.returns
-returns c = one_type c.one_cut.ensures
