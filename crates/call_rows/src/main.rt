@@ -32,6 +32,7 @@ fn told(alloc: Global, row: &Row) -> anyhow::Result<String> {
         "Config::collect" => single_words::collected(alloc),
         "to_value" => single_words::document(alloc, given),
         "tree" => trees::tree(alloc, given),
+        "path_generics" => trees::generics(alloc, given),
         "schema_type" => trees::tests(alloc, given),
         "format" => trees::format(alloc, given),
         "parse_format" => trees::format_value(alloc, given),

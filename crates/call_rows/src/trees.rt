@@ -7,7 +7,7 @@ use rows::given::{pair_of, text_of};
 use rows::refusal_text;
 use serde_json::Value;
 use std::alloc::{AllocError, Global};
-use syntax::parse_type;
+use syntax::{GenericParam, Generics, parse_type};
 use tokens::TokenTree;
 use type_tree::{KnownFormat, PrimitiveType, SchemaType, TypeTree};
 use words::ident_of;
@@ -57,6 +57,42 @@ fn parsed_text(alloc: Global, source: &str, name: &str) -> Result<String, Derive
 pub(crate) fn tree(alloc: Global, given: &Value) -> anyhow::Result<String> {
     let (written, name) = pair_of(given)?;
     Ok(parsed_text(alloc, text_of(written)?, text_of(name)?)?)
+}
+
+/// What the parameter is, and its name.
+fn parameter_text(alloc: Global, param: &GenericParam) -> Result<String, AllocError> {
+    match param {
+        GenericParam::Lifetime(ident) => format!(in alloc; "lifetime {}", ident.text.as_str()),
+        GenericParam::Ty(ident) => format!(in alloc; "type {}", ident.text.as_str()),
+        GenericParam::Constant(ident) => format!(in alloc; "constant {}", ident.text.as_str()),
+    }
+}
+
+/// How many parameters there are, and each of them.
+fn generics_text(alloc: Global, generics: &Generics) -> Result<String, AllocError> {
+    let params = generics.params.as_slice();
+    let mut text = params.len().to_string(alloc)?;
+    for param in params {
+        let param = parameter_text(alloc, param)?;
+        text.push_str(", ")?;
+        text.push_str(param.as_str())?;
+    }
+    Ok(text)
+}
+
+/// The generic parameters that the arguments of the type's path name.
+fn type_generics(alloc: Global, ty: &WrittenType) -> Result<String, AllocError> {
+    let tree = TypeTree::from_type(alloc, ty)?;
+    match tree.get_path_generics(alloc)? {
+        Some(generics) => generics_text(alloc, &generics),
+        None => String::from_str(alloc, "no path"),
+    }
+}
+
+/// The generic parameters that the arguments of the type's path name.
+pub(crate) fn generics(alloc: Global, given: &Value) -> anyhow::Result<String> {
+    let ty = parse_type(alloc, text_of(given)?)?;
+    Ok(type_generics(alloc, &ty)?)
 }
 
 /// Whether the type is built-in, and unsigned.

@@ -3,3 +3,4 @@ pub mod Segments
 pub mod Views
 pub mod Equal
 pub mod AttributeTrees
+pub mod PathGenerics

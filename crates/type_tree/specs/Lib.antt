@@ -1,4 +1,5 @@
 pub mod Formats
+pub mod PathGenerics
 pub mod Tests
 pub mod TypeTrees
 pub mod Spanless

@@ -9,6 +9,7 @@ mod format_value;
 mod known_format;
 mod law;
 mod path;
+mod path_generics;
 mod primitive;
 mod schema_type;
 mod tree;
