@@ -43,7 +43,6 @@ fn of_schemas() {
     schema_core::texts_are_one();
     schema_core::documents_are_one();
     schema_core::texts_read_back();
-    schema_core::documents_are_held();
     schema_core::type_words_are_equal();
     component::references_are_leaves();
     shapes::shapes_deepen();
@@ -68,6 +67,7 @@ fn of_documents() {
     serde_rules::representations_are_equal();
     inlining::orders_stand();
     compose::bounded_are_not_refused();
+    compose::components_are_one();
     closing::components_describe();
     closing::components_lead();
     closing::schemas_describe();
@@ -75,6 +75,7 @@ fn of_documents() {
     closing::references_accept();
     closing::places_agree();
     schema_gen::sound_is_not_refused();
+    schema_gen::told_texts_are_one();
 }
 
 /// Each law returns.

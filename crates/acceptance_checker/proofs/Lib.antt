@@ -1,5 +1,4 @@
 pub mod Levels
 mod Prefixes
-mod ReadBack
 mod Schemas
 pub mod Views

@@ -53,3 +53,7 @@ pub record IsDerived (c : Configuration) (source : List ℕ) (components : List 
   pub bounded : AreBounded c resolved
   pub apart : AreApartBodies resolved
   pub components_are : AreComponents resolved (collects_all c.collect) components
+
+-- The law: a configuration and a source have one list of components.
+abbrev pub ComponentsAreOne : Type 0
+ComponentsAreOne = (c : Configuration) (source : List ℕ) (es fs : List Entry) → IsDerived c source es → IsDerived c source fs → es ≡ fs

@@ -17,6 +17,6 @@ pub use closing::{
     schemas_describe,
 };
 pub use derive::{Derived, derive_components};
-pub use law::bounded_are_not_refused;
+pub use law::{bounded_are_not_refused, components_are_one};
 pub use names::component_name;
 pub use sets::{InstanceSet, TermSet, compose, instances, terms};

@@ -1,5 +1,5 @@
 -- Entries whose names are in byte order.
-use Rattle.std.proofs.Common.{ℕ, zero, suc, ◌<◌, ◌≤◌, List, [], ◌∷◌, Some, None, Result, Ok, Err, MatchResult, false, cond, bytes_eq, length, take, get_or, map, insert, remove, nat_cmp, Ordering, Less, Equal, Greater, is_eq, ◌≡◌, refl, ap, sym, subst, ◌∙◌, arith, ◌⊎◌, inl, inr, le_refl}
+use Rattle.std.proofs.Common.{ℕ, zero, suc, ◌<◌, ◌≤◌, List, [], ◌∷◌, ◌++◌, Some, None, Result, Ok, Err, MatchResult, false, cond, bytes_eq, length, take, get_or, map, insert, remove, nat_cmp, Ordering, Less, Equal, Greater, is_eq, ◌≡◌, refl, ap, sym, subst, ◌∙◌, arith, ◌⊎◌, inl, inr, le_refl}
 use Rattle.std.specs.Cmp.Lexicographic.{slice_cmp}
 use Rattle.std.specs.Ordering.{match_ordering, ordering_index, ordering_reverse}
 use Rattle.std.specs.List.{AllByRecursion}
@@ -189,6 +189,10 @@ pub length-insert : {A : Type 0} (xs : List A) (i : ℕ) (x : A) → length (ins
 length-insert xs zero x = refl
 length-insert [] (suc i) x = refl
 length-insert (y ∷ xs) (suc i) x = ap suc (length-insert xs i x)
+
+pub all-append : {A : Type 0} (P : A → Type 0) (xs ys : List A) → AllByRecursion P xs → AllByRecursion P ys → AllByRecursion P (xs ++ ys)
+all-append P [] ys h k = k
+all-append P (x ∷ xs) ys h k = (h.0, all-append P xs ys h.1 k)
 
 -- ---- entries by their places
 module _ {S : Type 0} where

@@ -10,12 +10,12 @@ use Rattle.acceptance.specs.Json.{null, number, list, map, no_items, item, no_me
 use Rattle.acceptance.specs.Data.{data_of}
 use Rattle.schema_trees.specs.declared.tree.SchemaTypeInner.TheVariants as word
 use Rattle.schema_trees.specs.declared.tree.TypeWord.TheVariants.{One}
+use Rattle.schema_trees.specs.Held.{HasShortNumbers, HasNamesInOrder}
 use Rattle.schema_trees.specs.Bounds.{at_least}
 use Rattle.schema_trees.specs.Annotations.{no_annotations}
 use Rattle.schema_trees.specs.Objects.{word_facts, with_bounds, only_word}
 use Rattle.schema_trees.specs.Schema.{object as object_schema, no_properties, no_part}
 use Rattle.schema_core.specs.Document.{Entry, document, text_of}
-use Rattle.schema_core.specs.OneText.{HasShortNumbers, HasNamesInOrder}
 
 no_components : text_of (document []) ≡ codes "{\"components\":{\"schemas\":{}}}\n"
 unfolding text_of escape_byte

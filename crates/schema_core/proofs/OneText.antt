@@ -17,9 +17,10 @@ use Rattle.serde_json.proofs.Texts.{print-outline}
 use Rattle.acceptance.specs.Json.{Json, null, boolean, number, text, list, map, Items, no_items, item, Members, no_members, member, entries}
 use Rattle.acceptance.specs.Data.{num_of, number_of as number_held, data_of, items_data, members_data}
 use Rattle.schema_trees.specs.Bound.{IsShort}
+use Rattle.schema_trees.specs.Held.{IsInOrder, HasShortNumbers, ItemsHaveShortNumbers, MembersHaveShortNumbers}
 use Rattle.schema_core.specs.Document.{Entry, entry_form, document, text_of}
-use Rattle.schema_core.specs.Entries.{entry_names, IsInOrder}
-use Rattle.schema_core.specs.OneText.{HasShortNumbers, ItemsHaveShortNumbers, MembersHaveShortNumbers, OneText, OneDocument}
+use Rattle.schema_core.specs.Entries.{entry_names}
+use Rattle.schema_core.specs.OneText.{OneText, OneDocument}
 use Rattle.schema_core.proofs.InOrder.{entries-members_of, forms_in_order}
 
 -- ---- numbers

@@ -1,5 +1,5 @@
 -- The members of a map, written at the places of their names.
-use Rattle.std.proofs.Common.{ℕ, zero, suc, ◌+◌, ◌<◌, ◌≤◌, arith, Bool, true, false, List, [], ◌∷◌, ◌++◌, Bor, ◌≡◌, refl, ap, sym, ◌∙◌, length, map, drop, get_or, nat_cmp, Ordering, Less, Equal, Greater}
+use Rattle.std.proofs.Common.{ℕ, zero, suc, ◌+◌, ◌<◌, ◌≤◌, arith, Bool, true, false, List, [], ◌∷◌, ◌++◌, Bor, ◌≡◌, refl, ap, sym, subst, ◌∙◌, length, map, drop, get_or, nat_cmp, Ordering, Less, Equal, Greater}
 use Rattle.std.specs.BTreeMap.{insert_entry}
 use Rattle.std.specs.Cmp.Lexicographic.{slice_cmp}
 use Rattle.std.specs.List.{AllByRecursion}
@@ -7,13 +7,15 @@ use Rattle.std.specs.Ordering.{match_ordering}
 use Rattle.std.proofs.lemmas.List.{append_assoc, length-append}
 use Rattle.json.specs.Print.{quoted}
 use Rattle.serde_json.specs.Written.{compact_text, members_text, comma_if}
-use Rattle.acceptance.specs.Json.{Json, null, Members, no_members, member, put, put_all}
+use Rattle.acceptance.specs.Json.{Json, null, Members, no_members, member, put, put_all, map_of}
 use Rattle.acceptance.specs.Data.{data_of, members_data}
+use Rattle.schema_trees.specs.Held.{IsHeld}
 use Rattle.schema_trees.specs.declared.tree.Tree.{Tree}
 use Rattle.schema_trees.specs.declared.tree.RefLeaf.{RefLeaf}
 use Rattle.schema_core.specs.Form.{form, property_forms}
 use Rattle.schema_trees.specs.Schema.{named_views, schema_view}
 use Rattle.schema_core.specs.Writes.{places_from}
+use Rattle.schema_core.proofs.Held.{AreValuesHeld, values_held}
 
 abbrev Place : Type 0
 Place = List ℕ × ℕ
@@ -89,6 +91,17 @@ placed-all es before (e ∷ rest) n ps w l =
 pub places_text : (es : List (List ℕ × Json)) → placed_text false es (places_from 0 (map (λ e. e.0) es) []) ≡ members_text false (members_data (put_all es no_members))
 places_text es =
     members-placed false es (places_from 0 (map (λ e. e.0) es) []) ∙ ap (λ ms. members_text false (members_data ms)) (placed-all es [] es 0 [] refl refl)
+
+-- each value at the places can be held
+abbrev pub ArePlacedHeld : List (List ℕ × Json) → List (List ℕ × ℕ) → Type 0
+ArePlacedHeld es ps = AllByRecursion (λ p. IsHeld (value_at es p.1)) ps
+
+placed_held : (es : List (List ℕ × Json)) (ps : List Place) → ArePlacedHeld es ps → AreValuesHeld (placed_members es ps)
+placed_held es [] h = (tt, tt)
+placed_held es (p ∷ ps) h = let rest = placed_held es ps h.1 in ((h.0.0, rest.0), (h.0.1, rest.1))
+
+pub places_held : (es : List (List ℕ × Json)) → ArePlacedHeld es (places_from 0 (map (λ e. e.0) es) []) → IsHeld (map_of es)
+places_held es h = values_held es (subst AreValuesHeld (placed-all es [] es 0 [] refl refl) (placed_held es (places_from 0 (map (λ e. e.0) es) []) h))
 
 -- ---- each place is one of the list
 

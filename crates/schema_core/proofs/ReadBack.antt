@@ -12,13 +12,13 @@ use Rattle.json.specs.Word.{ends_word, word as word_at}
 use Rattle.json.proofs.Printed.Numbers.{lex-number, in_word-ended}
 use Rattle.json.proofs.Printed.Strings.{content-escape, lex-escape}
 use Rattle.serde_json.specs.Data.{Data, Items as DataItems, Members as DataMembers, null as d_null, boolean as d_boolean, number as d_number, string, array, object, no_items as no_data, item as data_item, no_members as no_entries, member as entry, put as put_data, depth, items_depth, members_depth}
-use Rattle.serde_json.specs.Read.{of_json, of_items, of_members, max_depth, read}
+use Rattle.serde_json.specs.Read.{of_json, of_items, of_members, max_depth}
 use Rattle.serde_json.specs.Written.{number_text, outline, items_outline, members_outline, comma_if, compact_text, items_text, members_text}
 use Rattle.acceptance.specs.Json.{Json, null, boolean, number, text, list, map, Items, no_items, item, Members, no_members, member, entries, names}
 use Rattle.acceptance.specs.Data.{num_of, data_of, items_data, members_data}
+use Rattle.schema_trees.specs.Held.{IsInOrder, HasShortNumbers, ItemsHaveShortNumbers, MembersHaveShortNumbers, HasNamesInOrder, ItemsHaveNamesInOrder, MembersHaveNamesInOrder}
 use Rattle.schema_core.specs.Document.{text_of}
-use Rattle.schema_core.specs.Entries.{IsInOrder}
-use Rattle.schema_core.specs.OneText.{HasShortNumbers, ItemsHaveShortNumbers, MembersHaveShortNumbers, HasNamesInOrder, ItemsHaveNamesInOrder, MembersHaveNamesInOrder, TextsReadBack}
+use Rattle.schema_core.specs.OneText.{TextsReadBack}
 use Rattle.schema_core.proofs.InOrder.{members_of, members_of-entries, IsBehind, put_last, all_more, behind_none}
 use Rattle.schema_core.proofs.OneText.{digits_read, are_digits, tree_of, tokens_are, tree_read}
 use Rattle.schema_core.proofs.Puts.{data_put}

@@ -1,17 +1,20 @@
 -- Members written one after another are those of the form.
-use Rattle.std.proofs.Common.{ℕ, Bool, true, false, ◌&&◌, List, [], ◌∷◌, ◌++◌, Option, Some, None, Ordering, Less, Equal, Greater, ◌≡◌, refl, ap, sym, ◌∙◌, codes}
-use Rattle.std.proofs.lemmas.Bool.{and_parts}
+use Rattle.std.proofs.Common.{ℕ, Bool, true, false, ◌&&◌, List, [], ◌∷◌, ◌++◌, Option, Some, None, IfSome, Ordering, Less, Equal, Greater, ◌≡◌, refl, ap, sym, subst, ◌∙◌, codes}
+use Rattle.std.proofs.lemmas.Bool.{and_parts, false≢true}
 use Rattle.std.proofs.lemmas.List.{append-nil, append_assoc}
+use Rattle.std.specs.List.{AllByRecursion}
 use Rattle.std.specs.Ordering.{match_ordering}
 use Rattle.json.specs.Print.{quoted, escape_byte}
 use Rattle.serde_json.specs.Written.{compact_text, members_text, comma_if}
 use Rattle.acceptance.specs.Json.{Json, text, list, no_items, item, Members, no_members, member, put, put_given}
 use Rattle.acceptance.specs.Data.{data_of, members_data}
-use Rattle.schema_core.specs.Form.{put_fields, fields_form, word_text}
+use Rattle.schema_trees.specs.Held.{IsHeld}
 use Rattle.schema_trees.specs.declared.tree.SchemaTypeInner.{SchemaTypeInner}
 use Rattle.schema_trees.specs.declared.tree.SchemaTypeInner.TheVariants as word
-use Rattle.schema_core.specs.Writes.{key_text, field_text, goes_on, fields_text, is_later, Writes}
-use Rattle.schema_core.proofs.EntryLaws.{compare}
+use Rattle.schema_core.specs.Form.{put_fields, fields_form, word_text}
+use Rattle.schema_core.specs.Writes.{key_text, field_text, goes_on, fields_text, is_later, Writes, WritesValue}
+use Rattle.schema_core.proofs.EntryLaws.{compare, all-append}
+use Rattle.schema_core.proofs.Held.{fields_held}
 
 abbrev pub Field : Type 0
 Field = List ℕ × Option Json
@@ -28,33 +31,38 @@ is_later-append : (later : Bool) (fs gs : List Field) → is_later later (fs ++ 
 is_later-append later [] gs = refl
 is_later-append later (f ∷ fs) gs = is_later-append (goes_on later f.1) fs gs
 
+abbrev AreHeld : List Field → Type 0
+AreHeld fs = AllByRecursion (λ f. IfSome f.1 IsHeld) fs
+
 pub then : {fs gs : List Field} {a b c : Bool} {x y z : List ℕ} → Writes fs a x b y → Writes gs b y c z → Writes (fs ++ gs) a x c z
 then {fs} {gs} {a} {b} {c} {x} {y} {z} v w = record {
   text_is =
       w.text_is ∙ ap (λ l. y ++ fields_text l gs) v.later_is ∙ ap (λ t. t ++ fields_text (is_later a fs) gs) v.text_is ∙ append_assoc x (fields_text a fs) (fields_text (is_later a fs) gs)
       ∙ ap (λ t. x ++ t) (sym (fields_text-append a fs gs));
   later_is = w.later_is ∙ ap (λ l. is_later l gs) v.later_is ∙ sym (is_later-append a fs gs);
+  held = all-append (λ f. IfSome f.1 IsHeld) fs gs v.held w.held;
 }
 
-pub present : (k : List ℕ) (v : Json) (later : Bool) (key x y z : List ℕ) → key ≡ key_text k → y ≡ x ++ (comma_if later ++ key) → z ≡ y ++ compact_text (data_of v) →
+pub present : (k : List ℕ) (v : Json) (later : Bool) (key x y z : List ℕ) → key ≡ key_text k → y ≡ x ++ (comma_if later ++ key) → z ≡ y ++ compact_text (data_of v) → IsHeld v →
     Writes ((k, Some v) ∷ []) later x true z
-present k v later key x y z e f g =
+present k v later key x y z e f g held =
     let value = compact_text (data_of v) in
     record {
       text_is =
           g ∙ ap (λ t. t ++ value) (f ∙ ap (λ t. x ++ (comma_if later ++ t)) e) ∙ append_assoc x (comma_if later ++ key_text k) value
           ∙ ap (λ t. x ++ t) (append_assoc (comma_if later) (key_text k) value ∙ sym (append-nil _));
       later_is = refl;
+      held = (held, tt);
     }
 
 -- the same, where the value begins with the key
 pub present_from : (k : List ℕ) (v : Json) (later : Bool) (first rest key x y z : List ℕ) → key ≡ key_text k ++ first → y ≡ x ++ (comma_if later ++ key) → z ≡ y ++ rest →
-    first ++ rest ≡ compact_text (data_of v) → Writes ((k, Some v) ∷ []) later x true z
-present_from k v later first rest key x y z e f g h =
+    first ++ rest ≡ compact_text (data_of v) → IsHeld v → Writes ((k, Some v) ∷ []) later x true z
+present_from k v later first rest key x y z e f g h held =
     let up_to_key = x ++ (comma_if later ++ key_text k) in
     let begun : y ≡ up_to_key ++ first =
     f ∙ ap (λ t. x ++ (comma_if later ++ t)) e ∙ ap (λ t. x ++ t) (sym (append_assoc (comma_if later) (key_text k) first)) ∙ sym (append_assoc x (comma_if later ++ key_text k) first) in
-    present k v later (key_text k) x up_to_key z refl refl (g ∙ ap (λ t. t ++ rest) begun ∙ append_assoc up_to_key first rest ∙ ap (λ t. up_to_key ++ t) h)
+    present k v later (key_text k) x up_to_key z refl refl (g ∙ ap (λ t. t ++ rest) begun ∙ append_assoc up_to_key first rest ∙ ap (λ t. up_to_key ++ t) h) held
 
 pub one_word : (w : SchemaTypeInner) → 34 ∷ (word_text w ++ 34 ∷ []) ≡ compact_text (data_of (text (word_text w)))
 unfolding escape_byte
@@ -196,10 +204,33 @@ pub in_order : (fs gs : List Field) → all_fit gs [] ≡ true → insert_fields
 in_order fs gs h e =
     ap (λ xs. 123 ∷ xs) (ap (λ hs. fields_text false hs ++ 125 ∷ []) (sym e) ∙ sym (given_text false (insert_fields gs [])) ∙ ap (λ ms. members_text false (members_data ms)) (sym (put_fields-given gs [] h)))
 
+-- fields that fit are held where each is that stands among the others at its place
+one_held : (f : Field) (gs : List Field) → fits f.0 gs ≡ true → AreHeld (insert_field f gs) → IfSome f.1 IsHeld × AreHeld gs
+one_held f [] fit h = (h.0, tt)
+one_held f (g ∷ gs) fit h = by (compare f.0 g.0) fit h (one_held f gs)
+  where
+    by : (o : Ordering) → match_ordering o (is_below f.0 gs) false (fits f.0 gs) ≡ true → AreHeld (match_ordering o (f ∷ g ∷ gs) (g ∷ gs) (g ∷ insert_field f gs)) →
+        (fits f.0 gs ≡ true → AreHeld (insert_field f gs) → IfSome f.1 IsHeld × AreHeld gs) → IfSome f.1 IsHeld × AreHeld (g ∷ gs)
+    by Less fit h rest = h
+    by Equal fit h rest = absurd (false≢true fit)
+    by Greater fit h rest = let both = rest fit h.1 in (both.0, (h.0, both.1))
+
+all_held : (fs gs : List Field) → all_fit fs gs ≡ true → AreHeld (insert_fields fs gs) → AreHeld fs × AreHeld gs
+all_held [] gs fit h = (tt, h)
+all_held (f ∷ fs) gs fit h =
+    let fits_both = and_parts (fits f.0 gs) (all_fit fs (insert_field f gs)) fit in
+    let others = all_held fs (insert_field f gs) fits_both.1 h in
+    let first = one_held f gs fits_both.0 others.1 in
+    ((first.0, others.0), first.1)
+
 -- an object: its bracket, its members in their order, and its bracket
 pub object_text : {fs : List Field} {went : Bool} (gs : List Field) (before begun inside closed : List ℕ) → all_fit gs [] ≡ true → insert_fields gs [] ≡ fs →
-    begun ≡ before ++ 123 ∷ [] → Writes fs false begun went inside → closed ≡ inside ++ 125 ∷ [] → closed ≡ before ++ compact_text (data_of (fields_form gs))
+    begun ≡ before ++ 123 ∷ [] → Writes fs false begun went inside → closed ≡ inside ++ 125 ∷ [] → WritesValue (fields_form gs) before closed
 object_text {fs} gs before begun inside closed h e o w c =
     let inner = fields_text false fs in
-    c ∙ ap (λ t. t ++ 125 ∷ []) (w.text_is ∙ ap (λ t. t ++ inner) o) ∙ append_assoc (before ++ 123 ∷ []) inner (125 ∷ []) ∙ append_assoc before (123 ∷ []) (inner ++ 125 ∷ [])
-    ∙ ap (λ t. before ++ t) (in_order fs gs h e)
+    record {
+      text_is =
+          c ∙ ap (λ t. t ++ 125 ∷ []) (w.text_is ∙ ap (λ t. t ++ inner) o) ∙ append_assoc (before ++ 123 ∷ []) inner (125 ∷ []) ∙ append_assoc before (123 ∷ []) (inner ++ 125 ∷ [])
+          ∙ ap (λ t. before ++ t) (in_order fs gs h e);
+      held = fields_held gs (all_held gs [] h (subst AreHeld (sym e) w.held)).0;
+    }

@@ -1,14 +1,28 @@
--- The document's text, entry by entry.
-use Rattle.std.proofs.Common.{ℕ, zero, suc, ◌+◌, ◌<◌, nat_lt, arith, Bool, true, false, List, [], ◌∷◌, ◌++◌, ◌≡◌, refl, ap, sym, ◌∙◌, length, take, get_or, map, codes}
+-- Texts of lists and of the document, one by one.
+use Rattle.std.proofs.Common.{ℕ, zero, suc, ◌+◌, ◌<◌, nat_lt, arith, Bool, true, false, List, [], ◌∷◌, ◌++◌, ◌≡◌, refl, ap, sym, subst, ◌∙◌, length, take, get_or, map, codes}
+use Rattle.std.specs.List.{AllByRecursion}
 use Rattle.std.proofs.lemmas.Bool.{lt-ltb}
 use Rattle.std.proofs.lemmas.List.{take_more, append-nil, append_assoc}
 use Rattle.json.specs.Print.{escape_byte}
 use Rattle.serde_json.specs.Data.{string}
-use Rattle.serde_json.specs.Written.{compact_text, members_text, comma_if}
-use Rattle.acceptance.specs.Data.{data_of, members_data}
+use Rattle.serde_json.specs.Written.{compact_text, items_text, members_text, comma_if}
+use Rattle.acceptance.specs.Json.{Json, Items, item}
+use Rattle.acceptance.specs.Data.{data_of, items_data, members_data}
+use Rattle.schema_trees.specs.Held.{IsHeld}
+use Rattle.schema_core.specs.Form.{form}
 use Rattle.schema_core.specs.Document.{Entry, entry_form, entry_text, entries_text, document, text_of}
 use Rattle.schema_core.specs.Entries.{entry_names, IsInOrder}
+use Rattle.schema_core.proofs.EntryLaws.{all-append}
 use Rattle.schema_core.proofs.InOrder.{members_of, forms_in_order}
+
+-- ---- one value more of a list
+
+pub item_step : (later : Bool) (x : Json) (xs : Items) (a b c : List ℕ) → b ≡ a ++ comma_if later → c ≡ b ++ compact_text (data_of x) → c ++ items_text true (items_data xs) ≡ a ++ items_text later (items_data (item x xs))
+item_step later x xs a b c p q =
+    let comma = comma_if later in
+    let value = compact_text (data_of x) in
+    let more = items_text true (items_data xs) in
+    ap (λ t. t ++ more) (q ∙ ap (λ t. t ++ value) p) ∙ append_assoc (a ++ comma) value more ∙ append_assoc a comma (value ++ more)
 
 -- ---- one entry more
 
@@ -70,3 +84,10 @@ one_more es i e h here start old between new p q r =
     ap (entries_text false) (take_more es i e h) ∙ ap (λ x. entries_text false (take i es ++ x ∷ [])) (sym here)
     ∙ more_text false (take i es) e ∙ ap (λ b. so_far ++ (comma_if b ++ entry_text e)) (comma_before es i h) in
     r ∙ ap (λ xs. xs ++ entry_text e) (q ∙ ap (λ xs. xs ++ comma) p) ∙ append_assoc (start ++ so_far) comma (entry_text e) ∙ append_assoc start so_far (comma ++ entry_text e) ∙ ap (λ xs. start ++ xs) (sym more)
+
+abbrev AreFormsHeld : List Entry → Type 0
+AreFormsHeld es = AllByRecursion (λ e. IsHeld (form e.1)) es
+
+pub one_more_held : (es : List Entry) (i : ℕ) (e : Entry) → i < length es → e ≡ get_or es i e → AreFormsHeld (take i es) → IsHeld (form e.1) → AreFormsHeld (take (i + 1) es)
+one_more_held es i e h here held one =
+    subst AreFormsHeld (sym (take_more es i e h)) (all-append (λ e. IsHeld (form e.1)) (take i es) (get_or es i e ∷ []) held (subst (λ x. IsHeld (form x.1)) here one, tt))

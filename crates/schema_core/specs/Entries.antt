@@ -2,7 +2,7 @@
 use Rattle.std.specs.Prelude.{ℕ, List, [], ◌∷◌, Option, Some, None, bytes_eq, cond}
 use Rattle.std.specs.Cmp.Lexicographic.{slice_cmp}
 use Rattle.std.specs.Ordering.{nat_cmp, match_ordering}
-use Rattle.std.specs.List.Sorted.{IsStrictlySortedBy}
+pub use Rattle.schema_trees.specs.Held.{IsInOrder}
 
 module _ {S : Type 0} where
   -- each name with what stands at its place
@@ -24,7 +24,3 @@ module _ {S : Type 0} where
   abbrev pub with_entry : List ℕ → S → List (List ℕ × S) → List (List ℕ × S)
   with_entry k s [] = (k, s) ∷ []
   with_entry k s (e ∷ es) = match_ordering (slice_cmp nat_cmp e.0 k) (e ∷ with_entry k s es) (e ∷ es) ((k, s) ∷ e ∷ es)
-
--- the names are distinct and in byte order
-abbrev pub IsInOrder : List (List ℕ) → Type 0
-IsInOrder names = IsStrictlySortedBy (slice_cmp nat_cmp) names

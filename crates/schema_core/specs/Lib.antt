@@ -1,7 +1,6 @@
 pub mod Document
 pub mod Entries
 pub mod Form
-pub mod Held
 pub mod Meaning
 pub mod Members
 pub mod OneText

@@ -1,18 +1,40 @@
 -- The text of an object's members, one written after another.
-use Rattle.std.specs.Prelude.{◌≡◌, ◌≢◌, ◌≤◌, ℕ, suc, Bool, true, List, [], ◌∷◌, ◌++◌, Option, Some, None, option_map, codes}
+use Rattle.std.specs.Prelude.{◌≡◌, ◌≢◌, ◌≤◌, ℕ, suc, Bool, true, false, List, [], ◌∷◌, ◌++◌, Option, Some, None, option_map, IfSome, codes}
 use Rattle.std.specs.BTreeMap.{insert_entry}
 use Rattle.std.specs.Cmp.Lexicographic.{slice_cmp}
+use Rattle.std.specs.List.{AllByRecursion}
 use Rattle.std.specs.Ordering.{nat_cmp}
 use Rattle.json.specs.Print.{quoted}
-use Rattle.serde_json.specs.Written.{compact_text, comma_if}
-use Rattle.acceptance.specs.Json.{Json, boolean, text}
-use Rattle.acceptance.specs.Data.{data_of}
+use Rattle.serde_json.specs.Written.{compact_text, items_text, comma_if}
+use Rattle.acceptance.specs.Json.{Json, boolean, text, list, Items}
+use Rattle.acceptance.specs.Data.{data_of, items_data}
+use Rattle.schema_trees.specs.Held.{IsHeld}
 use Rattle.schema_trees.specs.declared.annotations.AnnotationKeywords.{AnnotationKeywords as Annotations}
-use Rattle.schema_core.specs.Form.{values_form}
+use Rattle.schema_core.specs.Document.{Entry, entry_text, entries_text}
+use Rattle.schema_core.specs.Form.{form, values_form}
 
 -- the byte stands in a JSON string as it is: it is no quote, no backslash and no control character
 abbrev pub IsPlain : ℕ → Type 0
 IsPlain byte = (32 ≤ byte) × (byte ≢ 34) × (byte ≢ 92)
+
+-- the value's compact text is written behind the old text, and `serde_json` can hold the value
+pub record WritesValue (x : Json) (old new : List ℕ) : Type 0 where
+  pub text_is : new ≡ old ++ compact_text (data_of x)
+  pub held : IsHeld x
+
+-- the same of the values of a list with commas between, up to the bracket behind them
+pub record WritesItems (xs : Items) (old new : List ℕ) : Type 0 where
+  pub text_is : new ++ 93 ∷ [] ≡ old ++ items_text false (items_data xs)
+  pub held : IsHeld (list xs)
+
+-- the same of an entry, as a member of an object, and of entries with commas between
+pub record WritesEntry (e : Entry) (old new : List ℕ) : Type 0 where
+  pub text_is : new ≡ old ++ entry_text e
+  pub held : IsHeld (form e.1)
+
+pub record WritesEntries (es : List Entry) (old new : List ℕ) : Type 0 where
+  pub text_is : new ≡ old ++ entries_text false es
+  pub held : AllByRecursion (λ e. IsHeld (form e.1)) es
 
 -- a key in quotes, and its colon
 abbrev pub key_text : List ℕ → List ℕ
@@ -36,10 +58,11 @@ abbrev pub is_later : Bool → List (List ℕ × Option Json) → Bool
 is_later later [] = later
 is_later later (f ∷ fs) = is_later (goes_on later f.1) fs
 
--- the members that are given are written behind the old text
+-- the members that are given are written behind the old text, and `serde_json` can hold each
 pub record Writes (fs : List (List ℕ × Option Json)) (later : Bool) (old : List ℕ) (went : Bool) (new : List ℕ) : Type 0 where
   pub text_is : new ≡ old ++ fields_text later fs
   pub later_is : went ≡ is_later later fs
+  pub held : AllByRecursion (λ f. IfSome f.1 IsHeld) fs
 
 -- the same of one member, whose key is given as it is written
 abbrev pub WritesAt : List ℕ → Option Json → Bool → List ℕ → Bool → List ℕ → Type 0

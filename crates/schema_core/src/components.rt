@@ -7,9 +7,11 @@ ghost use Rattle.std.specs.Ordering.{nat_cmp};
 ghost use Rattle.serde_json.specs.View.{view, members_view};
 ghost use Rattle.acceptance.specs.Json.{put_all, no_members};
 ghost use Rattle.acceptance.specs.Data.{data_of, members_data};
-ghost use Rattle.schema_core.specs.Document.{document, entry_form, entry_text, entries_text, text_of};
-ghost use Rattle.schema_core.specs.Entries.{entries_of, entry_names, find, with_entry, IsInOrder};
+ghost use Rattle.schema_trees.specs.Held.{IsHeld, IsInOrder};
 ghost use Rattle.schema_trees.specs.Schema.{schema_view};
+ghost use Rattle.schema_core.specs.Document.{document, entry_form, text_of};
+ghost use Rattle.schema_core.specs.Entries.{entries_of, entry_names, find, with_entry};
+ghost use Rattle.schema_core.specs.Writes.{WritesEntry, WritesEntries};
 
 use crate::form::schema_value;
 use crate::members::{object_of, put};
@@ -153,9 +155,11 @@ impl Components {
         Ok(object_of(alloc, "components", components)?)
     }
 
-    /// The document's text: compact, members in byte order of their names, and one new line at the end.
+    /// The document's text: compact, members in byte order of their names, and one new line at the end. The document is a
+    /// value that `serde_json` can hold.
     pub fn to_text(&self, alloc: Global) -> Result<Text, AllocError>
-        ensures { IfOk result (λ text. text ≡ text_of (document self.now)) }
+        ensures text { IfOk result (λ text. text ≡ text_of (document self.now)) }
+        ensures held { IfOk result (λ _. IsHeld (document self.now)) }
     {
         let mut text = String::from_str(alloc, "{\"components\":{\"schemas\":{")?;
         push_entries(
@@ -176,8 +180,8 @@ fn push_entry(
     name: &str,
     schema: &Schema,
 ) -> Result<(), AllocError>
-    ensures { OnOk result (string_bytes text.new
-        ≡ string_bytes text.old ++ entry_text (name.now, schema_view schema.now)) }
+    ensures { OnOk result (WritesEntry (name.now, schema_view schema.now)
+        (string_bytes text.old) (string_bytes text.new)) }
 {
     push_words(alloc, text, name)?;
     text.push_str(":")?;
@@ -193,9 +197,9 @@ fn push_entries(
     schemas: &[Schema],
 ) -> Result<(), AllocError>
     requires { length names.now ≡ length schemas.now }
-    ensures { OnOk result (string_bytes text.new
-        ≡ string_bytes text.old
-        ++ entries_text false (entries_of names.now (map_list schema_view schemas.now))) }
+    ensures { OnOk result
+        (WritesEntries (entries_of names.now (map_list schema_view schemas.now))
+        (string_bytes text.old) (string_bytes text.new)) }
 {
     for i in 0..names.len() {
         push_comma(text, i > 0)?;

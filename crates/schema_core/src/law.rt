@@ -1,7 +1,6 @@
 //! What rests on the definitions alone: laws that callers rely on, as contracts of functions that do nothing.
 
 ghost use Rattle.schema_core.specs.Meaning.{FormsAccept, FormsRefer, DocumentsHold};
-ghost use Rattle.schema_core.specs.Held.{DocumentsAreHeld};
 ghost use Rattle.schema_core.specs.OneText.{OneText, OneDocument, TextsReadBack};
 
 /// The JSON of a schema accepts a value exactly if the tree does.
@@ -32,9 +31,4 @@ pub fn documents_are_one()
 /// The text of a value that `serde_json` can hold reads as that value, where it nests no deeper than is read.
 pub fn texts_read_back()
     ensures { TextsReadBack }
-{}
-
-/// A document is a value that `serde_json` can hold where each value that stands in its schemas is one.
-pub fn documents_are_held()
-    ensures { DocumentsAreHeld }
 {}

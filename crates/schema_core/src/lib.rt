@@ -11,8 +11,7 @@ mod schema_text;
 
 pub use components::Components;
 pub use law::{
-    documents_are_held, documents_are_one, documents_hold, forms_accept, forms_refer,
-    texts_are_one, texts_read_back,
+    documents_are_one, documents_hold, forms_accept, forms_refer, texts_are_one, texts_read_back,
 };
 pub use schema_trees::{
     Additional, AllOfSchema, AnnotationKeywords, Annotations, Array, ArrayItems, Bound, Bounds,

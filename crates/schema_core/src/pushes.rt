@@ -6,7 +6,7 @@ ghost use Rattle.serde_json.specs.Written.{comma_if, compact_text, items_text};
 ghost use Rattle.acceptance.specs.Json.{Json as Meant, boolean, number, text as json_text};
 ghost use Rattle.acceptance.specs.Data.{data_of, items_data};
 ghost use Rattle.schema_core.specs.Form.{true_form, texts_form, value_items, values_form};
-ghost use Rattle.schema_core.specs.Writes.{IsPlain, WritesAt};
+ghost use Rattle.schema_core.specs.Writes.{IsPlain, WritesAt, WritesItems};
 
 use crate::members::text_value;
 use schema_trees::{Bound, Json};
@@ -173,8 +173,7 @@ pub(crate) fn push_bound(
 /// Adds the values with commas between.
 fn push_values(alloc: Global, text: &mut String, jsons: &[Json]) -> Result<(), AllocError>
     ensures { OnOk result
-        (string_bytes text.new ++ 93 ∷ []
-        ≡ string_bytes text.old ++ items_text false (items_data (value_items jsons.now))) }
+        (WritesItems (value_items jsons.now) (string_bytes text.old) (string_bytes text.new)) }
 {
     let mut later = false;
     for json in jsons {

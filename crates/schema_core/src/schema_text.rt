@@ -1,12 +1,10 @@
 //! Schemas as text.
 
-ghost use Rattle.std.specs.Prelude.{◌≡◌, ◌∷◌, [], ◌++◌, codes, true, false, IfOk, OnOk, option_map, string_bytes, map as map_list};
-ghost use Rattle.serde_json.specs.Written.{compact_text, items_text};
+ghost use Rattle.std.specs.Prelude.{◌≡◌, ◌∷◌, [], codes, true, false, IfOk, OnOk, string_bytes, map as map_list};
 ghost use Rattle.acceptance.specs.Json.{map_of};
-ghost use Rattle.acceptance.specs.Data.{data_of, items_data};
 ghost use Rattle.schema_core.specs.Form.{entries_form, form, part_form, property_forms, required_form, schema_forms, schemas_form, type_form};
 ghost use Rattle.schema_trees.specs.Schema.{leaf, schema_view, object_view, array_view, one_of_view, all_of_view, additional_view, array_items_view, optional_view, tree_views, named_views};
-ghost use Rattle.schema_core.specs.Writes.{Writes, places_from};
+ghost use Rattle.schema_core.specs.Writes.{Writes, WritesValue, WritesItems, places_from};
 
 use crate::annotation_text::{
     push_examples, push_first_annotations, push_read_only, push_title, push_write_only,
@@ -83,9 +81,8 @@ fn property_order<'a>(
 
 /// Adds the text of a reference.
 fn push_reference(alloc: Global, text: &mut String, reference: &RefLeaf) -> Result<(), AllocError>
-    ensures { OnOk result
-        (string_bytes text.new
-        ≡ string_bytes text.old ++ compact_text (data_of (form (leaf reference.now)))) }
+    ensures { OnOk result (WritesValue (form (leaf reference.now))
+        (string_bytes text.old) (string_bytes text.new)) }
 {
     let mut target = String::from_str(alloc, "#/components/schemas/")?;
     target.push_str(reference.name.as_str())?;
@@ -107,9 +104,8 @@ pub(crate) fn push_schema(
     text: &mut String,
     schema: &Schema,
 ) -> Result<(), AllocError>
-    ensures { OnOk result
-        (string_bytes text.new
-        ≡ string_bytes text.old ++ compact_text (data_of (form (schema_view schema.now)))) }
+    ensures { OnOk result (WritesValue (form (schema_view schema.now))
+        (string_bytes text.old) (string_bytes text.new)) }
 {
     match schema {
         Tree::Object(object) => push_object(alloc, text, object),
@@ -122,10 +118,8 @@ pub(crate) fn push_schema(
 
 #[cycle(text)]
 fn push_object(alloc: Global, text: &mut String, object: &Object<RefLeaf>) -> Result<(), AllocError>
-    ensures { OnOk result
-        (string_bytes text.new
-        ≡ string_bytes text.old
-        ++ compact_text (data_of (form (object_view (λ l. l) object.now)))) }
+    ensures { OnOk result (WritesValue (form (object_view (λ l. l) object.now))
+        (string_bytes text.old) (string_bytes text.new)) }
 {
     let annotations = &object.annotations;
     text.push_str("{")?;
@@ -220,9 +214,8 @@ fn push_members(
     properties: &[(Text, Schema)],
 ) -> Result<(), AllocError>
     ensures { OnOk result
-        (string_bytes text.new
-        ≡ string_bytes text.old
-        ++ compact_text (data_of (map_of (property_forms (named_views (λ l. l) properties.now))))) }
+        (WritesValue (map_of (property_forms (named_views (λ l. l) properties.now)))
+        (string_bytes text.old) (string_bytes text.new)) }
 {
     let order = property_order(alloc, properties)?;
     text.push_str("{")?;
@@ -281,10 +274,8 @@ fn push_front(
 
 #[cycle(text)]
 fn push_array(alloc: Global, text: &mut String, array: &Array<RefLeaf>) -> Result<(), AllocError>
-    ensures { OnOk result
-        (string_bytes text.new
-        ≡ string_bytes text.old
-        ++ compact_text (data_of (form (array_view (λ l. l) array.now)))) }
+    ensures { OnOk result (WritesValue (form (array_view (λ l. l) array.now))
+        (string_bytes text.old) (string_bytes text.new)) }
 {
     let annotations = &array.annotations;
     text.push_str("{")?;
@@ -309,10 +300,8 @@ fn push_one_of(
     text: &mut String,
     one_of: &OneOfSchema<RefLeaf>,
 ) -> Result<(), AllocError>
-    ensures { OnOk result
-        (string_bytes text.new
-        ≡ string_bytes text.old
-        ++ compact_text (data_of (form (one_of_view (λ l. l) one_of.now)))) }
+    ensures { OnOk result (WritesValue (form (one_of_view (λ l. l) one_of.now))
+        (string_bytes text.old) (string_bytes text.new)) }
 {
     let annotations = &one_of.annotations;
     text.push_str("{")?;
@@ -334,10 +323,8 @@ fn push_all_of(
     text: &mut String,
     all_of: &AllOfSchema<RefLeaf>,
 ) -> Result<(), AllocError>
-    ensures { OnOk result
-        (string_bytes text.new
-        ≡ string_bytes text.old
-        ++ compact_text (data_of (form (all_of_view (λ l. l) all_of.now)))) }
+    ensures { OnOk result (WritesValue (form (all_of_view (λ l. l) all_of.now))
+        (string_bytes text.old) (string_bytes text.new)) }
 {
     let annotations = &all_of.annotations;
     text.push_str("{\"allOf\":[")?;
@@ -355,10 +342,8 @@ fn push_all_of(
 /// Adds the texts of the schemas with commas between.
 #[cycle(text)]
 fn push_schemas(alloc: Global, text: &mut String, schemas: &[Schema]) -> Result<(), AllocError>
-    ensures { OnOk result
-        (string_bytes text.new ++ 93 ∷ []
-        ≡ string_bytes text.old
-        ++ items_text false (items_data (schema_forms (tree_views (λ l. l) schemas.now)))) }
+    ensures { OnOk result (WritesItems (schema_forms (tree_views (λ l. l) schemas.now))
+        (string_bytes text.old) (string_bytes text.new)) }
 {
     let mut later = false;
     for schema in schemas {

@@ -1,11 +1,14 @@
 -- What words, files and input give, where they tell it.
-use Rattle.std.proofs.Common.{◌≡◌, ◌↔◌, ℕ, List, IsTrue, Option, Some, None, IsSome, inl, inr, refl, sym, ◌∙◌, subst}
+use Rattle.std.proofs.Common.{◌≡◌, ◌↔◌, ℕ, List, IsTrue, Option, Some, None, IsSome, inl, inr, refl, ap, sym, ◌∙◌, subst}
 use Rattle.diag.specs.declared.error.DeriveError.{DeriveError}
 use Rattle.streams.specs.Told.{IsAll}
+use Rattle.schema_core.specs.Document.{document, text_of}
 use Rattle.configuration.specs.Configuration.{Configuration}
 use Rattle.configuration.specs.Form.{IsConfigurationText}
+use Rattle.compose.specs.Faults.{ComponentsAreOne}
 use Rattle.reporting.specs.Beginning.{Beginning}
 use Rattle.reporting.specs.Program.{IsRefusedRun}
+use Rattle.schema_gen.specs.Derived.{IsDocument, IsDocumentOf}
 use Rattle.schema_gen.specs.Given.{Given, IsSaid, IsConfigured, IsMisconfigured, IsGiven}
 use Rattle.schema_gen.specs.Owed.{schema_gen, IsTold}
 use Rattle.schema_gen.specs.Refusals.{IsSound, IsRefusedSource}
@@ -67,6 +70,14 @@ module _ (begun : Beginning) where
   one_configuration law told c d (p, p_form, p_said) (q, q_form, q_said) =
       let same : q ≡ p = one_path begun.words q p q_form p_form in
       one_said law p (λ path is. told.held path (subst (IsDerive begun.words) is p_form)) c d p_said (subst (λ o. IsSaid begun o d) same q_said)
+
+  -- what is told has one text
+  pub one_document : OneConfiguration → ComponentsAreOne → (text other : List ℕ) → IsTold begun → IsDocument begun text → IsDocument begun other → text ≡ other
+  one_document configurations components text other told (given, is, of) (also, also_is, also_of) =
+      let texts : given.text ≡ also.text = one_text begun.left given.text also.text (told.left (given.config, is.config)) is.text also_is.text in
+      let configs : given.config ≡ also.config = one_configuration configurations told given.config also.config is.config also_is.config in
+      let here = subst (λ c. IsDocumentOf c also.text text) configs (subst (λ s. IsDocumentOf given.config s text) texts of) in
+      here.text_is ∙ ap (λ es. text_of (document es)) (components also.config also.text here.components also_of.components here.made also_of.made) ∙ sym also_of.text_is
 
   -- what is told and sound is not refused
   pub sound_run : SoundIsNotRefused → OneConfiguration → (given : Given) → IsGiven begun given → IsTold begun → IsSound given.config given.text → (e : DeriveError) → IsRefusedRun schema_gen begun e → ⊥

@@ -38,6 +38,7 @@ pub use Rattle.reporting.specs.Owed as RunsOwed
 pub use Rattle.reporting.specs.Program
 pub use Rattle.reporting.specs.Report
 pub use Rattle.schema_core.specs.Document
+pub use Rattle.schema_trees.specs.Held as HeldValues
 pub use Rattle.streams.specs.Faults as StreamFaults
 pub use Rattle.streams.specs.Memory
 pub use Rattle.streams.specs.Told

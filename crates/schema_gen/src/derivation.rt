@@ -12,6 +12,7 @@ use compose::derive_components;
 use configuration::{Config, bad_config};
 use diag::DeriveError;
 use reporting::{Command, Rest, Words, source_text};
+use schema_core::texts_are_one;
 use std::alloc::Global;
 use texts::Text;
 
@@ -30,6 +31,7 @@ fn document_text(alloc: Global, config: &Config, bytes: &[u8]) -> Result<Text, D
     ensures made { IfOk result (λ text. IsDocumentOf config.now bytes.now text) }
     ensures refused { Refuses result (IsRefusedSource config.now bytes.now) }
 {
+    texts_are_one();
     let source = source_text(alloc, bytes)?;
     let derived = derive_components(alloc, source, config)?;
     Ok(derived.components.to_text(alloc)?)

@@ -11,7 +11,7 @@ pub use compose::{Derived, derive_components};
 pub use configuration::Config;
 pub use diag::{DeriveError, Diagnostics, DiangosticsInner, Kind, List, Span, Suggestion, Text};
 pub use files::{FileAnswer, FileBytes, Files, HonestFiles, MemoryFiles, StdFiles};
-pub use law::sound_is_not_refused;
+pub use law::{sound_is_not_refused, told_texts_are_one};
 pub use open_types::ClosedType;
 pub use program::run;
 pub use reporting::{Status, Words};

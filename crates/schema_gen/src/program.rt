@@ -52,7 +52,7 @@ pub fn run<S: Source, F: Files, O: Sink, E: Sink>(
         × Describes resolved (collects_all given.config.collect) document
         × Appends (O.written out.old) (O.written out.new) (text_of document) }
     // The document is that of the source's components, without others, and no condition of a
-    // refusal holds.
+    // refusal holds. No other value that `serde_json` can hold has the text that was written.
     ensures derived { result ≡ Status.Done → (text : List ℕ)
         × IsDocument (beginning_of S.Source F.Files words.now input.old files.old) text
         × Appends (O.written out.old) (O.written out.new) text }

@@ -1,1 +1,2 @@
-pub mod WholeLaws
+mod Holds
+pub mod Laws

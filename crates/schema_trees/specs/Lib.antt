@@ -1,7 +1,7 @@
 pub mod Annotations
 pub mod Bound
 pub mod Bounds
+pub mod Held
 pub mod Objects
 pub mod Schema
-pub mod Whole
 pub mod proved

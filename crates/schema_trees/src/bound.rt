@@ -51,7 +51,8 @@ impl Bound {
 
     /// The number as `serde_json` holds it.
     pub fn number(&self) -> Number
-        ensures { number_view result ≡ num_of self.now }
+        ensures number { number_view result ≡ num_of self.now }
+        ensures short { IsShort self.now }
     {
         match Number::from_i128(self.value) {
             Some(number) => number,

@@ -1,10 +1,10 @@
-ghost use Rattle.std.specs.Prelude.{◌≡◌, true, false, not, IfOk, MatchResult, string_bytes};
+ghost use Rattle.std.specs.Prelude.{◌≡◌, true, false, IfOk, MatchResult, string_bytes};
 ghost use Rattle.serde_json.specs.View.{view, number_view, items_view, members_view};
 ghost use Rattle.serde_json.specs.Find.{is_float};
 ghost use Rattle.serde_json.specs.Written.{has_float, items_have_float, members_have_float};
 ghost use Rattle.acceptance.specs.Json.{null as json_null, text as json_text};
 ghost use Rattle.acceptance.specs.Data.{data_of};
-ghost use Rattle.schema_trees.specs.Whole.{is_whole_number, is_whole, are_items_whole, are_members_whole};
+ghost use Rattle.schema_trees.specs.Held.{IsHeld, HoldsNumber, HoldsValue, HoldsItems, HoldsMembers};
 
 use serde_json::{Map, Number, Value};
 use std::alloc::{AllocError, Global};
@@ -17,10 +17,10 @@ pub struct Json {
 }
 
 impl Model for Json {
-    ghost use Rattle.std.specs.Prelude.{◌≡◌};
     ghost use Rattle.serde_json.specs.View.{view as view_of};
     ghost use Rattle.acceptance.specs.Json.{Json as Meant};
-    ghost use Rattle.acceptance.specs.Data.{data_of, json_of};
+    ghost use Rattle.acceptance.specs.Data.{json_of};
+    ghost use Rattle.schema_trees.specs.Held.{HoldsValue};
     ghost use Rattle.schema_trees.specs.proved.JsonCode.{coded_json};
 
     ghost Value = { Meant };
@@ -29,7 +29,7 @@ impl Model for Json {
 
     ghost view = { λ json. json_of (view_of json.value) };
 
-    ghost invariant = { λ json. data_of (json_of (view_of json.value)) ≡ view_of json.value };
+    ghost invariant = { λ json. HoldsValue (view_of json.value) };
 }
 
 impl Json {
@@ -62,7 +62,8 @@ impl Json {
 
     /// The value as `serde_json` holds it.
     pub fn value(&self) -> &Value
-        ensures { view result.now ≡ data_of self.now }
+        ensures value { view result.now ≡ data_of self.now }
+        ensures held { IsHeld self.now }
     {
         &self.value
     }
@@ -76,19 +77,25 @@ impl Json {
     }
 }
 
-/// Whether the number is a float.
+/// Whether the number is a float: it is neither a `u64` nor an `i64`.
 fn is_float_number(number: &Number) -> bool
     ensures float { result ≡ is_float (number_view number.now) }
-    ensures whole { not result ≡ is_whole_number (number_view number.now) }
+    ensures held { result ≡ false → HoldsNumber (number_view number.now) }
 {
-    number.is_f64()
+    if let Some(_whole) = number.as_u64() {
+        return false;
+    }
+    if let Some(_whole) = number.as_i64() {
+        return false;
+    }
+    true
 }
 
 /// Whether the value holds a float at any depth.
 #[cycle(float)]
 fn holds_float(value: &Value) -> bool
     ensures float { result ≡ has_float (view value.now) }
-    ensures whole { not result ≡ is_whole (view value.now) }
+    ensures held { result ≡ false → HoldsValue (view value.now) }
 {
     match value {
         Value::Null | Value::Bool(_) | Value::String(_) => false,
@@ -101,7 +108,7 @@ fn holds_float(value: &Value) -> bool
 #[cycle(float)]
 fn items_hold_float(items: &[Value]) -> bool
     ensures float { result ≡ items_have_float (items_view items.now) }
-    ensures whole { not result ≡ are_items_whole (items_view items.now) }
+    ensures held { result ≡ false → HoldsItems (items_view items.now) }
 {
     for item in items {
         if holds_float(item) {
@@ -114,7 +121,7 @@ fn items_hold_float(items: &[Value]) -> bool
 #[cycle(float)]
 fn members_hold_float(members: &Map<String, Value>) -> bool
     ensures float { result ≡ members_have_float (members_view members.now.entries) }
-    ensures whole { not result ≡ are_members_whole (members_view members.now.entries) }
+    ensures held { result ≡ false → HoldsMembers (members_view members.now.entries) }
 {
     for (_key, member) in members.iter() {
         if holds_float(member) {

@@ -12,6 +12,10 @@ returns c =
     let before = string_bytes c.args.text.now in
     let key = compact_text (string c.args.name.now) in
     let value = compact_text (data_of (form (schema_view c.args.schema.now))) in
-    c.in_ok-push_schema.ensures
-    ∙ ap (λ xs. xs ++ value) (c.in_ok-push_str.ensures.bytes ∙ ap (λ xs. xs ++ 58 ∷ []) c.in_ok-push_words.ensures)
-    ∙ append_assoc (before ++ key) (58 ∷ []) value ∙ append_assoc before key (58 ∷ value)
+    record {
+      text_is =
+          c.in_ok-push_schema.ensures.text_is
+          ∙ ap (λ xs. xs ++ value) (c.in_ok-push_str.ensures.bytes ∙ ap (λ xs. xs ++ 58 ∷ []) c.in_ok-push_words.ensures)
+          ∙ append_assoc (before ++ key) (58 ∷ []) value ∙ append_assoc before key (58 ∷ value);
+      held = c.in_ok-push_schema.ensures.held;
+    }

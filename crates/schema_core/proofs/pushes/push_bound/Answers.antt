@@ -10,4 +10,4 @@ pub returns-in_ok-push_value-in-Some : goal.returns-in_ok-push_value-in-Some
 returns-in_ok-push_value-in-Some c = λ k e.
     let seen : view (Number c.number.result) ≡ data_number (number_view c.number.result) = search (rules, the_lemmas) in
     rw c.in-Some.is
-    (present k (number c.in-Some.bound) c.args.later _ _ _ _ e c.in_ok-push_key-in-Some.ensures (c.in_ok-push_value-in-Some.ensures (number c.in-Some.bound) (seen ∙ ap data_number c.number.ensures)))
+    (present k (number c.in-Some.bound) c.args.later _ _ _ _ e c.in_ok-push_key-in-Some.ensures (c.in_ok-push_value-in-Some.ensures (number c.in-Some.bound) (seen ∙ ap data_number c.number.ensures.number)) (c.number.ensures.short, tt))

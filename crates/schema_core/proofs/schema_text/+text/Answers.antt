@@ -1,17 +1,21 @@
-use Rattle.std.proofs.Common.{ℕ, ◌≡◌, ◌<◌, ◌++◌, ◌∷◌, [], ◌∙◌, refl, ap, sym, subst, arith, codes, length, map, rules, true, false, string_bytes}
+use Rattle.std.proofs.Common.{ℕ, ◌≡◌, ◌<◌, ◌+◌, ◌++◌, List, ◌∷◌, [], ◌∙◌, refl, ap, sym, subst, arith, codes, length, drop, map, rules, true, false, string_bytes}
 use Rattle.std.specs.List.{AllByRecursion}
-use Rattle.std.proofs.lemmas.List.{append_assoc, length-map}
+use Rattle.std.proofs.lemmas.List.{append_assoc, length-map, at_drop_more, at_drop_all}
 use Rattle.std.proofs.lemmas.Result.{IfOk-weaker}
 use Rattle.json.specs.Print.{escape_byte}
 use Rattle.serde_json.specs.Written.{compact_text, items_text, members_text}
-use Rattle.acceptance.specs.Json.{boolean, list, map_of, put_all, no_members}
+use Rattle.acceptance.specs.Json.{boolean, list, Items, no_items, item, map_of, put_all, no_members}
 use Rattle.acceptance.specs.Data.{data_of, items_data, members_data}
+use Rattle.schema_trees.specs.Held.{IsHeld}
+use Rattle.schema_trees.specs.declared.tree.Tree.{Tree}
+use Rattle.schema_trees.specs.declared.tree.RefLeaf.{RefLeaf}
 use Rattle.schema_core.specs.Form.{form, type_form, array_word, required_form, entries_form, schemas_form, part_form, schema_forms, property_forms, object_fields, array_fields, one_of_fields, all_of_fields}
 use Rattle.schema_trees.specs.Schema.{object_facts, schema_view, named_views, tree_views, additional_view, optional_view, array_items_view}
 use Rattle.schema_core.specs.Writes.{Writes, places_from}
 use Rattle.schema_core.proofs.Values.{additional-truth, additional-of, items-false, items-each, one_of_view-is, all_of_view-is, object_view-is, array_view-is, array_facts_of, some_schemas, some_entries, length-properties}
-use Rattle.schema_core.proofs.Placed.{place_of, placed_text, placed_step, places_text, places_below, property_names_are, value_at-property}
+use Rattle.schema_core.proofs.Placed.{place_of, placed_text, placed_step, places_text, ArePlacedHeld, places_held, places_below, property_names_are, value_at, value_at-property}
 use Rattle.schema_core.proofs.Writes.{then, present, present_from, object_text}
+use Rattle.schema_core.proofs.Written.{item_step}
 use Rattle.schema_core.proofs.schema_text.+text.Goals as goal
 use Rattle.schema_core.proofs.schema_text.+text.Goals.{push_members-After-into_iter-name-iterator}
 
@@ -28,10 +32,10 @@ push_object-returns t c =
     subst (λ ks. Writes ((codes "required", required_form ks) ∷ []) c.in_ok-later-9.later (string_bytes c.push_read_only.new.text) c.in_ok-later-10.later (string_bytes c.push_required.new.text)) c.as_slice-2.ensures c.in_ok-later-10.ensures in
     let after_properties = then c.in_ok-later-8.ensures (then c.in_ok-later-9.ensures (then needed (then c.in_ok-later-11.ensures (then c.in_ok-later-12.ensures c.in_ok-push_write_only.ensures)))) in
     let after_enum = then c.in_ok-later-4.ensures (then (c.in_ok-later-5.ensures (codes "format") refl) (then (c.in_ok-later-6.ensures (codes "minimum") refl) (then named after_properties))) in
-    object_text fields before _ _ _ refl refl c.in_ok-push_str.ensures.bytes
+    rw (object_view-is o)
+    (object_text fields before _ _ _ refl refl c.in_ok-push_str.ensures.bytes
     (then c.in_ok-later.ensures (then c.in_ok-later-2.ensures (then (c.in_ok-later-3.ensures (codes "enum") refl) after_enum)))
-    c.in_ok-push_str-2.ensures.bytes
-    ∙ ap (λ s. before ++ compact_text (data_of (form s))) (sym (object_view-is o))
+    c.in_ok-push_str-2.ensures.bytes)
 
 pub push_array-returns : goal.push_array-returns
 unfolding escape_byte
@@ -44,10 +48,10 @@ push_array-returns t c =
     let word : Writes ((codes "type", type_form (array_word a.nullable)) ∷ []) c.in_ok-later-7.later (string_bytes c.push_title.new.text) c.in_ok-later-8.later (string_bytes c.push_type.new.text) =
     subst (λ w. Writes ((codes "type", type_form w) ∷ []) c.in_ok-later-7.later (string_bytes c.push_title.new.text) c.in_ok-later-8.later (string_bytes c.push_type.new.text)) c.array_word.ensures c.in_ok-later-8.ensures in
     let after_front = then c.in_ok-later-6.ensures (then c.in_ok-later-7.ensures (then word (then (c.in_ok-later-9.ensures (codes "uniqueItems") refl) c.in_ok-push_write_only.ensures))) in
-    object_text fields before _ _ _ refl refl c.in_ok-push_str.ensures.bytes
+    rw (array_view-is a)
+    (object_text fields before _ _ _ refl refl c.in_ok-push_str.ensures.bytes
     (then c.in_ok-later.ensures (then c.in_ok-later-2.ensures (then c.in_ok-push_items.ensures (then (c.in_ok-later-3.ensures (codes "maxItems") refl) (then (c.in_ok-later-4.ensures (codes "minItems") refl) (then front after_front))))))
-    c.in_ok-push_str-2.ensures.bytes
-    ∙ ap (λ s. before ++ compact_text (data_of (form s))) (sym (array_view-is a))
+    c.in_ok-push_str-2.ensures.bytes)
 
 pub push_one_of-returns : goal.push_one_of-returns
 unfolding escape_byte
@@ -56,11 +60,13 @@ push_one_of-returns t c =
     let before = string_bytes c.args.text.now in
     let schemas = schema_forms (tree_views (λ l. l) o.items) in
     let inner = ap (λ ss. string_bytes c.push_key.new.text ++ items_text false (items_data (schema_forms (tree_views (λ l. l) ss)))) c.as_slice.ensures in
-    let one = present_from (codes "oneOf") (list schemas) c.in_ok-later-2.later (codes "[") (items_text false (items_data schemas)) _ _ _ _ refl c.in_ok-push_key.ensures (c.in_ok-push_str-2.ensures.bytes ∙ c.in_ok-push_schemas.ensures ∙ inner) refl in
-    object_text (one_of_fields o.annotations schemas) before _ _ _ refl refl c.in_ok-push_str.ensures.bytes
+    let held = subst (λ ss. IsHeld (list (schema_forms (tree_views (λ l. l) ss)))) c.as_slice.ensures c.in_ok-push_schemas.ensures.held in
+    let one = present_from (codes "oneOf") (list schemas) c.in_ok-later-2.later (codes "[") (items_text false (items_data schemas)) _ _ _ _ refl c.in_ok-push_key.ensures
+    (c.in_ok-push_str-2.ensures.bytes ∙ c.in_ok-push_schemas.ensures.text_is ∙ inner) refl held in
+    rw (one_of_view-is o)
+    (object_text (one_of_fields o.annotations schemas) before _ _ _ refl refl c.in_ok-push_str.ensures.bytes
     (then c.in_ok-later.ensures (then c.in_ok-later-2.ensures (then one (then c.in_ok-later-3.ensures (then c.in_ok-later-4.ensures c.in_ok-push_write_only.ensures)))))
-    c.in_ok-push_str-3.ensures.bytes
-    ∙ ap (λ s. before ++ compact_text (data_of (form s))) (sym (one_of_view-is o))
+    c.in_ok-push_str-3.ensures.bytes)
 
 pub push_all_of-returns : goal.push_all_of-returns
 unfolding escape_byte
@@ -70,12 +76,13 @@ push_all_of-returns t c =
     let key = codes "\"allOf\":[" in
     let schemas = schema_forms (tree_views (λ l. l) a.items) in
     let inner = ap (λ ss. string_bytes c.push_str.new.self ++ items_text false (items_data (schema_forms (tree_views (λ l. l) ss)))) c.as_slice.ensures in
+    let held = subst (λ ss. IsHeld (list (schema_forms (tree_views (λ l. l) ss)))) c.as_slice.ensures c.in_ok-push_schemas.ensures.held in
     let all = present_from (codes "allOf") (list schemas) false (codes "[") (items_text false (items_data schemas)) key (before ++ codes "{") _ _ refl
-    (c.in_ok-push_str.ensures.bytes ∙ sym (append_assoc before (codes "{") key)) (c.in_ok-push_str-2.ensures.bytes ∙ c.in_ok-push_schemas.ensures ∙ inner) refl in
-    object_text (all_of_fields a.annotations schemas) before (before ++ codes "{") _ _ refl refl refl
+    (c.in_ok-push_str.ensures.bytes ∙ sym (append_assoc before (codes "{") key)) (c.in_ok-push_str-2.ensures.bytes ∙ c.in_ok-push_schemas.ensures.text_is ∙ inner) refl held in
+    rw (all_of_view-is a)
+    (object_text (all_of_fields a.annotations schemas) before (before ++ codes "{") _ _ refl refl refl
     (then all (then c.in_ok-later.ensures (then c.in_ok-later-2.ensures (then c.in_ok-later-3.ensures (then c.in_ok-later-4.ensures c.in_ok-push_write_only.ensures)))))
-    c.in_ok-push_str-3.ensures.bytes
-    ∙ ap (λ s. before ++ compact_text (data_of (form s))) (sym (all_of_view-is a))
+    c.in_ok-push_str-3.ensures.bytes)
 
 pub push_front-returns : goal.push_front-returns
 unfolding escape_byte
@@ -84,7 +91,8 @@ push_front-returns t c =
     let schemas = schema_forms (tree_views (λ l. l) ss) in
     let some : 0 < length ss = grind arith in
     subst (λ o. Writes ((codes "prefixItems", o) ∷ []) c.args.later (string_bytes c.args.text.now) true (string_bytes c.push_str.new.self)) (sym (some_schemas ss some))
-    (present_from (codes "prefixItems") (list schemas) c.args.later (codes "[") (items_text false (items_data schemas)) _ _ _ _ refl c.in_ok-push_key.ensures (c.in_ok-push_str.ensures.bytes ∙ c.in_ok-push_schemas.ensures) refl)
+    (present_from (codes "prefixItems") (list schemas) c.args.later (codes "[") (items_text false (items_data schemas)) _ _ _ _ refl c.in_ok-push_key.ensures (c.in_ok-push_str.ensures.bytes ∙ c.in_ok-push_schemas.ensures.text_is) refl
+    c.in_ok-push_schemas.ensures.held)
 
 pub push_properties-returns : goal.push_properties-returns
 unfolding escape_byte
@@ -93,7 +101,7 @@ push_properties-returns t c =
     let es = property_forms (named_views (λ l. l) ps) in
     let some : 0 < length ps = grind arith in
     subst (λ o. Writes ((codes "properties", o) ∷ []) c.args.later (string_bytes c.args.text.now) true (string_bytes c.push_members.new.text)) (sym (some_entries es (length ps) (length-properties ps) some))
-    (present (codes "properties") (map_of es) c.args.later _ _ _ _ refl c.in_ok-push_key.ensures c.in_ok-push_members.ensures)
+    (present (codes "properties") (map_of es) c.args.later _ _ _ _ refl c.in_ok-push_key.ensures c.in_ok-push_members.ensures.text_is c.in_ok-push_members.ensures.held)
 
 pub push_additional-returns-in-Truth : goal.push_additional-returns-in-Truth
 unfolding escape_byte
@@ -106,22 +114,26 @@ push_additional-returns-in-Truth t c =
 pub push_additional-returns-in_ok-push_schema-in-Of : goal.push_additional-returns-in_ok-push_schema-in-Of
 unfolding escape_byte
 push_additional-returns-in_ok-push_schema-in-Of t c =
-    rw (c.in-Of.is, additional-of c.in-Of.schema) (present (codes "additionalProperties") (form (schema_view c.in-Of.schema)) false _ _ _ _ refl c.in_ok-push_str-in-Of.ensures.bytes c.in_ok-push_schema-in-Of.ensures)
+    rw (c.in-Of.is, additional-of c.in-Of.schema) (present (codes "additionalProperties") (form (schema_view c.in-Of.schema)) false _ _ _ _ refl c.in_ok-push_str-in-Of.ensures.bytes c.in_ok-push_schema-in-Of.ensures.text_is c.in_ok-push_schema-in-Of.ensures.held)
 
 pub push_names-returns-in_ok-push_schema-in-Some : goal.push_names-returns-in_ok-push_schema-in-Some
 unfolding escape_byte
 push_names-returns-in_ok-push_schema-in-Some t c =
-    rw c.in-Some.is (present (codes "propertyNames") (form (schema_view c.in-Some.schema)) c.args.later _ _ _ _ refl c.in_ok-push_key-in-Some.ensures c.in_ok-push_schema-in-Some.ensures)
+    rw c.in-Some.is (present (codes "propertyNames") (form (schema_view c.in-Some.schema)) c.args.later _ _ _ _ refl c.in_ok-push_key-in-Some.ensures c.in_ok-push_schema-in-Some.ensures.text_is c.in_ok-push_schema-in-Some.ensures.held)
 
 pub push_items-returns-in_ok-push_str-in-False : goal.push_items-returns-in_ok-push_str-in-False
 unfolding escape_byte
 push_items-returns-in_ok-push_str-in-False t c =
-    rw (c.in-False.is, items-false) (present (codes "items") (boolean false) c.args.later _ _ _ _ refl c.in_ok-push_key.ensures c.in_ok-push_str-in-False.ensures.bytes)
+    rw (c.in-False.is, items-false) (present (codes "items") (boolean false) c.args.later _ _ _ _ refl c.in_ok-push_key.ensures c.in_ok-push_str-in-False.ensures.bytes (tt, tt))
 
 pub push_items-returns-in_ok-push_schema-in-Each : goal.push_items-returns-in_ok-push_schema-in-Each
 unfolding escape_byte
 push_items-returns-in_ok-push_schema-in-Each t c =
-    rw (c.in-Each.is, items-each c.in-Each.schema) (present (codes "items") (form (schema_view c.in-Each.schema)) c.args.later _ _ _ _ refl c.in_ok-push_key.ensures c.in_ok-push_schema-in-Each.ensures)
+    rw (c.in-Each.is, items-each c.in-Each.schema) (present (codes "items") (form (schema_view c.in-Each.schema)) c.args.later _ _ _ _ refl c.in_ok-push_key.ensures c.in_ok-push_schema-in-Each.ensures.text_is c.in_ok-push_schema-in-Each.ensures.held)
+
+-- the forms of schemas
+abbrev forms : List (Tree RefLeaf) → Items
+forms ss = schema_forms (tree_views (λ l. l) ss)
 
 -- the places that are gone through are those of the names
 places : {t : ℕ} (c : push_members-After-into_iter-name-iterator t) → map place_of c.into_iter-name-iterator.result ≡ places_from 0 (map (λ p. p.0) c.args.properties.now) []
@@ -131,7 +143,11 @@ pub push_members-loop-name-init : goal.push_members-loop-name-init
 push_members-loop-name-init t c =
     let n = length c.args.properties.now in
     let names = map (λ p. p.0) c.args.properties.now in
-    (refl, subst (AllByRecursion (λ e. e.1 < n)) (sym (places c)) (places_below n 0 names [] tt (omega (arith, length-map c.args.properties.now (λ p. p.0)))))
+    record {
+      text_is = refl;
+      below = subst (AllByRecursion (λ e. e.1 < n)) (sym (places c)) (places_below n 0 names [] tt (omega (arith, length-map c.args.properties.now (λ p. p.0))));
+      held = λ h. h;
+    }
 
 pub push_members-loop-name-preserved : goal.push_members-loop-name-preserved
 push_members-loop-name-preserved t c =
@@ -141,15 +157,20 @@ push_members-loop-name-preserved t c =
     let p = c.index-properties-place.result in
     let i = c.in-Some.place.now in
     let here : c.loop-name.name-iterator ≡ (c.in-Some.name.now, i) ∷ rest = search rules in
-    let within = subst (λ l. AllByRecursion (λ e. e.1 < length ps) (map place_of l)) here c.loop-name.invariant.1 in
+    let within = subst (λ l. AllByRecursion (λ e. e.1 < length ps) (map place_of l)) here c.loop-name.invariant.below in
     let before = string_bytes c.push_str-in-loop-name.new.self in
     let value =
-    c.in_ok-push_schema.ensures ∙ ap (λ q. before ++ compact_text (data_of (form (schema_view q.1)))) (sym c.index-properties-place.is)
-    ∙ ap (λ x. before ++ compact_text (data_of x)) (sym (value_at-property ps i p within.0 c.index-properties-place.is)) in (
-      placed_step c.loop-name.later es (c.in-Some.name.now.now, i) (map place_of rest) (string_bytes c.loop-name.text) _ _ _ _ c.in_ok-push_comma.ensures c.in_ok-push_words.ensures c.in_ok-push_str-2.ensures.bytes value
-          ∙ ap (λ l. string_bytes c.loop-name.text ++ placed_text c.loop-name.later es (map place_of l)) (sym here) ∙ c.loop-name.invariant.0,
-      within.1,
-    )
+    c.in_ok-push_schema.ensures.text_is ∙ ap (λ q. before ++ compact_text (data_of (form (schema_view q.1)))) (sym c.index-properties-place.is)
+    ∙ ap (λ x. before ++ compact_text (data_of x)) (sym (value_at-property ps i p within.0 c.index-properties-place.is)) in
+    let held : IsHeld (value_at es i) =
+    subst IsHeld (sym (value_at-property ps i p within.0 c.index-properties-place.is)) (subst (λ q. IsHeld (form (schema_view q.1))) (sym c.index-properties-place.is) c.in_ok-push_schema.ensures.held) in
+    record {
+      text_is =
+          placed_step c.loop-name.later es (c.in-Some.name.now.now, i) (map place_of rest) (string_bytes c.loop-name.text) _ _ _ _ c.in_ok-push_comma.ensures c.in_ok-push_words.ensures c.in_ok-push_str-2.ensures.bytes value
+          ∙ ap (λ l. string_bytes c.loop-name.text ++ placed_text c.loop-name.later es (map place_of l)) (sym here) ∙ c.loop-name.invariant.text_is;
+      below = within.1;
+      held = λ more. c.loop-name.invariant.held (subst (λ l. ArePlacedHeld es (map place_of l)) (sym here) (held, more));
+    }
 
 pub push_members-returns : goal.push_members-returns
 push_members-returns t c =
@@ -159,7 +180,35 @@ push_members-returns t c =
     let done : c.loop-name.name-iterator ≡ [] = search rules in
     let all : map place_of c.into_iter-name-iterator.result ≡ places_from 0 (map (λ e. e.0) es) [] =
     ap (map place_of) (c.into_iter-name-iterator.ensures.into_iter_gives ∙ c.iter-name-items.ensures.rest) ∙ c.in_ok-order.ensures ∙ ap (λ ks. places_from 0 ks []) (sym (property_names_are ps)) in
-    c.in_ok-push_str-3.ensures.bytes ∙ ap (λ l. string_bytes c.loop-name.text ++ placed_text c.loop-name.later es (map place_of l)) (sym done) ∙ c.loop-name.invariant.0
-    ∙ ap (λ qs. begun ++ placed_text false es qs) all ∙ ap (λ m. begun ++ m) (places_text es)
-    ∙ ap (λ m. m ++ members_text false (members_data (put_all es no_members))) c.in_ok-push_str.ensures.bytes
-    ∙ append_assoc (string_bytes c.args.text.now) (123 ∷ []) (members_text false (members_data (put_all es no_members)))
+    record {
+      text_is =
+          c.in_ok-push_str-3.ensures.bytes ∙ ap (λ l. string_bytes c.loop-name.text ++ placed_text c.loop-name.later es (map place_of l)) (sym done) ∙ c.loop-name.invariant.text_is
+          ∙ ap (λ qs. begun ++ placed_text false es qs) all ∙ ap (λ m. begun ++ m) (places_text es)
+          ∙ ap (λ m. m ++ members_text false (members_data (put_all es no_members))) c.in_ok-push_str.ensures.bytes
+          ∙ append_assoc (string_bytes c.args.text.now) (123 ∷ []) (members_text false (members_data (put_all es no_members)));
+      held = places_held es (subst (ArePlacedHeld es) all (c.loop-name.invariant.held (subst (λ l. ArePlacedHeld es (map place_of l)) (sym done) tt)));
+    }
+
+pub push_schemas-loop-schema-preserved : goal.push_schemas-loop-schema-preserved
+push_schemas-loop-schema-preserved t c =
+    let ss = c.args.schemas.now in
+    let i = c.loop-schema.schema-index in
+    let s = c.schema-item.result in
+    let rest = forms (drop (i + 1) ss) in
+    let here : forms (drop i ss) ≡ item (form (schema_view s)) rest = at_drop_more forms ss i s (omega arith) ∙ ap (λ u. item (form (schema_view u)) rest) (sym c.schema-item.is) in
+    let before = string_bytes c.loop-schema.text in
+    let one = c.in_ok-push_schema.ensures in
+    record {
+      text_is =
+          item_step c.loop-schema.later (form (schema_view s)) rest before _ _ c.in_ok-push_comma.ensures one.text_is
+          ∙ ap (λ xs. before ++ items_text c.loop-schema.later (items_data xs)) (sym here) ∙ c.loop-schema.invariant.text_is;
+      held = λ more. c.loop-schema.invariant.held (subst (λ xs. IsHeld (list xs)) (sym here) ((one.held.0, more.0), (one.held.1, more.1)));
+    }
+
+pub push_schemas-returns : goal.push_schemas-returns
+push_schemas-returns t c =
+    let none : forms (drop c.loop-schema.schema-index c.args.schemas.now) ≡ no_items = at_drop_all forms c.args.schemas.now c.loop-schema.schema-index (omega arith) in
+    record {
+      text_is = ap (λ xs. string_bytes c.loop-schema.text ++ items_text c.loop-schema.later (items_data xs)) (sym none) ∙ c.loop-schema.invariant.text_is;
+      held = c.loop-schema.invariant.held (subst (λ xs. IsHeld (list xs)) (sym none) (tt, tt));
+    }

@@ -14,7 +14,7 @@ returns-in_ok-push_str-in-One-2 c =
     rw c.in-One.is
     (present_from (codes "type") (text (word_text w)) c.args.later end (word_text w ++ end) _ _ _ _ refl c.in_ok-push_key-in-One.ensures
     (c.in_ok-push_str-in-One-2.ensures.bytes ∙ ap (λ t. t ++ end) (c.in_ok-push_str-in-One.ensures.bytes ∙ ap (λ t. string_bytes c.push_key.new.text ++ t) c.word_of.ensures) ∙ append_assoc (string_bytes c.push_key.new.text) (word_text w) end)
-    (one_word w))
+    (one_word w) (tt, tt))
 
 pub returns-in_ok-push_str-in-Nullable-2 : goal.returns-in_ok-push_str-in-Nullable-2
 unfolding escape_byte
@@ -24,4 +24,4 @@ returns-in_ok-push_str-in-Nullable-2 c =
     rw c.in-Nullable.is
     (present_from (codes "type") (list (item (text (word_text w)) (item (text (codes "null")) no_items))) c.args.later (codes "[\"") (word_text w ++ end) _ _ _ _ refl c.in_ok-push_key-in-Nullable.ensures
     (c.in_ok-push_str-in-Nullable-2.ensures.bytes ∙ ap (λ t. t ++ end) (c.in_ok-push_str-in-Nullable.ensures.bytes ∙ ap (λ t. string_bytes c.push_key-in-Nullable.new.text ++ t) c.word_of-in-Nullable.ensures) ∙ append_assoc (string_bytes c.push_key-in-Nullable.new.text) (word_text w) end)
-    (with_null w))
+    (with_null w) ((tt, (tt, tt)), (tt, (tt, tt))))

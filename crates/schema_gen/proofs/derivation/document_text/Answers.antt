@@ -1,8 +1,10 @@
-use Rattle.std.proofs.Common.{◌≡◌, ◌⊎◌, ℕ, List, inl, inr, sym, subst}
+use Rattle.std.proofs.Common.{◌≡◌, ◌⊎◌, ◌∙◌, ℕ, List, inl, inr, sym, subst}
 use Rattle.std.proofs.lemmas.Result.{err_from_is_err_and}
 use Rattle.diag.specs.declared.error.DeriveError.{DeriveError}
 use Rattle.diag.specs.declared.error.DeriveError.TheVariants.{Memory}
+use Rattle.schema_trees.specs.Held.{IsHeld}
 use Rattle.schema_core.specs.Document.{Entry, document, text_of}
+use Rattle.schema_core.specs.OneText.{OneText}
 use Rattle.configuration.specs.Configuration.{Configuration}
 use Rattle.closing.specs.Described.{Describes}
 use Rattle.compose.specs.Bounds.{collects_all}
@@ -19,14 +21,16 @@ refused_bytes config source bytes e same is_text (inr refused) = inr (inr (inr (
 
 -- the document of the text is that of its bytes
 document_of_bytes : (config : Configuration) (source bytes text : List ℕ) (components : List Entry) → source ≡ bytes → IsText bytes
-    → (made : IsDerived config source components) × Describes made.resolved (collects_all config.collect) (document components) → text ≡ text_of (document components) → IsDocumentOf config bytes text
-document_of_bytes config source bytes text components same is_text made text_is =
+    → (made : IsDerived config source components) × Describes made.resolved (collects_all config.collect) (document components) → text ≡ text_of (document components) → IsHeld (document components) → OneText → IsDocumentOf config bytes text
+document_of_bytes config source bytes text components same is_text made text_is held one =
     subst (λ b. IsDocumentOf config b text) same (record {
       is_text = subst IsText (sym same) is_text;
       components = components;
       made = made.0;
       describes = made.1;
       text_is = text_is;
+      held = held;
+      one = λ x short is. one x (document components) short held.0 (sym is ∙ text_is);
     })
 
 pub returns-in_err-derived-clause-refused : goal.returns-in_err-derived-clause-refused
@@ -38,4 +42,4 @@ returns-in_err-derived-clause-refused c =
 pub returns-clause-made : goal.returns-clause-made
 returns-clause-made c =
     let source = c.in_ok-source.ensures.text in
-    document_of_bytes _ _ _ _ _ source.0 (record { short = c.requires; utf8 = source.1 }) c.in_ok-derived.ensures.describes c.in_ok-to_text.ensures
+    document_of_bytes _ _ _ _ _ source.0 (record { short = c.requires; utf8 = source.1 }) c.in_ok-derived.ensures.describes c.in_ok-to_text.ensures.text c.in_ok-to_text.ensures.held c.texts_are_one.ensures
