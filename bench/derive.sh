@@ -2,8 +2,9 @@
 # Sources of at most 1,000 structs or enums from 64 KiB to 1 MiB, each twice the one before: the time that the program takes for each,
 # its peak memory, the ratio of the time to that of the one before, and declarations per second. By hand; no test rests on it.
 #
-#     bench/derive.sh [ascending|descending|references|wide|documented|containers|inlined|attributed|enums|generics|written]
+#     bench/derive.sh [ascending|descending|references|wide|documented|containers|inlined|attributed|aliased|enums|generics|written]
 #
+# Of aliased each field's type is an alias of the configuration, and each alias has another in its text or is in that of another.
 # Of generics a group is a struct and two generic structs of which it uses three instances: 4 instances in 1 KiB, so 4,096 in 1 MiB.
 # Of written the instances of the same groups are structs of the same names; its last source would be longer than 1 MiB, and is left out.
 set -eu
@@ -35,6 +36,7 @@ def enum(name, i, fields):
     variants = ["Empty", "Content(Box<Item%04d>)" % (i // 2), "Small " + named(fields[:16]), "Large " + named(fields[16:])]
     return "%spub enum %s {\n%s}\n\n" % (taggings[i % 4], name, "".join("    %s,\n" % v for v in variants))
 
+types = ("Id", "Name", "Tags", "Size") if form == "aliased" else ("u64", "Option<String>", "Vec<Vec<String>>", "i32")
 attributes = [
     "#[serde(default, skip_serializing_if = \"Option::is_none\")]",
     "#[validate(length(min = 1))] #[serde(alias = \"other\")]",
@@ -62,6 +64,8 @@ def group(i):
 def configuration():
     if form in ("generics", "written"):
         return json.dumps({"limit": 4096})
+    if form == "aliased":
+        return json.dumps({"limit": 4096, "aliases": {"Id": "Number", "Number": "u64", "Name": "Option<Text>", "Text": "String", "Tags": "Vec<Words>", "Words": "Vec<Text>", "Size": "Small", "Small": "i32"}})
     names = ["%s_%d" % (stem, k) for stem in ("id", "name", "tags", "size") for k in range(12)]
     rows = [{"rule": "camelCase", "place": "field", "from": name, "to": name.replace("_", "")} for name in names]
     return json.dumps({"renames": rows})
@@ -81,7 +85,7 @@ def source(size):
         number = 9999 - i if form == "descending" else i
         fields = []
         for k in range(12):
-            fields += [("id_%d" % k, "u64"), ("name_%d" % k, "Option<String>"), ("tags_%d" % k, "Vec<Vec<String>>"), ("size_%d" % k, "i32")]
+            fields += [("%s_%d" % (stem, k), ty) for stem, ty in zip(("id", "name", "tags", "size"), types)]
             if form in ("references", "documented"):
                 fields += [("owner_%d" % k, "Item%04d" % (i // 2)), ("next_%d" % k, "Option<Item%04d>" % max(0, i - 1)), ("all_%d" % k, "Vec<Item%04d>" % (i // 3))]
             if form == "containers":
@@ -111,7 +115,7 @@ def run(path):
     return best, peak / 1024
 
 words = ["derive"]
-if form in ("attributed", "generics", "written"):
+if form in ("attributed", "aliased", "generics", "written"):
     words += ["--config", os.path.join(folder, "config.json")]
     with open(words[-1], "w") as file:
         file.write(configuration())

@@ -1,6 +1,6 @@
 #!/usr/bin/env bash
-# Sources of 1 MiB that are one token, one type, one list or one kind of token, and sources at the bounds on instances: the time and the
-# peak memory that the program takes for each, and its status. By hand; no test rests on it.
+# Sources of 1 MiB that are one token, one type, one list or one kind of token, sources at the bounds on instances, and sources and
+# configurations with aliases: the time and the peak memory that the program takes for each, and its status. By hand; no test rests on it.
 #
 #     bench/hostile.sh
 set -eu
@@ -8,7 +8,7 @@ here=$(cd "$(dirname "$0")/.." && pwd)
 program=${PROGRAM:-$here/crates/schema_gen_cli/out/schema_gen_cli}
 [ -x "$program" ] || "$here/build"
 python3 - "$program" <<'PY'
-import json, os, subprocess, sys, tempfile, time
+import json, os, resource, subprocess, sys, tempfile, time
 
 program = sys.argv[1]
 size = 1 << 20
@@ -87,18 +87,85 @@ sources = [
     ("many bounds", lambda: "struct S<'a> where u8: " + "B+" * ((size - 40) // 2) + "B { a: u8 }"),
     ("many predicates", lambda: "struct S<'a> where " + "B:C," * ((size - 40) // 4) + " { a: u8 }"),
 ]
+# The fields of a struct, each of one of the types.
+def fields(many, *types):
+    return "struct S { " + ", ".join("f%d: %s" % (at, types[at % len(types)]) for at in range(many)) + " }"
+
+# As many fields without names as there is room for, each of the type.
+def unnamed(of):
+    return "struct S(" + (of + ",") * ((size - 11) // (len(of) + 1)) + ");"
+
+# An alias whose text fills what a configuration may hold.
+def long_text(before, unit, after):
+    room = size - len(json.dumps({"aliases": {"A": before + after}}, separators=(",", ":")))
+    return {"A": before + unit * (room // len(unit)) + after}
+
+# So many aliases, each of which stands for the next, and the last for this type.
+def chain(many, end="bool"):
+    return {"A%d" % at: "A%d" % (at + 1) if at + 1 < many else end for at in range(many)}
+
+# 32 rows of so many aliases, each of which names others of the next row.
+def rows(many, others):
+    of = lambda row, at: "(" + "".join("A%d_%d," % (row + 1, (at + k) % many) for k in range(others)) + ")" if row < 31 else "bool"
+    return {"A%d_%d" % (row, at): of(row, at) for row in range(32) for at in range(many)}
+
+def short_names(many):
+    first = "ABCDEFGHIJKLMNOPQRSTUVWXYZabcdefghijklmnopqrstuvwxyz_"
+    names = (a + b + c for a in first for b in first + "0123456789" for c in first + "0123456789")
+    return [name for name, _ in zip(names, range(many))]
+
+# Sources, and what names stand for there.
+aliased = [
+    ("20,000 in a chain", lambda: fields(20000, "A0", "Vec<A0>"), lambda: chain(32)),
+    ("350,000 in a chain", lambda: unnamed("A0"), lambda: chain(32)),
+    ("one tuple of chains", lambda: field("(", "A0,", "A0)"), lambda: chain(32)),
+    ("one list of chains", lambda: field("Vec<", "A0,", "A0>"), lambda: chain(32)),
+    ("2,000 of 256 names", lambda: fields(2000, "A"), lambda: {"A": "(" + "bool," * 255 + ")"}),
+    ("20,000 of 256 names", lambda: fields(20000, "A") + " struct D<" + ",".join("T%d" % at for at in range(255)) + "> { a: bool }",
+        lambda: {"A": "D<" + "bool," * 255 + ">"}),
+    ("30,000 of 64 levels", lambda: fields(30000, "A"), lambda: {"A": "Box<" * 63 + "bool" + ">" * 63}),
+    ("31 doublings", lambda: fields(1, "A0"), lambda: {"A%d" % at: "(A%d, A%d)" % (at + 1, at + 1) if at < 31 else "bool" for at in range(32)}),
+    ("31 times 256", lambda: fields(1, "A0"), lambda: {"A%d" % at: "(" + "A%d," % (at + 1) * 256 + ")" if at < 31 else "bool" for at in range(32)}),
+    ("a text of lifetimes", lambda: fields(20000, "A"), lambda: long_text("bool<", "'a,", "'a>")),
+    ("a text of constants", lambda: fields(20000, "A"), lambda: long_text("bool<", "1,", "1>")),
+    ("a text of one block", lambda: fields(20000, "A"), lambda: long_text("bool<{ ", "1 ", "}>")),
+    ("a text of prefixes", lambda: fields(20000, "A"), lambda: long_text("", "a::", "bool")),
+    ("prefixes with types", lambda: fields(20000, "A"), lambda: long_text("", "a<u8>::", "bool")),
+    ("one long prefix", lambda: fields(20000, "A"), lambda: long_text("", "a", "::bool")),
+    ("a text of bounds", lambda: fields(20000, "A"), lambda: long_text("dyn bool", "+B", "")),
+    ("a text of spaces", lambda: fields(20000, "A"), lambda: long_text("", " ", "bool")),
+    ("a text of types", lambda: fields(20000, "bool"), lambda: long_text("(", "u8,", ")")),
+    ("a used text of types", lambda: fields(20000, "A"), lambda: long_text("(", "u8,", ")")),
+    ("a text of brackets", lambda: fields(20000, "A"), lambda: long_text("", "(", "")),
+    ("10,000 aliases", lambda: fields(10000, *("A%d" % at for at in range(10000))), lambda: {"A%d" % at: "Option<u64>" for at in range(10000)}),
+    ("100,000 unused", lambda: fields(1, "bool"), lambda: {name: "u" for name in short_names(100000)}),
+    ("a chain of 50,000", lambda: fields(1, "bool"), lambda: chain(50000)),
+    ("32 rows", lambda: fields(100, *("A31_%d" % at for at in range(100))), lambda: rows(100, 20)),
+    ("32 rows used", lambda: fields(100, "A0_0"), lambda: rows(100, 20)),
+    ("33 rows", lambda: fields(100, "A"), lambda: {**rows(100, 20), "A": "A0_0"}),
+]
+# A run ends with a status below 0 where it takes a minute of a processor, and it has 8 GiB.
+def bounded():
+    resource.setrlimit(resource.RLIMIT_CPU, (60, 60))
+    resource.setrlimit(resource.RLIMIT_AS, (8 << 30, 8 << 30))
+
 print("%-20s %9s %9s %7s" % ("source", "seconds", "peak MiB", "status"))
-config = tempfile.NamedTemporaryFile("w")
-json.dump({"limit": 4096, "copies": 100000}, config)
-config.flush()
-runs = [(name, made, ["--config", config.name]) for name, made in roomy] + [(name, made, []) for name, made in sources]
-for name, made, words in runs:
+bounds = lambda: {"limit": 4096, "copies": 100000}
+runs = [(name, made, bounds) for name, made in roomy] + [(name, made, None) for name, made in sources]
+runs += [(name, made, lambda stand_for=stand_for: {"aliases": stand_for()}) for name, made, stand_for in aliased]
+for name, made, configured in runs:
     text = made()
+    words = []
+    if configured:
+        config = tempfile.NamedTemporaryFile("w")
+        config.write(json.dumps(configured(), separators=(",", ":")))
+        config.flush()
+        words = ["--config", config.name]
     with tempfile.TemporaryFile() as file, open(os.devnull, "wb") as nothing:
         file.write(text.encode())
         file.seek(0)
         start = time.perf_counter()
-        child = subprocess.Popen([program, "derive", *words], stdin=file, stdout=nothing, stderr=nothing)
+        child = subprocess.Popen([program, "derive", *words], stdin=file, stdout=nothing, stderr=nothing, preexec_fn=bounded)
         _, status, usage = os.wait4(child.pid, 0)
         took = time.perf_counter() - start
     print("%-20s %9.3f %9.1f %7d" % (name, took, usage.ru_maxrss / 1024, os.waitstatus_to_exitcode(status)))

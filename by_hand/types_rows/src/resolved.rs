@@ -65,8 +65,12 @@ pub(crate) fn by_places(alloc: Global, given: &Value) -> anyhow::Result<String> 
     let places = Places::of_names(alloc, &declarations, by_name)?;
     let none = BTreeMap::new(alloc);
     let names = KnownNames {
+        aliases: &none,
+        alias_types: &[],
         places: &places.by_name,
         counts: places.counts.as_slice(),
+        own: None,
+        count: 0,
         parameters: &none,
         constants: &none,
     };
@@ -97,8 +101,12 @@ fn tuple_text(alloc: Global, ty: &OpenType) -> Result<String, AllocError> {
 fn undeclared(alloc: Global, ty: &WrittenType) -> Result<String, AllocError> {
     let none = BTreeMap::new(alloc);
     let names = KnownNames {
+        aliases: &none,
+        alias_types: &[],
         places: &none,
         counts: &[],
+        own: None,
+        count: 0,
         parameters: &none,
         constants: &none,
     };

@@ -2,6 +2,7 @@
 #![tactic(auto)]
 
 mod accepted;
+mod aliases;
 mod answers;
 mod arguments;
 mod composed;
@@ -33,6 +34,8 @@ fn told(alloc: Global, row: &Row) -> anyhow::Result<String> {
         "to_value" => single_words::document(alloc, given),
         "tree" => trees::tree(alloc, given),
         "path_generics" => trees::generics(alloc, given),
+        "rewrite_path" => aliases::path(alloc, given),
+        "get_alias_type" => aliases::alias(alloc, given),
         "schema_type" => trees::tests(alloc, given),
         "format" => trees::format(alloc, given),
         "parse_format" => trees::format_value(alloc, given),

@@ -3,7 +3,6 @@ use Rattle.std.specs.Prelude.{◌≡◌, ◌⊎◌, ℕ, List, Some}
 use Rattle.diag.specs.Refusal.{RefusesNone}
 use Rattle.diag.specs.declared.error.DeriveError.{DeriveError}
 use Rattle.texts.specs.declared.span.Span.{Span}
-use Rattle.diag.specs.declared.rename_row.RenameRow.{RenameRow}
 use Rattle.schema_core.specs.Document.{Entry}
 use Rattle.syntax.specs.Items.{DeclaredItem}
 use Rattle.syntax.specs.Source.{Reads, IsUnreadable, IsTooDeep, NestsTooDeep}
@@ -18,25 +17,25 @@ use Rattle.compose.specs.Bounds.{AreBounded, IsUnbounded, collects_all}
 -- ---- the answers
 
 -- the error refuses a name that two declarations have, or a declaration that is at fault
-abbrev pub AreFaultyDeclarations : List RenameRow → List DeclaredItem → DeriveError → Type 0
-AreFaultyDeclarations rows ds e = IsGivenTwice (declared_idents ds) e ⊎ AreFaultyItems rows ds e
+abbrev pub AreFaultyDeclarations : Configuration → List DeclaredItem → DeriveError → Type 0
+AreFaultyDeclarations c ds e = IsGivenTwice (declared_idents ds) e ⊎ AreFaultyItems c ds e
 
 -- the error refuses the declarations for an attribute that nothing is derived from, or else for a fault
-abbrev pub AreAtFault : List RenameRow → List DeclaredItem → DeriveError → Type 0
-AreAtFault rows ds e = AreUnderivable ds e ⊎ (AreDerivable ds × AreFaultyDeclarations rows ds e)
+abbrev pub AreAtFault : Configuration → List DeclaredItem → DeriveError → Type 0
+AreAtFault c ds e = AreUnderivable ds e ⊎ (AreDerivable ds × AreFaultyDeclarations c ds e)
 
--- Something is derived from each attribute of the declarations, and there is no fault, where names become what the rows say.
-pub record AreClear (rows : List RenameRow) (ds : List DeclaredItem) : Type 0 where
+-- Something is derived from each attribute of the declarations, and there is no fault, where names become and stand for what the configuration says.
+pub record AreClear (c : Configuration) (ds : List DeclaredItem) : Type 0 where
   pub derivable : AreDerivable ds
-  pub faultless : RefusesNone (AreFaultyDeclarations rows ds)
+  pub faultless : RefusesNone (AreFaultyDeclarations c ds)
 
 -- the error refuses declarations that are clear: their instances are beyond a bound
 abbrev pub IsBeyond : Configuration → List DeclaredItem → DeriveError → Type 0
-IsBeyond c ds e = AreClear c.renames ds × ((ss : List DeclarationOf) × (resolved_declarations c.renames ds ≡ Some ss) × IsUnbounded c (declared_idents ds) ss e)
+IsBeyond c ds e = AreClear c ds × ((ss : List DeclarationOf) × (resolved_declarations c ds ≡ Some ss) × IsUnbounded c (declared_idents ds) ss e)
 
 -- the error refuses a source that is read and nests no deeper than it may, whose declarations are at fault or beyond a bound
 abbrev pub IsFaultySource : Configuration → List ℕ → DeriveError → Type 0
-IsFaultySource c source e = (ds : List DeclaredItem) × Reads source ds × ((span : Span) → ¬ (NestsTooDeep source span)) × (AreAtFault c.renames ds e ⊎ IsBeyond c ds e)
+IsFaultySource c source e = (ds : List DeclaredItem) × Reads source ds × ((span : Span) → ¬ (NestsTooDeep source span)) × (AreAtFault c ds e ⊎ IsBeyond c ds e)
 
 -- the error refuses the source: it nests too deep, or it has no reading, or else its declarations are at fault, or else beyond a bound
 abbrev pub IsRefused : Configuration → List ℕ → DeriveError → Type 0
@@ -47,9 +46,9 @@ pub record IsDerived (c : Configuration) (source : List ℕ) (components : List 
   pub declarations : List DeclaredItem
   pub read : Reads source declarations
   pub shallow : (span : Span) → ¬ NestsTooDeep source span
-  pub clear : AreClear c.renames declarations
+  pub clear : AreClear c declarations
   pub resolved : List DeclarationOf
-  pub resolves : resolved_declarations c.renames declarations ≡ Some resolved
+  pub resolves : resolved_declarations c declarations ≡ Some resolved
   pub bounded : AreBounded c resolved
   pub apart : AreApartBodies resolved
   pub components_are : AreComponents resolved (collects_all c.collect) components

@@ -20,7 +20,7 @@ declarations_of terms = map declaration_view terms.resolved
 
 -- The terms are those of declarations in which nothing is at fault.
 pub record AreTermsOf (c : Configuration) (ds : List DeclaredItem) (terms : TermSet) : Type 0 where
-  pub settled : IsSettled c.renames ds (declarations_of terms)
+  pub settled : IsSettled c ds (declarations_of terms)
   pub idents : terms.idents ≡ declared_idents ds
 
 -- The instances are those that the declarations reach, with their names and the numbers of those whose schemas stand in their own, and in an order in which each stands behind these; no inline path is longer than it may be.

@@ -81,10 +81,10 @@ fn settle(
 ) -> Result<List<Declaration>, DeriveError>
     requires { AreNamed (declarations_view declarations.now) }
     ensures settled { IfOk result
-        (λ resolved. IsSettled config.now.renames (declarations_view declarations.now)
+        (λ resolved. IsSettled config.now (declarations_view declarations.now)
         (map declaration_view resolved)) }
     ensures refused { Refuses result
-        (AreAtFault config.now.renames (declarations_view declarations.now)) }
+        (AreAtFault config.now (declarations_view declarations.now)) }
 {
     only_derivable(alloc, declarations)?;
     let by_name = declared_places(alloc, declarations)?;
@@ -110,7 +110,7 @@ pub fn terms(
     requires { AreNamed (declarations_view declarations.now) }
     ensures terms { IfOk result (AreTermsOf config.now (declarations_view declarations.now)) }
     ensures refused { Refuses result
-        (AreAtFault config.now.renames (declarations_view declarations.now)) }
+        (AreAtFault config.now (declarations_view declarations.now)) }
 {
     let resolved = settle(alloc, declarations, config)?;
     let idents = idents_of(alloc, declarations)?;

@@ -1,5 +1,5 @@
 -- Rows of lists that grow at their end, and values by their kinds.
-use Rattle.std.proofs.Common.{◌≡◌, ◌<◌, ◌+◌, ◌↔◌, ℕ, zero, suc, List, [], ◌∷◌, ◌++◌, Bool, Some, IsTrue, length, take, get_or, bytes_eq, subst, sym, ◌∙◌, arith}
+use Rattle.std.proofs.Common.{◌≡◌, ◌<◌, ◌≤◌, ◌+◌, ◌↔◌, ℕ, zero, suc, List, [], ◌∷◌, ◌++◌, Bool, Option, Some, None, IsTrue, length, take, get_or, bytes_eq, subst, sym, ◌∙◌, arith}
 use Rattle.std.specs.List.{list_any, list_all}
 use Rattle.std.proofs.lemmas.List.{take_more}
 use Rattle.serde_json.specs.Data.{Data, null, boolean, number, string, array, object, Items, no_items, Members, no_members}
@@ -8,7 +8,7 @@ use Rattle.serde_json.specs.View.{view, items_view, members_view}
 use Rattle.serde_json.specs.declared.value.Value.{Value}
 use Rattle.serde_json.proofs.Views.{Entry}
 use Rattle.diag.specs.declared.rename_row.RenameRow.{RenameRow}
-use Rattle.configuration.specs.Form.{names_of, IsObjectOf, IsRow, AreRows}
+use Rattle.configuration.specs.Form.{names_of, IsObjectOf, SaysOrDefault, IsWhole, IsRow, AreRows}
 
 -- ---- rows
 
@@ -59,3 +59,8 @@ empty_members d (v ∷ entries) b n is same h = (λ t. let z : n ≡ 0 = h.0 t i
 
 pub object_of : (names : List (List ℕ)) (d : Data) (ms : Members) (b : Bool) → d ≡ object ms → b ≡ list_all (λ name. list_any (bytes_eq name) names) (names_of ms) → IsTrue b ↔ IsObjectOf names d
 object_of names d ms b is all = subst (λ e. IsTrue b ↔ IsObjectOf names e) (sym is) (λ t. sym all ∙ t, λ t. all ∙ t)
+
+-- a whole number that is given, or is the default, is within its bounds where the default is
+pub whole_within : (least most default : ℕ) (o : Option Data) (n : ℕ) → least ≤ default → default ≤ most → SaysOrDefault (IsWhole least most) default o n → (least ≤ n) × (n ≤ most)
+whole_within least most default None n low high is = (omega arith, omega arith)
+whole_within least most default (Some d) n low high is = (is.1, is.2)

@@ -1,2 +1,6 @@
+pub mod AliasLaws
 pub mod FormLaws
 pub mod OneLaws
+pub mod RefusalLaws
+pub mod RowLaws
+pub mod TypeLaws

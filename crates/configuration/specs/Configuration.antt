@@ -1,17 +1,24 @@
--- What deriving may take, which instances get components, and what names become by rename rules.
+-- What deriving may take, which instances get components, what names become by rename rules, and what aliases stand for.
 use Rattle.std.specs.Prelude.{ℕ, List, []}
 use Rattle.diag.specs.declared.rename_row.RenameRow.{RenameRow}
+use Rattle.written_types.specs.Written.{Written}
 use Rattle.configuration.specs.declared.collect.SchemaCollect.{SchemaCollect}
 use Rattle.configuration.specs.declared.collect.SchemaCollect.TheVariants.{NonInlined}
 
+-- a name, and the type that it stands for
+pub record Alias : Type 0 where
+  pub name : List ℕ
+  pub of : Written
+
 -- the most instances that may be reachable, the most copies of schemas that may be inlined, which instances get a component,
--- and what names become by rename rules, where of rows for the same name the first counts
+-- what names become by rename rules, where of rows for the same name the first counts, and what aliases stand for
 pub record Configuration : Type 0 where
   pub limit : ℕ
   pub copies : ℕ
   pub collect : SchemaCollect
   pub renames : List RenameRow
+  pub aliases : List Alias
 
 -- what holds where nothing is configured
 abbrev pub empty_configuration : Configuration
-empty_configuration = record { limit = 1000; copies = 10000; collect = NonInlined; renames = [] }
+empty_configuration = record { limit = 1000; copies = 10000; collect = NonInlined; renames = []; aliases = [] }

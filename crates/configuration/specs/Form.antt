@@ -1,20 +1,24 @@
 -- The form of a configuration as JSON (RFC 8259), over the values that serde_json reads from texts.
-use Rattle.std.specs.Prelude.{◌≡◌, ℕ, ◌≤◌, List, [], ◌∷◌, length, Option, Some, None, IfSome, IsTrue, IsUtf8, bytes_eq, codes}
+use Rattle.std.specs.Prelude.{◌≡◌, ◌⊎◌, ℕ, ◌≤◌, List, [], ◌∷◌, length, Option, Some, None, IfSome, IsSomeAnd, IsTrue, IsUtf8, bytes_eq, codes}
 use Rattle.std.specs.List.{list_all, list_any}
 use Rattle.serde_json.specs.Data.{Data, number, unsigned, string, array, object, Items, no_items, item, Members, no_members, member}
 use Rattle.serde_json.specs.Find.{get}
 use Rattle.serde_json.specs.Read.{read}
 use Rattle.diag.specs.Refusal.{IsRefusal}
 use Rattle.texts.specs.Span.{no_span}
+use Rattle.texts.specs.declared.span.Span.{Span}
 use Rattle.diag.specs.declared.error.DeriveError.{DeriveError}
-use Rattle.diag.specs.declared.kind.Kind.TheVariants.{BadConfig}
+use Rattle.diag.specs.declared.kind.Kind.TheVariants.{BadConfig, BadRow, AliasDepth}
 use Rattle.diag.specs.declared.rename_row.RenamePlace.{RenamePlace}
 use Rattle.diag.specs.declared.rename_row.RenamePlace.TheVariants.{Field, Variant}
 use Rattle.diag.specs.declared.rename_row.RenameRow.{RenameRow}
 use Rattle.diag.specs.RenameRules.{name_of}
+use Rattle.written_types.specs.Written.{Written}
+use Rattle.type_grammar.specs.Source.{ReadsType, TypeNestsTooDeep}
 use Rattle.configuration.specs.declared.collect.SchemaCollect.{SchemaCollect}
 use Rattle.configuration.specs.declared.collect.SchemaCollect.TheVariants.{NonInlined, All}
-use Rattle.configuration.specs.Configuration.{Configuration}
+use Rattle.configuration.specs.Configuration.{Alias, Configuration}
+use Rattle.configuration.specs.Aliases.{AreDeep}
 
 -- ---- members
 
@@ -71,6 +75,47 @@ abbrev pub IsRenames : Data → List RenameRow → Type 0
 IsRenames (array items) rows = AreRows items rows
 IsRenames _ rows = ⊥
 
+-- ---- aliases
+
+-- the text is one type, which nests at most 64 levels
+abbrev pub IsTypeText : List ℕ → Written → Type 0
+IsTypeText text t = ReadsType text t × ((span : Span) → ¬ (TypeNestsTooDeep text span))
+
+-- the value is a text of this type
+abbrev pub SaysType : Data → Written → Type 0
+SaysType (string text) t = IsTypeText text t
+SaysType _ t = ⊥
+
+-- each of the members says one of the aliases, in order: its name, and as its value the type
+abbrev pub AreMembers : Members → List Alias → Type 0
+AreMembers no_members [] = Unit {0}
+AreMembers no_members (a ∷ rest) = ⊥
+AreMembers (member name value ms) [] = ⊥
+AreMembers (member name value ms) (a ∷ rest) = (a.name ≡ name) × SaysType value a.of × AreMembers ms rest
+
+abbrev pub AreAliases : Data → List Alias → Type 0
+AreAliases (object ms) aliases = AreMembers ms aliases
+AreAliases _ aliases = ⊥
+
+-- the members' values are texts, of types or not
+abbrev pub AreTexts : Members → Type 0
+AreTexts no_members = Unit {0}
+AreTexts (member name (string text) ms) = AreTexts ms
+AreTexts (member name _ ms) = ⊥
+
+abbrev pub HoldsTexts : Data → Type 0
+HoldsTexts (object ms) = AreTexts ms
+HoldsTexts _ = ⊥
+
+-- one of the members says no type
+abbrev pub LackType : Members → Type 0
+LackType no_members = ⊥
+LackType (member name value ms) = ((t : Written) → ¬ (SaysType value t)) ⊎ LackType ms
+
+abbrev pub LacksType : Data → Type 0
+LacksType (object ms) = LackType ms
+LacksType _ = ⊥
+
 -- ---- the whole
 
 abbrev pub configuration_members : List (List ℕ)
@@ -80,12 +125,11 @@ configuration_members =
 
 -- the members that say nothing yet
 pub record KeepsEmpty (value : Data) : Type 0 where
-  pub aliases : IfSome (get (codes "aliases") value) (λ given. given ≡ object no_members)
   pub schemas : IfSome (get (codes "schemas") value) (λ given. given ≡ object no_members)
   pub defaults : IfSome (get (codes "defaults") value) (λ given. given ≡ array no_items)
 
--- an object of these members, each of which may be absent, that says this configuration
-pub record IsConfiguration (value : Data) (c : Configuration) : Type 0 where
+-- an object of these members, each of which may be absent, that says all of this configuration but its aliases
+pub record SaysOthers (value : Data) (c : Configuration) : Type 0 where
   pub members : IsObjectOf configuration_members value
   pub version : SaysOrDefault (IsWhole 1 1) 1 (get (codes "version") value) 1
   pub limit : SaysOrDefault (IsWhole 1 4096) 1000 (get (codes "limit") value) c.limit
@@ -94,14 +138,55 @@ pub record IsConfiguration (value : Data) (c : Configuration) : Type 0 where
   pub renames : SaysOrDefault IsRenames [] (get (codes "renames") value) c.renames
   pub empty : KeepsEmpty value
 
--- a text of at most 1,048,576 bytes that serde_json reads as a value that says this configuration
-pub record IsConfigurationText (bytes : List ℕ) (c : Configuration) : Type 0 where
+-- the member `aliases` says these, or is absent and there are none
+abbrev pub SaysAliases : Data → List Alias → Type 0
+SaysAliases value aliases = SaysOrDefault AreAliases [] (get (codes "aliases") value) aliases
+
+-- the value says this configuration, of which no 33 aliases stand in each other
+pub record IsConfiguration (value : Data) (c : Configuration) : Type 0 where
+  pub others : SaysOthers value c
+  pub aliases : SaysAliases value c.aliases
+  pub shallow : ¬ (AreDeep c.aliases)
+
+-- a text of at most 1,048,576 bytes that serde_json reads as the value
+pub record IsJson (bytes : List ℕ) (value : Data) : Type 0 where
   pub short : length bytes ≤ 1048576
   pub utf8 : IsUtf8 bytes
-  pub value : Data
   pub reads : read bytes ≡ Some value
+
+-- a text that says this configuration
+pub record IsConfigurationText (bytes : List ℕ) (c : Configuration) : Type 0 where
+  pub value : Data
+  pub json : IsJson bytes value
   pub says : IsConfiguration value c
 
--- the refusal of what is no configuration
+-- ---- refusals
+
 abbrev pub IsBadConfig : DeriveError → Type 0
 IsBadConfig error = IsRefusal BadConfig no_span (codes "the configuration is not of the stated form") error
+
+abbrev pub IsBadRow : DeriveError → Type 0
+IsBadRow error = IsRefusal BadRow no_span (codes "a row of `aliases` is no type") error
+
+abbrev pub IsAliasDepth : DeriveError → Type 0
+IsAliasDepth error = IsRefusal AliasDepth no_span (codes "aliases are replaced more than 32 times") error
+
+-- The value is of the stated form: it says all but the aliases, and these are texts.
+abbrev pub HasForm : Data → Type 0
+HasForm value = ((c : Configuration) × SaysOthers value c) × IfSome (get (codes "aliases") value) HoldsTexts
+
+-- of the stated form, but an alias is no type
+abbrev pub HasBadRow : Data → Type 0
+HasBadRow value = HasForm value × IsSomeAnd (get (codes "aliases") value) LacksType
+
+-- of the stated form, and each alias is a type, but they are too deep
+abbrev pub HasDeepAliases : Data → Type 0
+HasDeepAliases value = (c : Configuration) × SaysOthers value c × SaysAliases value c.aliases × AreDeep c.aliases
+
+-- the refusal of a value that says no configuration
+abbrev pub IsRefusedConfiguration : Data → DeriveError → Type 0
+IsRefusedConfiguration value error = (¬ (HasForm value) × IsBadConfig error) ⊎ (HasBadRow value × IsBadRow error) ⊎ (HasDeepAliases value × IsAliasDepth error)
+
+-- the refusal of bytes that say none: they are no JSON, or too many, or refused for what they say
+abbrev pub IsRefusedText : List ℕ → DeriveError → Type 0
+IsRefusedText bytes error = (((value : Data) → ¬ (IsJson bytes value)) × IsBadConfig error) ⊎ ((value : Data) × IsJson bytes value × IsRefusedConfiguration value error)

@@ -1,2 +1,5 @@
 pub mod Configuration
+pub mod Aliases
+pub mod Stored
 pub mod Form
+pub mod proved

@@ -1,17 +1,28 @@
-ghost use Rattle.std.specs.Prelude.{◌≡◌, ◌≤◌, ◌⊎◌, ◌↔◌, IsTrue, IfOk, MatchOption};
-ghost use Rattle.diag.specs.Refusal.{Refuses};
+ghost use Rattle.std.specs.Prelude.{◌≡◌, ◌≤◌, ◌⊎◌, ◌↔◌, ℕ, List, map, IsTrue, IfOk, IfSome, MatchOption, codes};
+ghost use Rattle.std.specs.BTreeMap.{get_by_text};
+ghost use Rattle.diag.specs.Refusal.{Refuses, IsErrorFor};
+ghost use Rattle.serde_json.specs.Find.{get};
 ghost use Rattle.serde_json.specs.View.{view as view_of};
+ghost use Rattle.texts.specs.Names.{place_in};
+ghost use Rattle.written_types.specs.Written.{written_view};
 ghost use Rattle.configuration.specs.Configuration.{empty_configuration, Configuration};
-ghost use Rattle.configuration.specs.Form.{KeepsEmpty, IsConfiguration, IsConfigurationText, IsBadConfig};
+ghost use Rattle.configuration.specs.Aliases.{alias_names, alias_types, bare};
+ghost use Rattle.configuration.specs.Form.{KeepsEmpty, HoldsTexts, SaysOthers, HasForm, IsConfiguration, IsConfigurationText, IsBadConfig, IsAliasDepth, IsRefusedConfiguration, IsRefusedText};
 
+use crate::aliases::{Aliases, aliases_at};
 use crate::collect::SchemaCollect;
-use crate::members::{collect_at, is_empty_list_at, is_empty_object_at, is_object_of, whole_at};
+use crate::members::{
+    collect_at, holds_texts_at, is_empty_list_at, is_empty_object_at, is_object_of, whole_at,
+};
 use crate::renames::renames_at;
 use diag::{DeriveError, Kind, RenameTable};
 use serde_json::Value;
 use std::alloc::{AllocError, Global};
+use std::collections::BTreeMap;
 use std::marker::Model;
-use texts::Span;
+use texts::{Span, Text};
+use type_grammar::one_type_reading;
+use written_types::WrittenType;
 
 /// The most bytes of a configuration's text.
 const MAX_BYTES: usize = 1_048_576;
@@ -35,15 +46,19 @@ pub struct Config {
     copies: usize,
     collect: SchemaCollect,
     renames: RenameTable,
+    aliases: Aliases,
 }
 
 impl Model for Config {
     ghost use Rattle.std.specs.Prelude.{◌≤◌};
     ghost use Rattle.configuration.specs.Configuration.{Configuration};
+    ghost use Rattle.configuration.specs.proved.Code.{coded_configuration};
 
     ghost Value = { Configuration };
 
-    ghost view = { λ config. record { limit = config.limit; copies = config.copies; collect = config.collect; renames = config.renames } };
+    ghost coded = { coded_configuration };
+
+    ghost view = { λ config. record { limit = config.limit; copies = config.copies; collect = config.collect; renames = config.renames; aliases = config.aliases } };
 
     ghost invariant = { λ config. (1 ≤ config.limit) × (config.limit ≤ 4096) × (1 ≤ config.copies) × (config.copies ≤ 100000) };
 }
@@ -58,28 +73,39 @@ impl Config {
             copies: 10000,
             collect: SchemaCollect::NonInlined,
             renames: RenameTable::new(alloc),
+            aliases: Aliases::new(alloc),
         }
     }
 
-    /// The configuration that the JSON value says. A value that says none is refused with the kind `BadConfig`.
+    /// The configuration that the JSON value says. A value that says none is refused: with the kind `BadConfig` where it
+    /// is not of the stated form, else with `BadRow` where an alias is no type, else with `AliasDepth` where more than 32
+    /// aliases stand in each other.
     pub fn from_value(alloc: Global, value: &Value) -> Result<Config, DeriveError>
         ensures configured { IfOk result (IsConfiguration (view_of value.now)) }
         ensures refused { Refuses result
-            (λ e. (IsBadConfig e
+            (λ e. (IsRefusedConfiguration (view_of value.now) e
             × ((c : Configuration) → ¬ IsConfiguration (view_of value.now) c))) }
     {
-        match configured(alloc, value)? {
-            Some(config) => Ok(config),
-            None => Err(bad_config(alloc)),
+        let Some(mut config) = others_of(alloc, value)? else {
+            return Err(bad_config(alloc));
+        };
+        // Aliases that are too deep are the only ones that the value says.
+        one_type_reading();
+        let aliases = aliases_at(alloc, value, "aliases")?;
+        if aliases.are_deep(alloc)? {
+            return Err(alias_depth(alloc));
         }
+        config.aliases = aliases;
+        Ok(config)
     }
 
-    /// The configuration that the bytes say as a JSON text. Bytes that say none, or are more than 1,048,576, are refused
-    /// with the kind `BadConfig`.
+    /// The configuration that the bytes say as a JSON text. Bytes that are no JSON, or more than 1,048,576, are refused
+    /// with the kind `BadConfig`, and others as `from_value` does.
     pub fn from_slice(alloc: Global, bytes: &[u8]) -> Result<Config, DeriveError>
         ensures configured { IfOk result (IsConfigurationText bytes.now) }
         ensures refused { Refuses result
-            (λ e. (IsBadConfig e × ((c : Configuration) → ¬ IsConfigurationText bytes.now c))) }
+            (λ e. (IsRefusedText bytes.now e
+            × ((c : Configuration) → ¬ IsConfigurationText bytes.now c))) }
     {
         if bytes.len() > MAX_BYTES {
             return Err(bad_config(alloc));
@@ -127,15 +153,45 @@ impl Config {
     {
         &self.renames
     }
+
+    /// The names of the aliases, in order.
+    pub fn alias_names(&self) -> &[Text]
+        ensures { result.now ≡ alias_names self.now.aliases }
+    {
+        self.aliases.names()
+    }
+
+    /// The place of each name of an alias.
+    pub fn alias_places(&self) -> &BTreeMap<String, usize>
+        ensures { (name : List ℕ)
+            → get_by_text result.now name ≡ place_in name (alias_names self.now.aliases) }
+    {
+        self.aliases.places()
+    }
+
+    /// The types that the aliases stand for, in the order of the names.
+    pub fn alias_types(&self) -> &[WrittenType]
+        ensures { map written_view result.now ≡ alias_types self.now.aliases }
+    {
+        self.aliases.types()
+    }
+
+    /// The same types without what nothing is resolved from: of each path the last segment alone, and of its arguments the
+    /// types.
+    pub fn bare_types(&self) -> &[WrittenType]
+        ensures { map written_view result.now ≡ map bare (alias_types self.now.aliases) }
+    {
+        self.aliases.bare_types()
+    }
 }
 
-/// The configuration that the value says, where it says one.
-fn configured(alloc: Global, value: &Value) -> Result<Option<Config>, AllocError>
-    ensures { IfOk result
-        (λ found. MatchOption found ((c : Configuration) → ¬ IsConfiguration (view_of value.now) c)
-        (IsConfiguration (view_of value.now))) }
+/// The configuration without aliases that the value says, where it is of the stated form.
+fn others_of(alloc: Global, value: &Value) -> Result<Option<Config>, AllocError>
+    ensures { IfOk result (λ found. MatchOption found (¬ HasForm (view_of value.now))
+        (λ config. (SaysOthers (view_of value.now) config
+        × IfSome (get (codes "aliases") (view_of value.now)) HoldsTexts))) }
 {
-    if !is_object_of(value, &MEMBERS) || !keeps_empty(value) {
+    if !is_object_of(value, &MEMBERS) || !keeps_empty(value) || !holds_texts_at(value, "aliases") {
         return Ok(None);
     }
     let Some(_version) = whole_at(value, "version", 1, 1, 1) else {
@@ -158,6 +214,7 @@ fn configured(alloc: Global, value: &Value) -> Result<Option<Config>, AllocError
         copies,
         collect,
         renames,
+        aliases: Aliases::new(alloc),
     }))
 }
 
@@ -165,9 +222,7 @@ fn configured(alloc: Global, value: &Value) -> Result<Option<Config>, AllocError
 fn keeps_empty(value: &Value) -> bool
     ensures { IsTrue result ↔ KeepsEmpty (view_of value.now) }
 {
-    is_empty_object_at(value, "aliases")
-        && is_empty_object_at(value, "schemas")
-        && is_empty_list_at(value, "defaults")
+    is_empty_object_at(value, "schemas") && is_empty_list_at(value, "defaults")
 }
 
 /// The refusal of what is no configuration, or want of memory.
@@ -179,5 +234,17 @@ pub fn bad_config(alloc: Global) -> DeriveError
         Kind::BadConfig,
         Span::nowhere(),
         "the configuration is not of the stated form",
+    )
+}
+
+/// The refusal of aliases that stand too deep in each other, or want of memory.
+fn alias_depth(alloc: Global) -> DeriveError
+    ensures { IsErrorFor IsAliasDepth result }
+{
+    DeriveError::refusal(
+        alloc,
+        Kind::AliasDepth,
+        Span::nowhere(),
+        "aliases are replaced more than 32 times",
     )
 }

@@ -4,6 +4,7 @@ ghost use Rattle.configuration.specs.Configuration.{Configuration};
 ghost use Rattle.configuration.specs.Form.{IsConfiguration, IsConfigurationText};
 
 use diag::rules_have_own_names;
+use type_grammar::one_type_reading;
 
 /// A JSON value says at most one configuration, and so does a text.
 pub fn configurations_are_one()
@@ -13,4 +14,5 @@ pub fn configurations_are_one()
         → IsConfigurationText bytes d → c ≡ d }
 {
     rules_have_own_names();
+    one_type_reading();
 }

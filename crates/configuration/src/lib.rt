@@ -1,11 +1,15 @@
-//! What is configured: bounds on what deriving may take, which instances get components, and what names become.
+//! What is configured: bounds on what deriving may take, which instances get components, what names become, and what
+//! aliases stand for.
 #![tactic(auto)]
 
+mod aliases;
+mod bare;
 mod collect;
 mod config;
 mod law;
 mod members;
 mod renames;
+mod targets;
 
 pub use collect::SchemaCollect;
 pub use config::{Config, bad_config};

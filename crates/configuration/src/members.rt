@@ -5,7 +5,7 @@ ghost use Rattle.std.specs.List.{list_any, list_all};
 ghost use Rattle.serde_json.specs.Data.{string, object, array, no_members, no_items};
 ghost use Rattle.serde_json.specs.Find.{get};
 ghost use Rattle.serde_json.specs.View.{view, members_view};
-ghost use Rattle.configuration.specs.Form.{names_of, IsObjectOf, SaysOrDefault, IsWhole, IsCollect};
+ghost use Rattle.configuration.specs.Form.{names_of, IsObjectOf, SaysOrDefault, IsWhole, IsCollect, AreTexts, HoldsTexts};
 ghost use Rattle.configuration.specs.declared.collect.SchemaCollect.{SchemaCollect as AnyCollect};
 ghost use Rattle.configuration.specs.declared.collect.SchemaCollect.TheVariants.{NonInlined};
 
@@ -158,6 +158,38 @@ pub fn is_empty_list_at(value: &Value, name: &str) -> bool
 {
     match value.get(name) {
         Some(member) => is_empty_list(member),
+        None => true,
+    }
+}
+
+/// Whether the members are all texts.
+fn are_texts(members: &Map<String, Value>) -> bool
+    ensures { IsTrue result ↔ AreTexts (members_view members.now.entries) }
+{
+    for (_, value) in members.iter() {
+        if !value.is_string() {
+            return false;
+        }
+    }
+    true
+}
+
+/// Whether the value is an object whose members are all texts.
+fn holds_texts(value: &Value) -> bool
+    ensures { IsTrue result ↔ HoldsTexts (view value.now) }
+{
+    match value.as_object() {
+        Some(members) => are_texts(members),
+        None => false,
+    }
+}
+
+/// Whether the member is an object whose members are all texts, or is absent.
+pub fn holds_texts_at(value: &Value, name: &str) -> bool
+    ensures { IsTrue result ↔ IfSome (get name.now (view value.now)) HoldsTexts }
+{
+    match value.get(name) {
+        Some(member) => holds_texts(member),
         None => true,
     }
 }

@@ -18,6 +18,7 @@ pub struct Property<'a> {
 }
 
 impl<'a> Property<'a> {
+    /// The property of the member.
     pub fn new(member: &'a Member) -> Property<'a>
         ensures { result.member.now ≡ member.now }
     {
@@ -45,6 +46,7 @@ pub struct ObjectSchema<'a, T> {
 }
 
 impl<'a, T> ObjectSchema<'a, T> {
+    /// The object that requires the member `name`, which is the item.
     pub fn new(name: &'a Text, item: &'a T) -> ObjectSchema<'a, T>
         ensures name { result.name.now ≡ name.now }
         ensures item { result.item.now ≡ item.now }

@@ -22,6 +22,7 @@ pub struct OneOf<'a, T> {
 }
 
 impl<'a, T> OneOf<'a, T> {
+    /// The `oneOf` of the items, in order.
     pub fn new(items: &'a [T]) -> OneOf<'a, T>
         ensures { result.items.now ≡ items.now }
     {

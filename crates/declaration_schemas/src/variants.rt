@@ -21,6 +21,7 @@ pub struct MixedEnumContent<'a> {
 }
 
 impl<'a> MixedEnumContent<'a> {
+    /// What stands for the variant, which values tell by the tagging.
     pub fn new(tagging: &'a Tagging, variant: &'a Variant) -> MixedEnumContent<'a>
         ensures tagging { result.tagging.now ≡ tagging.now }
         ensures variant { result.variant.now ≡ variant.now }
@@ -53,6 +54,7 @@ pub struct InternallyTaggedUnnamedSchema<'a> {
 }
 
 impl<'a> InternallyTaggedUnnamedSchema<'a> {
+    /// The internally tagged newtype variant of this name and type, with this tag.
     pub fn new(
         tag: &'a Text,
         name: &'a Text,
@@ -95,6 +97,7 @@ pub struct PlainSchema<'a> {
 }
 
 impl<'a> PlainSchema<'a> {
+    /// The schema of a text that is one of the names.
     pub fn new(names: &'a [Text]) -> PlainSchema<'a>
         ensures { result.names.now ≡ names.now }
     {

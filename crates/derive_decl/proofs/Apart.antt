@@ -90,10 +90,10 @@ items_apart around d s is =
     subst (λ (r : DeclarationOf). IsApartBody r.body) of.2 (bodies_apart around (serde_items d.attrs) d.body of.0 derived.1)
 
 pub declarations_apart : DeclarationsAreApart
-declarations_apart rows all ss is = among all ss is
+declarations_apart c all ss is = among all ss is
   where
-    among : (ds : List DeclaredItem) (ss : List DeclarationOf) → all_of (resolved_among rows all) ds ≡ Some ss → AreApartBodies ss
+    among : (ds : List DeclaredItem) (ss : List DeclarationOf) → all_of (resolved_among c all) ds ≡ Some ss → AreApartBodies ss
     among [] ss is = subst AreApartBodies (same_Some [] ss is) tt
     among (d ∷ ds) ss is =
-        let j = joined (resolved_among rows all d) (all_of (resolved_among rows all) ds) ss is in
-        subst AreApartBodies j.4 (items_apart (around_of rows all d.ident.text d.generics) d j.0 j.2, among ds j.1 j.3)
+        let j = joined (resolved_among c all d) (all_of (resolved_among c all) ds) ss is in
+        subst AreApartBodies j.4 (items_apart (around_of c all d.ident.text d.generics) d j.0 j.2, among ds j.1 j.3)

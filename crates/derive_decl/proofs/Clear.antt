@@ -37,6 +37,7 @@ use Rattle.derive_decl.specs.Tags.{can_be_tagged, tag_is_taken, tag_stands, IsMi
 use Rattle.derive_decl.specs.Variants.{tagging_by, tagging_in, are_units, are_told, variant_name, telling_idents}
 use Rattle.derive_decl.specs.Resolved.{Around, around_of, all_of, passing, member_of, members_are_distinct, named_form, form_of, variant_of, variants_are_told, units_of, mixed_of, enum_of, enum_by, plain_body, mixed_body, body_of, derived_body, declaration_from, declaration_of, resolved_of}
 use Rattle.derive_decl.specs.Faults.{IsFaultyType, IsFaultyMember, AreFaultyMembers, AreFaultyFields, IsUnnamed, AreUnnamed, IsFaultyVariant, AreFaultyVariants, IsFaultyBy, IsFaultyPlain, IsFaultyEnum, IsFaultyBody, IsFaultyDeclaration, IsFaultyItem, AreFaultyItems}
+use Rattle.configuration.specs.Configuration.{Configuration}
 use Rattle.derive_decl.specs.Whole.{resolved_among, resolved_declarations}
 use Rattle.derive_decl.proofs.EnumLaws.{units-unnamed}
 use Rattle.derive_decl.proofs.Parts.{member_parts, member_texts, variant_parts, variants_named, telling_texts}
@@ -207,6 +208,6 @@ module _ (exact : ResolutionIsExact) (once : NamesOnce) (allowed : RulesAllowed)
         | inr faulty ↦ derived_clear around d.attrs d.ident d.body of.0 of.1 e faulty
       ]
 
-  pub declarations_clear : (rows : List RenameRow) (ds : List DeclaredItem) (ss : List DeclarationOf) → resolved_declarations rows ds ≡ Some ss → RefusesNone (AreFaultyItems rows ds)
-  declarations_clear rows ds ss is =
-      all_clear (resolved_among rows ds) (λ d e. IsFaultyItem (around_of rows ds d.ident.text d.generics) d e) (λ d s. item_clear (around_of rows ds d.ident.text d.generics) d s) ds ss is
+  pub declarations_clear : (c : Configuration) (ds : List DeclaredItem) (ss : List DeclarationOf) → resolved_declarations c ds ≡ Some ss → RefusesNone (AreFaultyItems c ds)
+  declarations_clear c ds ss is =
+      all_clear (resolved_among c ds) (λ d e. IsFaultyItem (around_of c ds d.ident.text d.generics) d e) (λ d s. item_clear (around_of c ds d.ident.text d.generics) d s) ds ss is

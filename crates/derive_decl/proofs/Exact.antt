@@ -39,4 +39,4 @@ module _ (exact : ResolutionIsExact) (once : NamesOnce) (decided : NamesDecided)
   items_exact around d have = both (resolved_of around d) _ (item_clear exact once allowed around d) (item_given exact decided rules_decided around d have)
 
   pub declarations_exact : DeclarationsAreExact
-  declarations_exact rows ds have = both (resolved_declarations rows ds) _ (declarations_clear exact once allowed rows ds) (declarations_given exact decided rules_decided rows ds have)
+  declarations_exact c ds have = both (resolved_declarations c ds) _ (declarations_clear exact once allowed c ds) (declarations_given exact decided rules_decided c ds have)

@@ -13,4 +13,5 @@ pub mod Clear
 pub mod Resolved
 pub mod Exact
 pub mod Apart
+pub mod BodyLaws
 pub mod Rowless

@@ -1,18 +1,17 @@
 -- What the resolved declarations of all declarations say: their names, and that their types fit.
-use Rattle.std.proofs.Common.{ℕ, zero, suc, ◌<◌, List, [], ◌∷◌, ◌++◌, Option, Some, option_and_then, leb, Bool, true, false, cond, length, ◌≡◌, refl, ap, sym, subst, ◌∙◌, arith, slice_index}
+use Rattle.std.proofs.Common.{ℕ, zero, suc, ◌<◌, List, [], ◌∷◌, ◌++◌, Option, Some, option_and_then, Bool, true, false, cond, length, ◌≡◌, refl, ap, sym, subst, ◌∙◌, arith, slice_index}
 use Rattle.std.proofs.lemmas.Option.{none-some, same_Some}
 use Rattle.texts.specs.Names.{place_in}
 use Rattle.texts.proofs.Laws.{mapped, and_then, place-found}
 use Rattle.diag.specs.declared.rename_rule.RenameRule.{RenameRule}
-use Rattle.diag.specs.declared.rename_row.RenameRow.{RenameRow}
+use Rattle.configuration.specs.Configuration.{Configuration}
 use Rattle.attributes.specs.Attributes.{serde_items}
 use Rattle.attributes.specs.declared.serde_item.SerdeItem.{SerdeItem}
 use Rattle.serde_rules.specs.Container.{rename_rule}
 use Rattle.syntax.specs.Items.{FieldItem, FieldItems, named, unnamed, unit, VariantItem, BodyItem, struct_body, enum_body, DeclaredItem}
 use Rattle.open_types.specs.Open.{Open}
 use Rattle.open_types.specs.Within.{IsOver, AreAllOver}
-use Rattle.resolving.specs.Names.{size}
-use Rattle.resolving.specs.Resolved.{most_names, type_of, resolved_type, ResolvedAreOver}
+use Rattle.resolving.specs.Resolved.{resolved_type, ResolvedAreOver}
 use Rattle.scopes.specs.Names.{declared_names, texts, place_among}
 use Rattle.shapes.specs.Declarations.{MemberOf, FormOf, named_fields, unnamed_fields, no_fields, VariantOf, BodyOf, fields, units, variants, DeclarationOf, member_types, form_types, variant_types, body_types, declaration_names, declaration_at, parameters_in, AreFitting}
 use Rattle.shapes.specs.declared.tagging.Tagging.{Tagging}
@@ -45,20 +44,20 @@ declaration_parts around d s e =
     let derived = chosen (are_derivable (attributes_with d.attrs d.body)) (body_of around (serde_items d.attrs) d.body) m.0 m.1 in
     (sym (ap (λ (r : DeclarationOf). r.name) m.2), derived.1 ∙ ap (λ (r : DeclarationOf). Some r.body) m.2, sym (ap (λ (r : DeclarationOf). r.parameters) m.2))
 
-module _ (rows : List RenameRow) (all : List DeclaredItem) where
+module _ (c : Configuration) (all : List DeclaredItem) where
   -- the declarations have the names of the declarations
-  declaration_names-are : (ds : List DeclaredItem) (ss : List DeclarationOf) → all_of (resolved_among rows all) ds ≡ Some ss → declaration_names ss ≡ declared_names ds
+  declaration_names-are : (ds : List DeclaredItem) (ss : List DeclarationOf) → all_of (resolved_among c all) ds ≡ Some ss → declaration_names ss ≡ declared_names ds
   declaration_names-are [] ss e = ap declaration_names (sym (same_Some [] ss e))
   declaration_names-are (d ∷ ds) ss e =
-      let j = joined (resolved_among rows all d) (all_of (resolved_among rows all) ds) ss e in
-      sym (ap declaration_names j.4) ∙ ap (λ n. n ∷ declaration_names j.1) (declaration_parts (around_of rows all d.ident.text d.generics) d j.0 j.2).0 ∙ ap (λ ns. d.ident.text ∷ ns) (declaration_names-are ds j.1 j.3)
+      let j = joined (resolved_among c all d) (all_of (resolved_among c all) ds) ss e in
+      sym (ap declaration_names j.4) ∙ ap (λ n. n ∷ declaration_names j.1) (declaration_parts (around_of c all d.ident.text d.generics) d j.0 j.2).0 ∙ ap (λ ns. d.ident.text ∷ ns) (declaration_names-are ds j.1 j.3)
 
   -- and as many parameters
-  parameters-are : (ds : List DeclaredItem) (ss : List DeclarationOf) → all_of (resolved_among rows all) ds ≡ Some ss → (d : ℕ) → slice_index (parameter_counts ds) d ≡ parameters_in ss d
+  parameters-are : (ds : List DeclaredItem) (ss : List DeclarationOf) → all_of (resolved_among c all) ds ≡ Some ss → (d : ℕ) → slice_index (parameter_counts ds) d ≡ parameters_in ss d
   parameters-are [] ss e d = subst (λ xs. 0 ≡ parameters_in xs d) (same_Some [] ss e) refl
   parameters-are (x ∷ ds) ss e d =
-      let j = joined (resolved_among rows all x) (all_of (resolved_among rows all) ds) ss e in
-      subst (λ xs. slice_index (parameter_counts (x ∷ ds)) d ≡ parameters_in xs d) j.4 (by j.0 j.1 d (declaration_parts (around_of rows all x.ident.text x.generics) x j.0 j.2).2 (parameters-are ds j.1 j.3))
+      let j = joined (resolved_among c all x) (all_of (resolved_among c all) ds) ss e in
+      subst (λ xs. slice_index (parameter_counts (x ∷ ds)) d ≡ parameters_in xs d) j.4 (by j.0 j.1 d (declaration_parts (around_of c all x.ident.text x.generics) x j.0 j.2).2 (parameters-are ds j.1 j.3))
     where
       by : (s : DeclarationOf) (ss : List DeclarationOf) (d : ℕ) → s.parameters ≡ length (type_parameters x.generics) → ((d : ℕ) → slice_index (parameter_counts ds) d ≡ parameters_in ss d) → slice_index (parameter_counts (x ∷ ds)) d ≡ parameters_in (s ∷ ss) d
       by s ss zero h later = sym h
@@ -74,7 +73,7 @@ module _ (over : ResolvedAreOver) where
 
     -- a resolved type is over the declarations
     type_over : (f : FieldItem) (u : Open) → resolved_type around.known f.ty ≡ Some u → IsOver n around.known.parameters_at around.known.parameters u
-    type_over f u is = over around.known n below itself within f.ty u (chosen (leb (size around.known f.ty) most_names) (type_of around.known f.ty) u is).1
+    type_over f u is = over around.known n below itself within f.ty u is
 
     members_over : (rules : FieldRules) (fs : List FieldItem) (ms : List MemberOf) → all_of (member_of around rules) fs ≡ Some ms → AreTypesOver (member_types ms)
     members_over rules [] ms e = subst (λ xs. AreTypesOver (member_types xs)) (same_Some [] ms e) tt
@@ -134,13 +133,13 @@ module _ (over : ResolvedAreOver) where
         let told = and_then (enum_of around (rename_rule items) vs) (tagging_in items) body said.1 in
         enum_over (rename_rule items) vs told.0 body told.2
 
-  module _ (rows : List RenameRow) (all : List DeclaredItem) (n : ℕ) (below : (k : List ℕ) (d : ℕ) → place_among all k ≡ Some d → d < n) where
-    at_over : (ds : List DeclaredItem) (ss : List DeclarationOf) → all_of (resolved_among rows all) ds ≡ Some ss → (d : ℕ) → d < length ss →
+  module _ (c : Configuration) (all : List DeclaredItem) (n : ℕ) (below : (k : List ℕ) (d : ℕ) → place_among all k ≡ Some d → d < n) where
+    at_over : (ds : List DeclaredItem) (ss : List DeclarationOf) → all_of (resolved_among c all) ds ≡ Some ss → (d : ℕ) → d < length ss →
         AreAllOver n (slice_index (parameter_counts all)) (parameters_in ss d) (body_types (declaration_at ss d).body)
     at_over [] ss e d l = absurd (subst (λ xs. ¬ (d < length xs)) (same_Some [] ss e) (λ h. omega arith) l)
     at_over (x ∷ ds) ss e d l =
-        let around = around_of rows all x.ident.text x.generics in
-        let j = joined (resolved_among rows all x) (all_of (resolved_among rows all) ds) ss e in
+        let around = around_of c all x.ident.text x.generics in
+        let j = joined (resolved_among c all x) (all_of (resolved_among c all) ds) ss e in
         let parts = declaration_parts around x j.0 j.2 in
         let within : (k : List ℕ) (i : ℕ) → place_in k (texts (type_parameters x.generics)) ≡ Some i → i < length (type_parameters x.generics) =
         λ k i is. place_below k (type_parameters x.generics) i is in
@@ -155,11 +154,11 @@ module _ (over : ResolvedAreOver) where
         by s ss zero h later l = h
         by s ss (suc d) h later l = later d (omega arith)
 
-pub names_are : (rows : List RenameRow) (ds : List DeclaredItem) (ss : List DeclarationOf) → resolved_declarations rows ds ≡ Some ss → declaration_names ss ≡ declared_names ds
-names_are rows ds ss e = declaration_names-are rows ds ds ss e
+pub names_are : (c : Configuration) (ds : List DeclaredItem) (ss : List DeclarationOf) → resolved_declarations c ds ≡ Some ss → declaration_names ss ≡ declared_names ds
+names_are c ds ss e = declaration_names-are c ds ds ss e
 
-pub all_fitting : ResolvedAreOver → (rows : List RenameRow) (ds : List DeclaredItem) (ss : List DeclarationOf) → resolved_declarations rows ds ≡ Some ss → AreFitting ss
-all_fitting over rows ds ss e d l =
+pub all_fitting : ResolvedAreOver → (c : Configuration) (ds : List DeclaredItem) (ss : List DeclarationOf) → resolved_declarations c ds ≡ Some ss → AreFitting ss
+all_fitting over c ds ss e d l =
     let below : (k : List ℕ) (p : ℕ) → place_among ds k ≡ Some p → p < length ss =
-    λ k p h. subst (λ m. p < m) (ap length (sym (names_are rows ds ss e)) ∙ many_names ss) (place-found k (declared_names ds) p h).0 in
-    subst (λ counts. AreAllOver (length ss) counts (parameters_in ss d) (body_types (declaration_at ss d).body)) (fun_ext (parameters-are rows ds ds ss e)) (at_over over rows ds (length ss) below ds ss e d l)
+    λ k p h. subst (λ m. p < m) (ap length (sym (names_are c ds ss e)) ∙ many_names ss) (place-found k (declared_names ds) p h).0 in
+    subst (λ counts. AreAllOver (length ss) counts (parameters_in ss d) (body_types (declaration_at ss d).body)) (fun_ext (parameters-are c ds ds ss e)) (at_over over c ds (length ss) below ds ss e d l)

@@ -42,6 +42,7 @@ use Rattle.derive_decl.specs.Tags.{can_be_tagged, tag_is_taken, tag_stands, tag_
 use Rattle.derive_decl.specs.Variants.{tagging_by, tagging_in, are_units, are_told, variant_name, telling_idents}
 use Rattle.derive_decl.specs.Resolved.{Around, around_of, all_of, member_from, member_as, member_of, members_are_distinct, named_form, form_of, variant_from, variant_of, variants_are_told, units_of, mixed_of, enum_of, enum_by, plain_body, mixed_body, body_of, derived_body, declaration_from, declaration_of, resolved_of}
 use Rattle.derive_decl.specs.Faults.{fieldless_message, tagless_message, IsFaultyType, IsFaultyMember, AreFaultyMembers, AreFaultyFields, IsFaultyTagging, IsUnnamed, AreUnnamed, IsFaultyVariant, AreFaultyVariants, IsFaultyBy, IsFaultyPlain, IsFaultyEnum, IsFaultyBody, IsFaultyDeclaration, IsFaultyItem, AreFaultyItems}
+use Rattle.configuration.specs.Configuration.{Configuration}
 use Rattle.derive_decl.specs.Whole.{resolved_among, resolved_declarations}
 use Rattle.derive_decl.proofs.EnumLaws.{unnamed-faulty}
 use Rattle.derive_decl.proofs.Parts.{member_texts, variants_named, telling_texts}
@@ -242,6 +243,6 @@ module _ (exact : ResolutionIsExact) (decided : NamesDecided) (rules_decided : R
       let of = derived_given around d.attrs d.ident d.body have (λ e fault. none e (inr fault)) in
       (declaration_from around d.attrs d.ident of.0, ap (λ b. cond b (declaration_of around d.attrs d.ident d.body) None) names ∙ ap (option_map (declaration_from around d.attrs d.ident)) of.1)
 
-  pub declarations_given : (rows : List RenameRow) (ds : List DeclaredItem) → AreNamed ds → RefusesNone (AreFaultyItems rows ds) → Given (resolved_declarations rows ds)
-  declarations_given rows ds have none =
-      all_given (resolved_among rows ds) (λ d e. IsFaultyItem (around_of rows ds d.ident.text d.generics) d e) (λ d. IsNamedBody d.body) (λ d. item_given (around_of rows ds d.ident.text d.generics) d) ds have none
+  pub declarations_given : (c : Configuration) (ds : List DeclaredItem) → AreNamed ds → RefusesNone (AreFaultyItems c ds) → Given (resolved_declarations c ds)
+  declarations_given c ds have none =
+      all_given (resolved_among c ds) (λ d e. IsFaultyItem (around_of c ds d.ident.text d.generics) d e) (λ d. IsNamedBody d.body) (λ d. item_given (around_of c ds d.ident.text d.generics) d) ds have none

@@ -289,10 +289,10 @@ items_look_up around d e = (
 )
 
 pub declarations_look_up : DeclarationsLookUpRows
-declarations_look_up rows ds e = (
-  λ fault. somewhere_weaker (λ d. IsFaultyItem (around_of rows ds d.ident.text d.generics) d e) (λ d. IsRowlessDerived rows d e) ds (λ d own. (items_look_up (around_of rows ds d.ident.text d.generics) d e).0 (own, fault.1)) fault.0,
+declarations_look_up c ds e = (
+  λ fault. somewhere_weaker (λ d. IsFaultyItem (around_of c ds d.ident.text d.generics) d e) (λ d. IsRowlessDerived c.renames d e) ds (λ d own. (items_look_up (around_of c ds d.ident.text d.generics) d e).0 (own, fault.1)) fault.0,
   λ rowless. (
-    somewhere_weaker (λ d. IsRowlessDerived rows d e) (λ d. IsFaultyItem (around_of rows ds d.ident.text d.generics) d e) ds (λ d own. ((items_look_up (around_of rows ds d.ident.text d.generics) d e).1 own).0) rowless,
-    somewhere_gives (λ d. IsRowlessDerived rows d e) (IsMissingRow e) ds (λ d own. ((items_look_up (around_of rows ds d.ident.text d.generics) d e).1 own).1) rowless,
+    somewhere_weaker (λ d. IsRowlessDerived c.renames d e) (λ d. IsFaultyItem (around_of c ds d.ident.text d.generics) d e) ds (λ d own. ((items_look_up (around_of c ds d.ident.text d.generics) d e).1 own).0) rowless,
+    somewhere_gives (λ d. IsRowlessDerived c.renames d e) (IsMissingRow e) ds (λ d own. ((items_look_up (around_of c ds d.ident.text d.generics) d e).1 own).1) rowless,
   ),
 )

@@ -11,6 +11,7 @@ use Rattle.texts.specs.declared.span.Span.{Span}
 use Rattle.written_types.specs.declared.written.Ident.{Ident}
 use Rattle.attributes.specs.Attributes.{AttributeItem, serde_items}
 use Rattle.attributes.specs.declared.serde_item.SerdeItem.{SerdeItem}
+use Rattle.configuration.specs.Configuration.{Configuration}
 use Rattle.serde_rules.specs.declared.enum_repr.SerdeEnumRepr.TheVariants.{UnfinishedAdjacentlyTagged}
 use Rattle.serde_rules.specs.Container.{representation, rename_rule, IsContainerRefusal}
 use Rattle.syntax.specs.Items.{FieldItem, FieldItems, named, unnamed, unit, VariantItem, ParameterItem, BodyItem, struct_body, enum_body, DeclaredItem}
@@ -153,5 +154,5 @@ abbrev pub IsFaultyItem : Around → DeclaredItem → DeriveError → Type 0
 IsFaultyItem around d e = AreFaultyParameters d.generics e ⊎ IsFaultyDeclaration around d.attrs d.ident d.body e
 
 -- the error refuses one of the declarations
-abbrev pub AreFaultyItems : List RenameRow → List DeclaredItem → DeriveError → Type 0
-AreFaultyItems rows ds e = Somewhere (λ d. IsFaultyItem (around_of rows ds d.ident.text d.generics) d e) ds
+abbrev pub AreFaultyItems : Configuration → List DeclaredItem → DeriveError → Type 0
+AreFaultyItems c ds e = Somewhere (λ d. IsFaultyItem (around_of c ds d.ident.text d.generics) d e) ds

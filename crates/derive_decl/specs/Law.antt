@@ -12,6 +12,7 @@ use Rattle.texts.specs.declared.span.Span.{Span}
 use Rattle.written_types.specs.declared.written.Ident.{Ident}
 use Rattle.attributes.specs.Attributes.{AttributeItem}
 use Rattle.attributes.specs.declared.serde_item.SerdeItem.{SerdeItem}
+use Rattle.configuration.specs.Configuration.{Configuration}
 use Rattle.syntax.specs.Items.{FieldItems, VariantItem, BodyItem, DeclaredItem}
 use Rattle.syntax.specs.Named.{HaveNames, IsNamedBody, AreNamed}
 use Rattle.shapes.specs.declared.tagging.Tagging.{Tagging}
@@ -61,7 +62,7 @@ abbrev pub ItemsAreExact : Type 0
 ItemsAreExact = (around : Around) (d : DeclaredItem) → IsNamedBody d.body → IsExact (resolved_of around d) (IsFaultyItem around d)
 
 abbrev pub DeclarationsAreExact : Type 0
-DeclarationsAreExact = (rows : List RenameRow) (ds : List DeclaredItem) → AreNamed ds → IsExact (resolved_declarations rows ds) (AreFaultyItems rows ds)
+DeclarationsAreExact = (c : Configuration) (ds : List DeclaredItem) → AreNamed ds → IsExact (resolved_declarations c ds) (AreFaultyItems c ds)
 
 -- ---- names
 
@@ -87,7 +88,7 @@ abbrev pub ItemsAreApart : Type 0
 ItemsAreApart = (around : Around) (d : DeclaredItem) (s : DeclarationOf) → resolved_of around d ≡ Some s → IsApartBody s.body
 
 abbrev pub DeclarationsAreApart : Type 0
-DeclarationsAreApart = (rows : List RenameRow) (ds : List DeclaredItem) (ss : List DeclarationOf) → resolved_declarations rows ds ≡ Some ss → AreApartBodies ss
+DeclarationsAreApart = (c : Configuration) (ds : List DeclaredItem) (ss : List DeclarationOf) → resolved_declarations c ds ≡ Some ss → AreApartBodies ss
 
 -- ---- rows
 
@@ -104,4 +105,4 @@ abbrev pub ItemsLookUpRows : Type 0
 ItemsLookUpRows = (around : Around) (d : DeclaredItem) (e : DeriveError) → (IsFaultyItem around d e × IsMissingRow e) ↔ IsRowlessDerived around.rows d e
 
 abbrev pub DeclarationsLookUpRows : Type 0
-DeclarationsLookUpRows = (rows : List RenameRow) (ds : List DeclaredItem) (e : DeriveError) → (AreFaultyItems rows ds e × IsMissingRow e) ↔ Somewhere (λ d. IsRowlessDerived rows d e) ds
+DeclarationsLookUpRows = (c : Configuration) (ds : List DeclaredItem) (e : DeriveError) → (AreFaultyItems c ds e × IsMissingRow e) ↔ Somewhere (λ d. IsRowlessDerived c.renames d e) ds

@@ -103,13 +103,13 @@ pub fn resolved_declarations(
     requires named { AreNamed (declarations_view places.now.declarations.now) }
     requires derivable { AreDerivable (declarations_view places.now.declarations.now) }
     ensures resolved { IfOk result
-        (λ ss. resolved_declarations config.now.renames
+        (λ ss. resolved_declarations config.now
         (declarations_view places.now.declarations.now) ≡ Some (map resolved_view ss)) }
     ensures names { IfOk result (λ ss. declaration_names (map resolved_view ss)
         ≡ declared_names (declarations_view places.now.declarations.now)) }
     ensures fitting { IfOk result (λ ss. AreFitting (map resolved_view ss)) }
     ensures refused { Refuses result
-        (AreFaultyItems config.now.renames (declarations_view places.now.declarations.now)) }
+        (AreFaultyItems config.now (declarations_view places.now.declarations.now)) }
 {
     resolving::resolved_are_over();
     let mut resolved = List::new(alloc);

@@ -15,7 +15,7 @@ use Rattle.component.specs.References.{reference_view, references}
 
 -- the names that are known where the type is written
 abbrev pub known_at : ComponentSchemaProps → Known
-known_at props = known_in props.container.now.scope.now
+known_at props = known_in props.container.now.config.now props.container.now.scope.now
 
 abbrev pub place_of : ComponentSchemaProps → PlaceOf
 place_of props = record { nullable = props.nullable; inline = props.inline; deprecated = props.deprecated; description = described_by props.description }

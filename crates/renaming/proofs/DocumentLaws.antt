@@ -1,5 +1,5 @@
 -- The text of rows reads as the configuration that has them.
-use Rattle.std.proofs.Common.{ℕ, ◌≤◌, true, false, List, [], ◌∷◌, ◌++◌, length, codes, Some, option_map, option_and_then, IsUtf8, ◌≡◌, refl, ap, sym, ◌∙◌, append_assoc, append-nil, arith}
+use Rattle.std.proofs.Common.{ℕ, ◌<◌, ◌≤◌, true, false, List, [], ◌∷◌, ◌++◌, length, codes, Some, option_map, option_and_then, IsUtf8, ◌≡◌, refl, ap, sym, ◌∙◌, append_assoc, append-nil, arith}
 use Rattle.std.specs.List.{flat_map}
 use Rattle.json.specs.Json as json
 use Rattle.json.specs.Lex.{Lexeme, token, comma, colon, between, in_string, lex, punctuate, fresh, string_token, tokens}
@@ -15,7 +15,8 @@ use Rattle.serde_json.specs.Written.{outline, items_outline, compact_text, items
 use Rattle.serde_json.proofs.Texts.{print-outline}
 use Rattle.diag.specs.RenameRules.{name_of}
 use Rattle.diag.specs.declared.rename_row.RenameRow.{RenameRow}
-use Rattle.configuration.specs.Form.{place_name, IsRow, AreRows, IsConfiguration, IsConfigurationText}
+use Rattle.configuration.specs.Aliases.{AreDeep}
+use Rattle.configuration.specs.Form.{place_name, IsRow, AreRows, SaysOthers, IsConfiguration, IsConfigurationText}
 use Rattle.renaming.specs.Document.{row_data, rows_data, renames_data, renames_alone, next_line, lines_of, renames_text}
 
 -- ---- the lexemes of rows
@@ -146,16 +147,25 @@ are_rows : (rows : List RenameRow) → AreRows (rows_data rows) rows
 are_rows [] = tt
 are_rows (row ∷ rows) = (is_row row, are_rows rows)
 
-is_configuration : (rows : List RenameRow) → IsConfiguration (renames_data rows) (renames_alone rows)
-is_configuration rows = record {
+others : (rows : List RenameRow) → SaysOthers (renames_data rows) (renames_alone rows)
+others rows = record {
   members = refl;
   version = refl;
   limit = refl;
   copies = refl;
   collect = refl;
   renames = are_rows rows;
-  empty = record { aliases = tt; schemas = tt; defaults = tt };
+  empty = record { schemas = tt; defaults = tt };
 }
 
+-- no aliases are not deep
+shallow_none : AreDeep [] → ⊥
+shallow_none ([], path, many) = omega (arith, many)
+shallow_none (d ∷ [], path, many) = omega (arith, many)
+shallow_none (d ∷ e ∷ es, (low, stands, rest), many) = let none : d < 0 = low in omega arith
+
+is_configuration : (rows : List RenameRow) → IsConfiguration (renames_data rows) (renames_alone rows)
+is_configuration rows = record { others = others rows; aliases = refl; shallow = shallow_none }
+
 pub text_says : (rows : List RenameRow) (text : List ℕ) → text ≡ renames_text rows → IsUtf8 text → length text ≤ 1048576 → IsConfigurationText text (renames_alone rows)
-text_says rows text same utf8 short = record { short = short; utf8 = utf8; value = renames_data rows; reads = ap read same ∙ rows_read rows; says = is_configuration rows }
+text_says rows text same utf8 short = record { value = renames_data rows; json = record { short = short; utf8 = utf8; reads = ap read same ∙ rows_read rows }; says = is_configuration rows }

@@ -23,6 +23,7 @@ use Rattle.resolving.specs.Known.{Known}
 use Rattle.resolving.specs.Names.{ident_of, nameless, where_none, meaning, path_size, names_in_path, names_in, names_in_arguments, names_in_argument, names_in_types, names_in_last, names_in_segment, last_size, segment_size, is_constant_type}
 use Rattle.resolving.specs.Resolved.{contained, alone, own_type, meant, tuple_of, type_of, path_type, segment_type, last_type, argument_types, argument_type, all_types}
 use Rattle.texts.specs.Lists.{Somewhere}
+use Rattle.resolving.specs.Expanding.{segment_alias_of, with_span, last_alias_of, path_alias_of}
 use Rattle.resolving.specs.Bad.{path_holds_bad, last_holds_bad, segment_holds_bad}
 
 -- ---- numbers of type arguments
@@ -73,7 +74,7 @@ ident-of : (x : Ident) (o : Option (List Argument)) → ident_of (segment_of x o
 ident-of x None = refl
 ident-of x (Some args) = refl
 
-view-segment : (s : PathSegment) → segment_view s ≡ segment_of s.ident (option_map (map (λ (a : GenericArgument). argument_view a)) s.arguments)
+pub view-segment : (s : PathSegment) → segment_view s ≡ segment_of s.ident (option_map (map (λ (a : GenericArgument). argument_view a)) s.arguments)
 view-segment s = search (rules, segment_lemmas)
 
 pub view-ident : (s : PathSegment) → ident_of (segment_view s) ≡ s.ident
@@ -99,13 +100,13 @@ types_drop ts i t h e = rw (add-one, drop-cons ts i t, ← e)
 arguments_drop : (xs : List GenericArgument) (i : ℕ) (a : GenericArgument) → i < length xs → a ≡ get_or xs i a → arguments_view (drop i xs) ≡ more_arguments (argument_view a) (arguments_view (drop (i + 1) xs))
 arguments_drop xs i a h e = rw (add-one, drop-cons xs i a, ← e)
 
-view-type : (t : WrittenType) → argument_view (arguments.Ty t) ≡ type_argument (written_view t)
+pub view-type : (t : WrittenType) → argument_view (arguments.Ty t) ≡ type_argument (written_view t)
 view-type t = search (rules, argument_lemmas)
 
-view-lifetime : (x : Ident) → argument_view (arguments.Lifetime x) ≡ lifetime_argument x
+pub view-lifetime : (x : Ident) → argument_view (arguments.Lifetime x) ≡ lifetime_argument x
 view-lifetime x = search (rules, argument_lemmas)
 
-view-constant : (ts : Tokens TokenTree) → argument_view (arguments.Constant ts) ≡ constant_argument (trees_view ts)
+pub view-constant : (ts : Tokens TokenTree) → argument_view (arguments.Constant ts) ≡ constant_argument (trees_view ts)
 view-constant ts = search (rules, argument_lemmas)
 
 module _ (p : Known) where
@@ -190,6 +191,9 @@ module _ (q : Path) (ss : List PathSegment) (s : PathSegment) (e : ss ≡ (out-P
 
   pub path_size-at : (p : Known) → path_size p (path_view q) ≡ suc (segment_size p (segment_view s))
   path_size-at p = ap (path_size p) (path_view_is q) ∙ ap suc (at_last (last_size p) (segment_size p) (λ x rest. refl))
+
+  pub path_alias-at : (p : Known) → path_alias_of p (path_view q) ≡ with_span (segment_view s) (segment_alias_of p (segment_view s))
+  path_alias-at p = ap (path_alias_of p) (path_view_is q) ∙ at_last (last_alias_of p) (λ x. with_span x (segment_alias_of p x)) (λ x rest. refl)
 
   pub path_bad-at : path_holds_bad (path_view q) ≡ segment_holds_bad (segment_view s)
   path_bad-at = ap path_holds_bad (path_view_is q) ∙ at_last last_holds_bad segment_holds_bad (λ x rest. refl)

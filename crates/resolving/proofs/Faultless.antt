@@ -11,10 +11,11 @@ use Rattle.open_types.specs.Open as types
 use Rattle.resolving.specs.Known.{Known}
 use Rattle.resolving.specs.declared.meaning.Meaning.TheVariants as meanings
 use Rattle.resolving.specs.Names.{types_of, ident_of, arguments_of, nameless, where_none, names_in, names_in_path, names_in_last, names_in_segment, names_in_arguments, names_in_types, size, span_of, meaning, is_constant_type}
-use Rattle.resolving.specs.Resolved.{meant, tuple_of, type_of, path_type, last_type, segment_type, argument_types, all_types, resolved_type, Fault, unknown_type, wrong_arity, bad_argument, too_large, most_names, are_wrong, IsFault, ResolutionIsExact}
+use Rattle.resolving.specs.Resolved.{meant, tuple_of, type_of, path_type, last_type, segment_type, argument_types, all_types, fitting_type, Fault, unknown_type, wrong_arity, bad_argument, too_large, most_names, are_wrong, IsFaultIn, ResolutionIsExact}
 use Rattle.texts.specs.Lists.{Somewhere}
 use Rattle.resolving.specs.Reading.{segment_arguments}
 use Rattle.resolving.specs.Bad.{are_bad}
+use Rattle.resolving.specs.Aliases.{expanded_type}
 use Rattle.resolving.proofs.Counted.{somewhere-left, somewhere-right}
 use Rattle.resolving.proofs.Stands.{stand-segment, wrong}
 use Rattle.resolving.proofs.Whole.{Bad, no_fault}
@@ -116,7 +117,7 @@ module _ (p : Known) where
   fault_among (s ∷ ss) (inr h) = elim (fault_among ss h) [ inl f ↦ inl (f.0, inr f.1) | inr (inl f) ↦ inr (inl (f.0, inr f.1)) | inr (inr f) ↦ inr (inr (f.0, inr f.1)) ]
 
   abbrev HasNoFault : Written → Type 0
-  HasNoFault w = (fault : Fault) → IsFault p w fault → ⊥
+  HasNoFault w = (fault : Fault) → IsFaultIn p w fault → ⊥
 
   names_clear : (w : Written) → HasNoFault w → Clear (names_in p w)
   names_clear w none h = elim (fault_among (names_in p w) h) [ inl f ↦ none (unknown_type f.0) f.1 | inr (inl f) ↦ none (wrong_arity f.0) f.1 | inr (inr f) ↦ none (bad_argument f.0) f.1 ]
@@ -124,10 +125,10 @@ module _ (p : Known) where
   small : (w : Written) → HasNoFault w → leb (size p w) most_names ≡ true
   small w none = elim (cases_lt most_names (size p w)) [ inl large ↦ absurd (none (too_large (span_of w)) (refl, large)) | inr few ↦ le-leb (size p w) most_names few ]
 
-  resolved : (w : Written) → HasNoFault w → IsSome (resolved_type p w)
+  resolved : (w : Written) → HasNoFault w → IsSome (fitting_type p w)
   resolved w none = (λ i. is_some (cond (small w none i) ((type_stands w (names_clear w none)).1 i) None))
 
-  faultless : (w : Written) → IsSome (resolved_type p w) → HasNoFault w
+  faultless : (w : Written) → IsSome (fitting_type p w) → HasNoFault w
   faultless w some = by (leb (size p w) most_names) (type_of p w) refl refl some
     where
       by : (b : Bool) (o : Option Open) → leb (size p w) most_names ≡ b → type_of p w ≡ o → is_some (cond b o None) ≡ true → HasNoFault w
@@ -136,4 +137,4 @@ module _ (p : Known) where
       by false o few is h = absurd (false≢true h)
 
 pub exact : ResolutionIsExact
-exact p w = (faultless p w, resolved p w)
+exact p t = (faultless p (expanded_type p t), resolved p (expanded_type p t))

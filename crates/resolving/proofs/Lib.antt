@@ -6,3 +6,5 @@ pub mod Right
 pub mod Whole
 pub mod Over
 pub mod Faultless
+pub mod Levels
+pub mod Expanding

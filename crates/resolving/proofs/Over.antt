@@ -15,7 +15,7 @@ use Rattle.open_types.specs.declared.head.Head.TheVariants as heads
 use Rattle.resolving.specs.Known.{Known}
 use Rattle.resolving.specs.declared.meaning.Meaning.{Meaning}
 use Rattle.resolving.specs.declared.meaning.Meaning.TheVariants as meanings
-use Rattle.resolving.specs.Names.{nameless, where_none, own_or_unknown, declared_or_unknown, parameter_or, other_meaning, leaf_or, container_or, name_meaning, meaning, is_constant_type}
+use Rattle.resolving.specs.Names.{nameless, where_none, ident_of, own_or_unknown, declared_or_unknown, parameter_or, other_meaning, leaf_or, container_or, name_meaning, written_meaning, alias_or, meaning, is_constant_type}
 use Rattle.resolving.specs.Resolved.{small_list, of_one, of_two, contained, alone, first_parameters, own_type, meant, tuple_of, type_of, path_type, last_type, segment_type, argument_types, all_types}
 use Rattle.open_types.specs.Within.{IsOver, AreOver}
 use Rattle.resolving.proofs.Right.{not_bad}
@@ -87,6 +87,7 @@ module _ (p : Known) (n : ℕ) where
   IsBelow (meanings.Leaf x) = Unit {0}
   IsBelow meanings.Value = Unit {0}
   IsBelow meanings.Object = Unit {0}
+  IsBelow meanings.Alias = Unit {0}
   IsBelow meanings.Unknown = Unit {0}
 
   declared-over : (d : ℕ) (ts : Opens) (u : Open) → d < n → AreTypesOver ts → declared_with p d ts ≡ Some u → IsTypeOver u
@@ -112,6 +113,7 @@ module _ (p : Known) (n : ℕ) where
   meant-over (meanings.Parameter i) ts u b w e = alone-over (types.param i) ts u b e
   meant-over (meanings.Declared d) ts u b w e = declared-over d ts u b w e
   meant-over (meanings.Own d) ts u b w e = own-over d ts u b e
+  meant-over meanings.Alias ts u b w e = absurd (none-some u e)
   meant-over meanings.Unknown ts u b w e = absurd (none-some u e)
 
   -- ---- names whose places are below
@@ -147,9 +149,16 @@ module _ (p : Known) (n : ℕ) where
     container-below None m h = h
     container-below (Some x) m h = tt
 
+    written-below : (s : Segment) → IsBelow (written_meaning p s)
+    written-below (plain x) = name-below x.text
+    written-below (applied x args) = container-below (container_of x.text) (name_meaning p x.text) (name-below x.text)
+
+    alias-below : (o : Option Written) (m : Meaning) → IsBelow m → IsBelow (alias_or o m)
+    alias-below None m h = h
+    alias-below (Some t) m h = tt
+
     meaning-below : (s : Segment) → IsBelow (meaning p s)
-    meaning-below (plain x) = name-below x.text
-    meaning-below (applied x args) = container-below (container_of x.text) (name_meaning p x.text) (name-below x.text)
+    meaning-below s = alias-below (p.alias_of (ident_of s).text) (written_meaning p s) (written-below s)
 
     -- ---- types
 

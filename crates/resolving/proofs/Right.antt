@@ -17,7 +17,7 @@ use Rattle.texts.proofs.Laws.{mapped, and_then}
 use Rattle.resolving.specs.Known.{Known}
 use Rattle.resolving.specs.declared.meaning.Meaning.{Meaning}
 use Rattle.resolving.specs.declared.meaning.Meaning.TheVariants as meanings
-use Rattle.resolving.specs.Names.{nameless, where_none, is_array, own_or_unknown, declared_or_unknown, parameter_or, other_meaning, leaf_or, container_or, name_meaning, meaning}
+use Rattle.resolving.specs.Names.{nameless, where_none, is_array, own_or_unknown, declared_or_unknown, parameter_or, other_meaning, leaf_or, container_or, name_meaning, written_meaning, alias_or, ident_of, meaning}
 use Rattle.resolving.specs.Resolved.{small_list, list_of, of_one, of_two, contained, alone, first_parameters, own_type, meant, tuple_of, type_of, path_type, last_type, segment_type, argument_types, all_types, is_wrong_item, is_wrong_one, is_no_map, are_wrong_in, are_any, are_wrong}
 use Rattle.resolving.proofs.Stands.{Stand, stand-length}
 use Rattle.resolving.proofs.Taken.{taken, declared-cases, own-count}
@@ -69,9 +69,16 @@ container-named n (h ∷ hs) m e g =
     by true f rest = f
     by false f rest = rest
 
+written-named : (p : Known) (s : Segment) → is_named (written_meaning p s) ≡ true
+written-named p (plain x) = name-named p x.text
+written-named p (applied x args) = container-named x.text containers (name_meaning p x.text) refl (name-named p x.text)
+
+alias-named : (o : Option Written) (m : Meaning) → is_named m ≡ true → is_named (alias_or o m) ≡ true
+alias-named None m h = h
+alias-named (Some t) m h = refl
+
 meaning-named : (p : Known) (s : Segment) → is_named (meaning p s) ≡ true
-meaning-named p (plain x) = name-named p x.text
-meaning-named p (applied x args) = container-named x.text containers (name_meaning p x.text) refl (name-named p x.text)
+meaning-named p s = alias-named (p.alias_of (ident_of s).text) (written_meaning p s) (written-named p s)
 
 -- what is an array is seen from what it equals
 seen : (a b : Open) → Some a ≡ Some b → is_array_type a ≡ false → is_array_type b ≡ false
@@ -136,6 +143,7 @@ meant-not p meanings.Object ts u g e = alone-not types.free_object ts u refl e
 meant-not p (meanings.Parameter i) ts u g e = alone-not (types.param i) ts u refl e
 meant-not p (meanings.Declared d) ts u g e = declared-not p d ts u e
 meant-not p (meanings.Own d) ts u g e = own-not p d ts u e
+meant-not p meanings.Alias ts u g e = absurd (none-some u e)
 meant-not p meanings.Unknown ts u g e = absurd (none-some u e)
 
 -- a segment whose arguments are not bad stands for what its name means with them
@@ -228,4 +236,5 @@ right p meanings.Object ws ts u s f = right-alone p types.free_object ws ts u s 
 right p (meanings.Parameter i) ws ts u s f = right-alone p (types.param i) ws ts u s f
 right p (meanings.Declared d) ws ts u s f = ap not (eq-eqb (length ws) (p.parameters_at d) (stand-length p ws ts s ∙ (taken p d ts u f).0))
 right p (meanings.Own d) ws ts u s f = right-own p d ws ts u s f
+right p meanings.Alias ws ts u s f = absurd (none-some u f)
 right p meanings.Unknown ws ts u s f = refl

@@ -116,4 +116,5 @@ wrong p meanings.Object ws ts s n u = any-alone p types.free_object ws ts s n
 wrong p (meanings.Parameter i) ws ts s n u = any-alone p (types.param i) ws ts s n
 wrong p (meanings.Declared d) ws ts s n u = ap not (ap (λ k. k == p.parameters_at d) (stand-length p ws ts s) ∙ not_taken p d ts n)
 wrong p (meanings.Own d) ws ts s n u = wrong-own p d ws ts s n
+wrong p meanings.Alias ws ts s n u = refl
 wrong p meanings.Unknown ws ts s n u = absurd (u refl)

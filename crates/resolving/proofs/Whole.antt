@@ -13,7 +13,7 @@ use Rattle.open_types.specs.Open as types
 use Rattle.resolving.specs.Known.{Known}
 use Rattle.resolving.specs.declared.meaning.Meaning.TheVariants as meanings
 use Rattle.resolving.specs.Names.{types_of, ident_of, arguments_of, nameless, where_none, names_in, names_in_path, names_in_last, names_in_segment, names_in_arguments, names_in_types, size, meaning, is_constant_type}
-use Rattle.resolving.specs.Resolved.{meant, tuple_of, type_of, path_type, last_type, segment_type, argument_types, all_types, Fault, unknown_type, wrong_arity, too_large, most_names, are_wrong, IsFault, IsRefusedFor, bad_argument}
+use Rattle.resolving.specs.Resolved.{meant, tuple_of, type_of, path_type, last_type, segment_type, argument_types, all_types, Fault, unknown_type, wrong_arity, too_large, most_names, are_wrong, IsFaultIn, IsRefusedFor, bad_argument}
 use Rattle.texts.specs.Lists.{Somewhere}
 use Rattle.texts.proofs.Laws.{mapped, and_then}
 use Rattle.resolving.specs.Reading.{segment_arguments, IsAtFault, AreAtFault}
@@ -105,7 +105,7 @@ somewhere-map P Q f [] h = absurd h
 somewhere-map P Q f (x ∷ xs) (inl h) = inl (f x h)
 somewhere-map P Q f (x ∷ xs) (inr h) = inr (somewhere-map P Q f xs h)
 
-pub no_fault : (p : Known) (w : Written) (u : Open) → type_of p w ≡ Some u → size p w ≤ most_names → (fault : Fault) → ¬ (IsFault p w fault)
+pub no_fault : (p : Known) (w : Written) (u : Open) → type_of p w ≡ Some u → size p w ≤ most_names → (fault : Fault) → ¬ (IsFaultIn p w fault)
 no_fault p w u e l (unknown_type x) h = clear_type p w u e (somewhere-map _ (Bad p) (λ s f. inl f.1) (names_in p w) h)
 no_fault p w u e l (wrong_arity x) h = clear_type p w u e (somewhere-map _ (Bad p) (λ s f. inr (inl f.1)) (names_in p w) h)
 no_fault p w u e l (bad_argument x) h = clear_type p w u e (somewhere-map _ (Bad p) (λ s f. inr (inr f.1)) (names_in p w) h)
@@ -119,7 +119,7 @@ Found p e ss =
     ⊎ ((x : Ident) × Somewhere (λ s. (x ≡ ident_of s) × IsTrue (are_wrong p (meaning p s) (types_of p (arguments_of s)))) ss × IsRefusedFor (wrong_arity x) e)
     ⊎ ((x : Ident) × Somewhere (λ s. (x ≡ ident_of s) × IsTrue (are_bad p s)) ss × IsRefusedFor (bad_argument x) e)
 
-pub fault_of : (p : Known) (w : Written) (e : DeriveError) → AreAtFault p (names_in p w) e → (fault : Fault) × IsFault p w fault × IsRefusedFor fault e
+pub fault_of : (p : Known) (w : Written) (e : DeriveError) → AreAtFault p (names_in p w) e → (fault : Fault) × IsFaultIn p w fault × IsRefusedFor fault e
 fault_of p w e h = elim (among (names_in p w) h) [ inl f ↦ (unknown_type f.0, f.1, f.2) | inr (inl f) ↦ (wrong_arity f.0, f.1, f.2) | inr (inr f) ↦ (bad_argument f.0, f.1, f.2) ]
   where
     among : (ss : List Segment) → Somewhere (λ s. IsAtFault p s e) ss → Found p e ss
@@ -130,10 +130,10 @@ fault_of p w e h = elim (among (names_in p w) h) [ inl f ↦ (unknown_type f.0, 
     among (s ∷ ss) (inr k) = elim (among ss k) [ inl f ↦ inl (f.0, inr f.1, f.2) | inr (inl f) ↦ inr (inl (f.0, inr f.1, f.2)) | inr (inr f) ↦ inr (inr (f.0, inr f.1, f.2)) ]
 
 pub fault_of-error : {T : Type 0} (p : Known) (w : Written) (r : Result T DeriveError) → IfErr r (λ e. (e ≡ errors.Memory) ⊎ AreAtFault p (names_in p w) e)
-    → IfErr r (λ e. (e ≡ errors.Memory) ⊎ ((fault : Fault) × IsFault p w fault × IsRefusedFor fault e))
+    → IfErr r (λ e. (e ≡ errors.Memory) ⊎ ((fault : Fault) × IsFaultIn p w fault × IsRefusedFor fault e))
 fault_of-error p w (Ok t) h = tt
 fault_of-error p w (Err e) h = by h
   where
-    by : (e ≡ errors.Memory) ⊎ AreAtFault p (names_in p w) e → (e ≡ errors.Memory) ⊎ ((fault : Fault) × IsFault p w fault × IsRefusedFor fault e)
+    by : (e ≡ errors.Memory) ⊎ AreAtFault p (names_in p w) e → (e ≡ errors.Memory) ⊎ ((fault : Fault) × IsFaultIn p w fault × IsRefusedFor fault e)
     by (inl memory) = inl memory
     by (inr fault) = inr (fault_of p w e fault)

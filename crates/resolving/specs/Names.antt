@@ -184,6 +184,14 @@ abbrev pub name_meaning : Known → List ℕ → Meaning
 name_meaning known name = leaf_or (leaf_of name) (other_meaning known name)
 
 -- With an argument list it may be a container before that.
+abbrev pub written_meaning : Known → Segment → Meaning
+written_meaning known (plain x) = name_meaning known x.text
+written_meaning known (applied x args) = container_or (container_of x.text) (name_meaning known x.text)
+
+abbrev pub alias_or : Option Written → Meaning → Meaning
+alias_or (Some t) other = meanings.Alias
+alias_or None other = other
+
+-- And before all of them it may be an alias.
 abbrev pub meaning : Known → Segment → Meaning
-meaning known (plain x) = name_meaning known x.text
-meaning known (applied x args) = container_or (container_of x.text) (name_meaning known x.text)
+meaning known s = alias_or (known.alias_of (ident_of s).text) (written_meaning known s)

@@ -20,6 +20,7 @@ use Rattle.resolving.specs.Known.{Known}
 use Rattle.resolving.specs.Free.{declared_with}
 use Rattle.resolving.specs.Names.{types_of, ident_of, arguments_of, nameless, where_none, names_in, size, span_of, is_array, meaning, is_constant_type}
 use Rattle.resolving.specs.Bad.{are_bad}
+use Rattle.resolving.specs.Aliases.{expanded_type}
 
 -- ---- what a name stands for with its type arguments
 
@@ -78,6 +79,7 @@ meant known meanings.Object ts = alone types.free_object ts
 meant known (meanings.Parameter i) ts = alone (types.param i) ts
 meant known (meanings.Own d) ts = own_type known d ts
 meant known (meanings.Declared d) ts = declared_with known d ts
+meant known meanings.Alias ts = None
 meant known meanings.Unknown ts = None
 
 -- ---- what a written type stands for, where these names are known
@@ -131,9 +133,13 @@ pub data Fault : Type 0 where
 abbrev pub most_names : ℕ
 most_names = 256
 
--- what a type stands for that is not too large
+-- what a type stands for in which no name is an alias, where it is not too large
+abbrev pub fitting_type : Known → Written → Option Open
+fitting_type known t = cond (leb (size known t) most_names) (type_of known t) None
+
+-- what a type stands for: the one in which its aliases are replaced
 abbrev pub resolved_type : Known → Written → Option Open
-resolved_type known t = cond (leb (size known t) most_names) (type_of known t) None
+resolved_type known t = fitting_type known (expanded_type known t)
 
 abbrev pub is_wrong_item : ListHead → Written → Bool
 is_wrong_item lists.Vec t = false
@@ -166,7 +172,7 @@ abbrev pub are_any : List Written → Bool
 are_any [] = false
 are_any (t ∷ ts) = true
 
--- the type arguments are not those that the name takes
+-- the type arguments are not those that the name takes: an alias takes none, and then it is replaced
 abbrev pub are_wrong : Known → Meaning → List Written → Bool
 are_wrong known (meanings.Container h) ts = are_wrong_in h ts
 are_wrong known (meanings.Leaf x) ts = are_any ts
@@ -175,14 +181,19 @@ are_wrong known meanings.Object ts = are_any ts
 are_wrong known (meanings.Parameter i) ts = are_any ts
 are_wrong known (meanings.Own d) ts = are_any ts || not (known.parameters == known.parameters_at d)
 are_wrong known (meanings.Declared d) ts = not (length ts == known.parameters_at d)
+are_wrong known meanings.Alias ts = true
 are_wrong known meanings.Unknown ts = false
 
 -- a name in the type is not known, has other type arguments than it takes, or is a declaration's and has one that cannot be its argument; or the type has too many names
+abbrev pub IsFaultIn : Known → Written → Fault → Type 0
+IsFaultIn known t (unknown_type x) = Somewhere (λ s. (x ≡ ident_of s) × (meaning known s ≡ meanings.Unknown)) (names_in known t)
+IsFaultIn known t (wrong_arity x) = Somewhere (λ s. (x ≡ ident_of s) × IsTrue (are_wrong known (meaning known s) (types_of known (arguments_of s)))) (names_in known t)
+IsFaultIn known t (bad_argument x) = Somewhere (λ s. (x ≡ ident_of s) × IsTrue (are_bad known s)) (names_in known t)
+IsFaultIn known t (too_large s) = (s ≡ span_of t) × (most_names < size known t)
+
+-- a fault of the type in which the aliases are replaced
 abbrev pub IsFault : Known → Written → Fault → Type 0
-IsFault known t (unknown_type x) = Somewhere (λ s. (x ≡ ident_of s) × (meaning known s ≡ meanings.Unknown)) (names_in known t)
-IsFault known t (wrong_arity x) = Somewhere (λ s. (x ≡ ident_of s) × IsTrue (are_wrong known (meaning known s) (types_of known (arguments_of s)))) (names_in known t)
-IsFault known t (bad_argument x) = Somewhere (λ s. (x ≡ ident_of s) × IsTrue (are_bad known s)) (names_in known t)
-IsFault known t (too_large s) = (s ≡ span_of t) × (most_names < size known t)
+IsFault known t fault = IsFaultIn known (expanded_type known t) fault
 
 -- the error refuses for the fault
 abbrev pub IsRefusedFor : Fault → DeriveError → Type 0
@@ -201,4 +212,4 @@ abbrev pub ResolvedAreOver : Type 0
 ResolvedAreOver =
     (known : Known) (n : ℕ) → ((name : List ℕ) (d : ℕ) → known.place_of name ≡ Some d → d < n) → ((d : ℕ) → known.own ≡ Some d → d < n)
     → ((name : List ℕ) (i : ℕ) → known.parameter_of name ≡ Some i → i < known.parameters)
-    → (t : Written) (u : Open) → type_of known t ≡ Some u → IsOver n known.parameters_at known.parameters u
+    → (t : Written) (u : Open) → resolved_type known t ≡ Some u → IsOver n known.parameters_at known.parameters u

@@ -149,6 +149,6 @@ pub(crate) fn meant(
         Meaning::Parameter(place) => Ok(alone(OpenType::Param(place), arguments.as_slice())),
         Meaning::Own(place) => own_type(alloc, names, place, arguments.as_slice()),
         Meaning::Declared(place) => Ok(declared_with(names, place, arguments)),
-        Meaning::Unknown => Ok(None),
+        Meaning::Alias | Meaning::Unknown => Ok(None),
     }
 }

@@ -1,6 +1,7 @@
 //! What written types stand for: names looked up, type arguments counted.
 #![tactic(auto)]
 
+mod aliases;
 mod arguments;
 mod bad;
 mod constant;
@@ -12,6 +13,7 @@ mod refusal;
 mod resolve;
 mod size;
 
+pub use aliases::expand_type;
 pub use known::KnownNames;
 pub use law::{resolution_is_exact, resolved_are_over};
 pub use meaning::Meaning;

@@ -3,7 +3,7 @@
 ghost use Rattle.std.specs.Prelude.{◌≡◌};
 ghost use Rattle.written_types.specs.Written.{segment_view};
 ghost use Rattle.resolving.specs.Known.{known};
-ghost use Rattle.resolving.specs.Names.{own_or_unknown, parameter_or, declared_or_unknown, other_meaning, name_meaning, meaning};
+ghost use Rattle.resolving.specs.Names.{own_or_unknown, parameter_or, declared_or_unknown, other_meaning, name_meaning, written_meaning, meaning};
 
 use crate::known::KnownNames;
 use leaves::Leaf;
@@ -13,6 +13,8 @@ use written_types::PathSegment;
 /// What a name stands for.
 #[derive(Clone, Copy, Debug, PartialEq, Eq)]
 pub enum Meaning {
+    /// What an alias stands for, which is replaced where it has no type arguments.
+    Alias,
     Container(Head),
     Leaf(Leaf),
     /// Any JSON value.
@@ -73,9 +75,9 @@ pub(crate) fn name_meaning(names: &KnownNames<'_>, name: &str) -> Meaning
     }
 }
 
-/// What a segment's name stands for. With an argument list it may be a container.
-pub(crate) fn segment_meaning(names: &KnownNames<'_>, segment: &PathSegment) -> Meaning
-    ensures { result ≡ meaning (known names.now) (segment_view segment.now) }
+/// What a segment's name stands for that is no alias. With an argument list it may be a container.
+fn written_meaning(names: &KnownNames<'_>, segment: &PathSegment) -> Meaning
+    ensures { result ≡ written_meaning (known names.now) (segment_view segment.now) }
 {
     let name = segment.ident.text.as_str();
     match &segment.arguments {
@@ -84,5 +86,15 @@ pub(crate) fn segment_meaning(names: &KnownNames<'_>, segment: &PathSegment) -> 
             Some(head) => Meaning::Container(head),
             None => name_meaning(names, name),
         },
+    }
+}
+
+/// What a segment's name stands for, an alias before all else.
+pub(crate) fn segment_meaning(names: &KnownNames<'_>, segment: &PathSegment) -> Meaning
+    ensures { result ≡ meaning (known names.now) (segment_view segment.now) }
+{
+    match names.alias_of(segment.ident.text.as_str()) {
+        Some(_) => Meaning::Alias,
+        None => written_meaning(names, segment),
     }
 }

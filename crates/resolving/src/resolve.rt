@@ -7,9 +7,10 @@ ghost use Rattle.open_types.specs.Open.{open_view, opens_view, items};
 ghost use Rattle.written_types.specs.Written.{written_view, path_view, segment_view, arguments_view, writtens_view};
 ghost use Rattle.resolving.specs.Known.{known};
 ghost use Rattle.resolving.specs.Names.{nameless, names_in, names_in_path, names_in_segment, names_in_arguments, names_in_types};
-ghost use Rattle.resolving.specs.Resolved.{type_of, resolved_type, path_type, segment_type, argument_types, all_types, tuple_of, IsFault, IsRefusedFor, Fault as AnyFault};
+ghost use Rattle.resolving.specs.Resolved.{type_of, fitting_type, resolved_type, path_type, segment_type, argument_types, all_types, tuple_of, IsFaultIn, IsFault, IsRefusedFor, Fault as AnyFault};
 ghost use Rattle.resolving.specs.Reading.{IsAtFault, AreAtFault, segment_arguments};
 
+use crate::aliases::expand_type;
 use crate::arguments::meant;
 use crate::bad::are_bad;
 use crate::constant::is_constant;
@@ -28,9 +29,10 @@ pub const MAX_NAMES: usize = 256;
 
 /// What the written type stands for, where `names` are known.
 ///
-/// References, lifetimes, constants and all but the last segment of a path are dropped. The name of a container counts
-/// as such only with an argument list. A refusal is of kind `UnknownType`, `Arity` or `BadArgument`, at the name, or
-/// `TypeSize`, at the type without the references around it.
+/// References, lifetimes, constants and all but the last segment of a path are dropped. A name without type arguments
+/// that is an alias stands for the alias's type, until no name is one; what that type holds has the span of the name.
+/// The name of a container counts as such only with an argument list. A refusal is of kind `UnknownType`, `Arity` or
+/// `BadArgument`, at the name, or `TypeSize`, at the type without the references around it.
 pub fn resolve_type(
     alloc: Global,
     names: &KnownNames<'_>,
@@ -40,6 +42,25 @@ pub fn resolve_type(
         ≡ Some (open_view t)) }
     ensures refused { Refuses result
         (λ e. ((fault : AnyFault) × IsFault (known names.now) (written_view ty.now) fault
+        × IsRefusedFor fault e)) }
+{
+    if names.alias_types.is_empty() {
+        return resolve_fitting(alloc, names, ty);
+    }
+    let expanded = expand_type(alloc, names, ty)?;
+    resolve_fitting(alloc, names, &expanded)
+}
+
+/// What the type stands for, where it has at most `MAX_NAMES` names, none of which is replaced.
+fn resolve_fitting(
+    alloc: Global,
+    names: &KnownNames<'_>,
+    ty: &WrittenType,
+) -> Result<OpenType, DeriveError>
+    ensures resolved { IfOk result (λ t. fitting_type (known names.now) (written_view ty.now)
+        ≡ Some (open_view t)) }
+    ensures refused { Refuses result
+        (λ e. ((fault : AnyFault) × IsFaultIn (known names.now) (written_view ty.now) fault
         × IsRefusedFor fault e)) }
 {
     match left_after(names, ty, MAX_NAMES) {

@@ -1,9 +1,8 @@
 -- What follows from what a run owes.
-use Rattle.std.proofs.Common.{ℕ, List, IsTrue, Option, Some, ◌≡◌, ◌≢◌, ◌⊎◌, inl, inr, refl, sym, ap, subst}
+use Rattle.std.proofs.Common.{ℕ, List, IsTrue, Option, Some, ◌≡◌, ◌≢◌, ◌⊎◌, inl, inr, refl, subst}
 use Rattle.std.specs.Io.KnownBytes.{Appends}
 use Rattle.diag.specs.declared.error.DeriveError.TheVariants as error
 use Rattle.diag.specs.declared.kind.Kind.{Kind}
-use Rattle.diag.specs.declared.kind.Kind.TheVariants.{BadConfig}
 use Rattle.acceptance.specs.Json.{Json}
 use Rattle.schema_core.specs.Document.{document, text_of}
 use Rattle.shapes.specs.Declarations.{DeclarationOf}
@@ -15,9 +14,10 @@ use Rattle.reporting.specs.Program.{IsRefusedRun, IsRefusedGiven, IsReportOf}
 use Rattle.reporting.specs.declared.status.Status.{Status}
 use Rattle.reporting.specs.declared.status.Status.TheVariants.{Done, Refused, Usage, ReadFault, WriteFault, Memory, FileFault}
 use Rattle.schema_gen.specs.Derived.{IsDocument}
-use Rattle.schema_gen.specs.Given.{Given, IsMisconfigured, IsGiven, ResolvesTo}
+use Rattle.schema_gen.specs.Given.{Given, IsMisconfigured, IsMisconfiguredBy, is_of_configuration, IsGiven, ResolvesTo}
 use Rattle.schema_gen.specs.Owed.{schema_gen, IsReported, Owed}
-use Rattle.schema_gen.proofs.OtherKinds.{config_kind, no_bad_config}
+use Rattle.schema_gen.proofs.Misconfigured.{file_fault}
+use Rattle.schema_gen.proofs.OtherKinds.{no_configuration}
 use Rattle.schema_gen.proofs.Told.{misconfigured}
 
 -- the document of what is given describes what it is resolved to
@@ -34,33 +34,33 @@ described begun text old new (given, is_given, of) grown = (
 )
 
 module _ (begun : Beginning) where
-  -- no source is refused with the kind of configurations
-  pub other_kind : (line : List ℕ) → IsReportOf (IsRefusedGiven schema_gen begun) BadConfig line → ⊥
-  other_kind line reported =
+  -- no source is refused with a kind of configurations
+  pub other_kind : (kind : Kind) → IsTrue (is_of_configuration kind) → (line : List ℕ) → IsReportOf (IsRefusedGiven schema_gen begun) kind line → ⊥
+  other_kind kind own line reported =
       let cause = reported.cause in
-      no_bad_config reported.diagnostics reported.kind_is cause.0.config cause.0.text cause.2
+      no_configuration kind own reported.diagnostics reported.kind_is cause.0.config cause.0.text cause.2
 
-  -- what refuses with that kind is the file
-  pub bad_config_cause : (line : List ℕ) → IsReported begun BadConfig line → IsMisconfigured begun
-  bad_config_cause line reported = by reported.cause
+  -- what refuses with such a kind is the file
+  pub bad_config_cause : (kind : Kind) → IsTrue (is_of_configuration kind) → (line : List ℕ) → IsReported begun kind line → IsMisconfiguredBy kind begun
+  bad_config_cause kind own line reported = by reported.cause
     where
-      by : IsRefusedRun schema_gen begun (error.Refused reported.diagnostics) → IsMisconfigured begun
-      by (inl (file, bad)) = file
-      by (inr (given, is_given, refused)) = absurd (no_bad_config reported.diagnostics reported.kind_is given.config given.text refused)
+      by : IsRefusedRun schema_gen begun (error.Refused reported.diagnostics) → IsMisconfiguredBy kind begun
+      by (inl file) = file_fault kind reported.diagnostics reported.kind_is begun file
+      by (inr (given, is_given, refused)) = absurd (no_configuration kind own reported.diagnostics reported.kind_is given.config given.text refused)
 
-  -- a file that says no configuration is refused
-  only_cause : IsTrue begun.tells → IsMisconfigured begun → (kind : Kind) (line : List ℕ) → IsReported begun kind line → kind ≡ BadConfig
+  -- a file that says no configuration is refused for what it holds
+  only_cause : IsTrue begun.tells → IsMisconfigured begun → (kind : Kind) (line : List ℕ) → IsReported begun kind line → IsMisconfiguredBy kind begun
   only_cause told file kind line reported = by reported.cause
     where
-      by : IsRefusedRun schema_gen begun (error.Refused reported.diagnostics) → kind ≡ BadConfig
-      by (inl (other, bad)) = sym (config_kind kind reported.diagnostics bad reported.kind_is)
+      by : IsRefusedRun schema_gen begun (error.Refused reported.diagnostics) → IsMisconfiguredBy kind begun
+      by (inl other) = file_fault kind reported.diagnostics reported.kind_is begun other
       by (inr (given, is_given, refused)) = absurd (misconfigured begun told file given.config is_given.config)
 
   pub only_bad_owed : IsTrue begun.tells → IsMisconfigured begun → (status : Status) → (status ≢ WriteFault → (text : List ℕ) × (report : List ℕ) × Owed begun status text report)
-      → (status ≡ Refused BadConfig) ⊎ (status ≡ FileFault) ⊎ (status ≡ Memory) ⊎ (status ≡ WriteFault)
+      → ((kind : Kind) × IsMisconfiguredBy kind begun × (status ≡ Refused kind)) ⊎ (status ≡ FileFault) ⊎ (status ≡ Memory) ⊎ (status ≡ WriteFault)
   unfolding Owes
   only_bad_owed told file Done owed = let given = (owed (λ e. cc)).2.0 in absurd (misconfigured begun told file given.0.config given.1.config)
-  only_bad_owed told file (Refused kind) owed = let reported = (owed (λ e. cc)).2.0 in inl (ap Refused (only_cause told file kind _ reported))
+  only_bad_owed told file (Refused kind) owed = let reported = (owed (λ e. cc)).2.0 in inl (kind, only_cause told file kind _ reported, refl)
   only_bad_owed told file Usage owed = absurd ((owed (λ e. cc)).2.0 (Some file.0, file.2))
   only_bad_owed told file ReadFault owed = let configured = (owed (λ e. cc)).2.0 in absurd (misconfigured begun told file configured.0 configured.1)
   only_bad_owed told file WriteFault owed = inr (inr (inr refl))

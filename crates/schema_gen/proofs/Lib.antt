@@ -1,4 +1,5 @@
 pub mod Consequences
+pub mod Misconfigured
 pub mod OneWord
 pub mod OtherKinds
 pub mod ThreeWords

@@ -81,7 +81,7 @@ module _ (begun : Beginning) where
 
   -- what is told and sound is not refused
   pub sound_run : SoundIsNotRefused → OneConfiguration → (given : Given) → IsGiven begun given → IsTold begun → IsSound given.config given.text → (e : DeriveError) → IsRefusedRun schema_gen begun e → ⊥
-  sound_run law one given is told sound e (inl (file, bad)) = misconfigured (told.held file.0 file.2) file given.config is.config
+  sound_run law one given is told sound e (inl (path, bytes, form, at, (none, refused))) = misconfigured (told.held path form) (path, bytes, form, at, none) given.config is.config
   sound_run law one given is told sound e (inr (other, other_is, refused)) =
       let texts : given.text ≡ other.text = one_text begun.left given.text other.text (told.left (given.config, is.config)) is.text other_is.text in
       let configs : given.config ≡ other.config = one_configuration one told given.config other.config is.config other_is.config in

@@ -1,9 +1,13 @@
 -- What a run is given by its words, its files and its input, and what that is resolved to.
-use Rattle.std.specs.Prelude.{◌≡◌, ℕ, List, Bool, Option, Some, None}
+use Rattle.std.specs.Prelude.{◌≡◌, ℕ, List, Bool, true, false, Option, Some, None}
+use Rattle.serde_json.specs.Data.{Data}
+use Rattle.diag.specs.declared.error.DeriveError.{DeriveError}
+use Rattle.diag.specs.declared.kind.Kind.{Kind}
+use Rattle.diag.specs.declared.kind.Kind.TheVariants.{BadConfig, BadRow, AliasDepth}
 use Rattle.streams.specs.Told.{IsAll}
 use Rattle.files.specs.Held.{IsHeld}
 use Rattle.configuration.specs.Configuration.{Configuration, empty_configuration}
-use Rattle.configuration.specs.Form.{IsConfigurationText}
+use Rattle.configuration.specs.Form.{HasForm, HasBadRow, HasDeepAliases, IsJson, IsConfigurationText, IsRefusedText}
 use Rattle.syntax.specs.Items.{DeclaredItem}
 use Rattle.syntax.specs.Source.{Reads}
 use Rattle.shapes.specs.Declarations.{DeclarationOf}
@@ -29,12 +33,43 @@ IsSaid begun (Some path) c = IsSaidBy begun.tells (begun.held path) c
 abbrev pub IsConfigured : Beginning → Configuration → Type 0
 IsConfigured begun c = (path : Option (List ℕ)) × IsDerive begun.words path × IsSaid begun path c
 
+-- the words name a path, and this holds of the bytes of the file there
+abbrev pub IsOfFile : Beginning → (List ℕ → Type 0) → Type 0
+IsOfFile begun holds =
+    (path : List ℕ) × (bytes : List ℕ) × IsDerive begun.words (Some path)
+    × IsHeld begun.tells (begun.held path) bytes × holds bytes
+
 -- the words name a path, and the file there says no configuration
 abbrev pub IsMisconfigured : Beginning → Type 0
 IsMisconfigured begun =
-    (path : List ℕ) × (bytes : List ℕ) × IsDerive begun.words (Some path)
-    × IsHeld begun.tells (begun.held path) bytes
-    × ((c : Configuration) → ¬ (IsConfigurationText bytes c))
+    IsOfFile begun (λ bytes. (c : Configuration) → ¬ (IsConfigurationText bytes c))
+
+-- the error refuses the file for what it holds
+abbrev pub IsRefusedFile : Beginning → DeriveError → Type 0
+IsRefusedFile begun e =
+    IsOfFile begun
+    (λ bytes. ((c : Configuration) → ¬ (IsConfigurationText bytes c)) × IsRefusedText bytes e)
+
+-- a configuration is refused with the kind
+abbrev pub is_of_configuration : Kind → Bool
+is_of_configuration BadConfig = true
+is_of_configuration BadRow = true
+is_of_configuration AliasDepth = true
+is_of_configuration _ = false
+
+-- why the bytes are refused with the kind: they say nothing of the stated form; of that form, an
+-- alias is no type, or aliases stand too deep in each other
+abbrev pub HaveFault : Kind → List ℕ → Type 0
+HaveFault BadConfig bytes = (value : Data) → IsJson bytes value → ¬ (HasForm value)
+HaveFault BadRow bytes = (value : Data) × IsJson bytes value × HasBadRow value
+HaveFault AliasDepth bytes = (value : Data) × IsJson bytes value × HasDeepAliases value
+HaveFault _ bytes = ⊥
+
+-- the file says no configuration, for the fault of the kind
+abbrev pub IsMisconfiguredBy : Kind → Beginning → Type 0
+IsMisconfiguredBy kind begun =
+    IsOfFile begun
+    (λ bytes. ((c : Configuration) → ¬ (IsConfigurationText bytes c)) × HaveFault kind bytes)
 
 -- The configuration is that of the words, and the text is all that the input had left, where that
 -- is told.
@@ -46,4 +81,4 @@ pub record IsGiven (begun : Beginning) (given : Given) : Type 0 where
 pub record ResolvesTo (given : Given) (resolved : List DeclarationOf) : Type 0 where
   pub declarations : List DeclaredItem
   pub read : Reads given.text declarations
-  pub resolves : resolved_declarations given.config.renames declarations ≡ Some resolved
+  pub resolves : resolved_declarations given.config declarations ≡ Some resolved

@@ -2,13 +2,12 @@
 use Rattle.std.specs.Prelude.{ℕ, List, Option, Some, codes}
 use Rattle.diag.specs.declared.kind.Kind.{Kind}
 use Rattle.configuration.specs.Configuration.{Configuration}
-use Rattle.configuration.specs.Form.{IsBadConfig}
 use Rattle.reporting.specs.Beginning.{Beginning}
 use Rattle.reporting.specs.Owed.{Owes}
 use Rattle.reporting.specs.Program.{Program, IsRefusedRun, IsReportOf, IsToldTo}
 use Rattle.reporting.specs.declared.status.Status.{Status}
 use Rattle.schema_gen.specs.Derived.{IsDocumentOf}
-use Rattle.schema_gen.specs.Given.{Given, IsConfigured, IsMisconfigured, IsGiven}
+use Rattle.schema_gen.specs.Given.{Given, IsConfigured, IsRefusedFile, IsGiven}
 use Rattle.schema_gen.specs.Refusals.{IsRefusedSource}
 use Rattle.schema_gen.specs.Words.{IsDerive}
 
@@ -25,7 +24,7 @@ schema_gen = record {
   is_given = IsGiven;
   answers = λ given text. IsDocumentOf given.config given.text text;
   refuses = λ given e. IsRefusedSource given.config given.text e;
-  refuses_file = λ begun e. IsMisconfigured begun × IsBadConfig e;
+  refuses_file = IsRefusedFile;
 }
 
 -- the run is told what it is given

@@ -23,7 +23,7 @@ pub record IsSound (c : Configuration) (bytes : List ℕ) : Type 0 where
   pub declarations : List DeclaredItem
   pub read : Reads bytes declarations
   pub shallow : (span : Span) → ¬ NestsTooDeep bytes span
-  pub clear : AreClear c.renames declarations
+  pub clear : AreClear c declarations
   pub bounded : (resolved : List DeclarationOf)
-      → resolved_declarations c.renames declarations ≡ Some resolved
+      → resolved_declarations c declarations ≡ Some resolved
       → AreBounded c resolved

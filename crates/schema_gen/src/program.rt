@@ -13,7 +13,7 @@ ghost use Rattle.compose.specs.Bounds.{collects_all};
 ghost use Rattle.reporting.specs.Beginning.{beginning_of};
 ghost use Rattle.reporting.specs.declared.status.Status.{Status as AnyStatus};
 ghost use Rattle.schema_gen.specs.Derived.{IsDocument};
-ghost use Rattle.schema_gen.specs.Given.{Given as AnyGiven, IsGiven, IsConfigured, IsMisconfigured, ResolvesTo};
+ghost use Rattle.schema_gen.specs.Given.{Given as AnyGiven, IsGiven, IsConfigured, IsMisconfigured, IsMisconfiguredBy, is_of_configuration, ResolvesTo};
 ghost use Rattle.schema_gen.specs.Owed.{IsReported, IsTold, Owed};
 ghost use Rattle.schema_gen.specs.Refusals.{IsSound};
 ghost use Rattle.schema_gen.specs.Words.{IsDerive, HaveForm};
@@ -21,7 +21,6 @@ ghost use Rattle.schema_gen.specs.Words.{IsDerive, HaveForm};
 use crate::derivation::derivation_of;
 use crate::law::sound_is_not_refused;
 use configuration::configurations_are_one;
-use diag::Kind;
 use files::Files;
 use reporting::{Status, Words, run_command};
 use std::alloc::Global;
@@ -65,13 +64,16 @@ pub fn run<S: Source, F: Files, O: Sink, E: Sink>(
         (codes "usage: schema_gen derive [--config PATH]\n") }
     ensures only_usage { ¬ (HaveForm words.now)
         → (result ≡ Status.Usage) ⊎ (result ≡ Status.WriteFault) }
-    // The configuration comes first. Without one nothing of the input is read, and where the words
-    // name no path, no file is.
-    ensures bad_config { result ≡ Status.Refused Kind.BadConfig
-        → IsMisconfigured (beginning_of S.Source F.Files words.now input.old files.old) }
+    // The configuration comes first, and is refused with kinds of its own. Without one nothing of
+    // the input is read, and where the words name no path, no file is.
+    ensures bad_config { (kind : AnyKind) → IsTrue (is_of_configuration kind)
+        → result ≡ Status.Refused kind → IsMisconfiguredBy kind
+        (beginning_of S.Source F.Files words.now input.old files.old) }
     ensures only_bad_config { IsTrue (F.tells files.old)
         → IsMisconfigured (beginning_of S.Source F.Files words.now input.old files.old)
-        → (result ≡ Status.Refused Kind.BadConfig) ⊎ (result ≡ Status.FileFault)
+        → ((kind : AnyKind) × IsMisconfiguredBy kind
+        (beginning_of S.Source F.Files words.now input.old files.old)
+        × (result ≡ Status.Refused kind)) ⊎ (result ≡ Status.FileFault)
         ⊎ (result ≡ Status.Memory) ⊎ (result ≡ Status.WriteFault) }
     ensures missing { (path : List ℕ) → IsDerive words.now (Some path)
         → IsMissing (F.tells files.old) (F.held files.old path)
@@ -79,7 +81,8 @@ pub fn run<S: Source, F: Files, O: Sink, E: Sink>(
     ensures unread { ((c : Configuration)
         → ¬ (IsConfigured (beginning_of S.Source F.Files words.now input.old files.old) c))
         → input.new ≡ input.old }
-    ensures unread_config { (result ≡ Status.Refused Kind.BadConfig) ⊎ (result ≡ Status.FileFault)
+    ensures unread_config { ((kind : AnyKind) × IsTrue (is_of_configuration kind)
+        × (result ≡ Status.Refused kind)) ⊎ (result ≡ Status.FileFault)
         → input.new ≡ input.old }
     ensures no_file { ((path : List ℕ) → ¬ (IsDerive words.now (Some path)))
         → files.new ≡ files.old }

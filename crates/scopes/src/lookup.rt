@@ -16,24 +16,27 @@ use resolving::{KnownNames, resolve_type, resolved_are_over};
 use std::alloc::Global;
 use written_types::WrittenType;
 
-/// What the written type stands for in the scope, as `resolving::resolve_type`.
-///
-/// The configuration is for the names that it will give to types; it is not looked at yet.
+/// What the written type stands for in the scope, as `resolving::resolve_type`, where names may stand for aliases of the
+/// configuration.
 pub fn resolve(
     alloc: Global,
     scope: &Scope<'_>,
     ty: &WrittenType,
-    _config: &Config,
+    config: &Config,
 ) -> Result<OpenType, DeriveError>
     ensures resolved { IfOk result
-        (λ t. resolved_type (known_in scope.now) (written_view ty.now) ≡ Some (open_view t)) }
+        (λ t. resolved_type (known_in config.now scope.now) (written_view ty.now)
+        ≡ Some (open_view t)) }
     ensures over { IfOk result (λ t. IsOver (length (declared_in scope.now))
-        (known_in scope.now).parameters_at (parameters_in scope.now) (open_view t)) }
+        (known_in config.now scope.now).parameters_at (parameters_in scope.now) (open_view t)) }
     ensures refused { Refuses result (λ e. (fault : AnyFault)
-        × IsFault (known_in scope.now) (written_view ty.now) fault × IsRefusedFor fault e) }
+        × IsFault (known_in config.now scope.now) (written_view ty.now) fault
+        × IsRefusedFor fault e) }
 {
     resolved_are_over();
     let names = KnownNames {
+        aliases: config.alias_places(),
+        alias_types: config.bare_types(),
         places: &scope.places.by_name,
         counts: scope.places.counts.as_slice(),
         own: scope.own,

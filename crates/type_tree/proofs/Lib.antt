@@ -4,3 +4,5 @@ pub mod Views
 pub mod Equal
 pub mod AttributeTrees
 pub mod PathGenerics
+pub mod AliasNames
+pub mod AliasKnown

@@ -3,3 +3,4 @@ pub mod PathGenerics
 pub mod Tests
 pub mod TypeTrees
 pub mod Spanless
+pub mod Aliases

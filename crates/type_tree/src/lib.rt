@@ -2,15 +2,18 @@
 //! the names of the crates below, what it stands for once they are.
 #![tactic(auto)]
 
+mod aliases;
 mod ask;
 mod build;
 mod copy;
 mod format_value;
 mod known_format;
 mod law;
+mod left;
 mod path;
 mod path_generics;
 mod primitive;
+mod rewrite_path;
 mod schema_type;
 mod tree;
 
@@ -21,6 +24,7 @@ pub use open_types::{
 };
 pub use path::SchemaPath;
 pub use primitive::PrimitiveType;
+pub use rewrite_path::SynPathExt;
 pub use schema_type::SchemaType;
 pub use tree::{GenericType, TypeTree, ValueType};
 pub use type_table::{TypeId, Types};

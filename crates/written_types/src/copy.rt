@@ -39,6 +39,24 @@ impl Path {
     }
 }
 
+impl PathSegment {
+    /// Another segment with the same texts and spans.
+    pub fn copy(&self, alloc: Global) -> Result<PathSegment, AllocError>
+        ensures { IfOk result (λ s. segment_view s ≡ segment_view self.now) }
+    {
+        copy_segment(alloc, self)
+    }
+}
+
+impl GenericArgument {
+    /// Another argument with the same texts and spans.
+    pub fn copy(&self, alloc: Global) -> Result<GenericArgument, AllocError>
+        ensures { IfOk result (λ a. argument_view a ≡ argument_view self.now) }
+    {
+        copy_argument(alloc, self)
+    }
+}
+
 #[cycle(copy)]
 fn copy_type(alloc: Global, ty: &WrittenType) -> Result<WrittenType, AllocError>
     ensures { IfOk result (λ t. written_view t ≡ written_view ty.now) }

@@ -73,7 +73,7 @@ returns-in_err-bounded-clause-refused c =
 
 -- what is known of the components of settled declarations
 abbrev derived_of : {c : Configuration} {source : List ℕ} {components : List Entry} (ds : List DeclaredItem) (ss : List DeclarationOf) → Reads source ds → ((span : Span) → ¬ NestsTooDeep source span) →
-    DeclarationsAreApart → IsSettled c.renames ds ss → AreBounded c ss → AreComponents ss (collects_all c.collect) components → IsDerived c source components
+    DeclarationsAreApart → IsSettled c ds ss → AreBounded c ss → AreComponents ss (collects_all c.collect) components → IsDerived c source components
 derived_of {c = c} ds ss read shallow apart settled bounded components = record {
   declarations = ds;
   read = read;
@@ -82,7 +82,7 @@ derived_of {c = c} ds ss read shallow apart settled bounded components = record 
   resolved = ss;
   resolves = settled.resolves;
   bounded = bounded;
-  apart = apart c.renames ds ss settled.resolves;
+  apart = apart c ds ss settled.resolves;
   components_are = components;
 }
 
@@ -97,7 +97,7 @@ returns-clause-describes c =
     let made : AreComponents ss (collects_all config.collect) components =
     subst (λ all. AreComponents ss all components) c.in_ok-bounded.ensures.all (subst (λ (xs : List Declaration). AreComponents (map declaration_view xs) c.in_ok-bounded.bounded.all components) c.as_slice-resolved.ensures c.in_ok-components_within.ensures.components) in (
       derived_of ds ss c.in_ok-declarations.ensures.found c.in_ok-declarations.ensures.shallow c.resolved_are_apart.ensures.declarations settled bounded made,
-      c.components_describe.ensures ss (collects_all config.collect) components (c.resolved_are_apart.ensures.declarations config.renames ds ss settled.resolves) bounded.differ bounded.shallow made,
+      c.components_describe.ensures ss (collects_all config.collect) components (c.resolved_are_apart.ensures.declarations config ds ss settled.resolves) bounded.differ bounded.shallow made,
     )
 
 pub returns-clause-types : goal.returns-clause-types

@@ -1,8 +1,9 @@
-use Rattle.std.proofs.Common.{◌∙◌, None, is_none, cond, ap, inl, inr}
-use Rattle.std.proofs.lemmas.Result.{IfOk-weaker, IfErr-weaker, err_from_is_err_and}
+use Rattle.std.proofs.Common.{inl, inr}
+use Rattle.std.proofs.lemmas.Result.{IfErr-weaker, err_from_is_err_and}
 use Rattle.syntax.specs.Items.{body_view}
-use Rattle.derive_decl.specs.Resolved.{body_of}
-use Rattle.derive_decl.specs.Views.{items_of, known}
+use Rattle.shapes.specs.Views.{body_view as resolved_view}
+use Rattle.derive_decl.specs.Views.{attributes_of, known}
+use Rattle.derive_decl.proofs.BodyLaws.{derivable_body}
 use Rattle.derive_decl.proofs.bodies.resolve_body.Goals as goal
 
 pub returns-in_err-derivable-clause-refused : goal.returns-in_err-derivable-clause-refused
@@ -22,6 +23,4 @@ returns-clause-refused c =
 pub returns-clause-body : goal.returns-clause-body
 returns-clause-body c =
     let root = c.args.root.now in
-    IfOk-weaker c.body_of.result _ _
-    (λ b is. ap (λ derivable. cond derivable (body_of (known root.container.now) (items_of root) (body_view c.args.body.now)) None) (ap is_none c.in_ok-derivable.ensures.derivable) ∙ is)
-    c.body_of.ensures.body
+    derivable_body resolved_view c.body_of.result (known root.container.now) (attributes_of root) (body_view c.args.body.now) c.in_ok-derivable.ensures.derivable c.body_of.ensures.body

@@ -1,9 +1,10 @@
-use Rattle.std.proofs.Common.{◌≡◌, ◌∙◌, map, true, false, cond, ap, sym}
-use Rattle.std.proofs.lemmas.Result.{IfOk-weaker, IfErr-weaker}
+use Rattle.std.proofs.Common.{◌≡◌, ◌∙◌, map, true, false, sym}
+use Rattle.std.proofs.lemmas.Result.{IfErr-weaker}
 use Rattle.syntax.specs.Items.{variant_view}
+use Rattle.shapes.specs.Views.{body_view}
 use Rattle.derive_decl.specs.Variants.{are_units}
-use Rattle.derive_decl.specs.Resolved.{units_of, mixed_of, enum_by}
 use Rattle.derive_decl.specs.Views.{items_of, known}
+use Rattle.derive_decl.proofs.BodyLaws.{units_enum, mixed_enum}
 use Rattle.derive_decl.proofs.EnumLaws.{plain_faulty}
 use Rattle.derive_decl.proofs.enums.enum_body.Goals as goal
 
@@ -19,9 +20,7 @@ returns-then-are_units-clause-body c =
     let root = c.args.root.now in
     let vs = map variant_view c.args.variants.now in
     let units : are_units vs ≡ true = sym c.are_units.ensures ∙ c.if-are_units.true in
-    IfOk-weaker c.plain_body.result _ _
-    (λ b is. ap (λ u. enum_by (items_of root) (λ rule tagging. cond u (units_of (known root.container.now) rule vs tagging) (mixed_of (known root.container.now) rule vs tagging))) units ∙ is)
-    c.plain_body.ensures.body
+    units_enum body_view c.plain_body.result (known root.container.now) (items_of root) vs units c.plain_body.ensures.body
 
 -- ---- a variant has fields
 
@@ -30,6 +29,4 @@ returns-clause-body c =
     let root = c.args.root.now in
     let vs = map variant_view c.args.variants.now in
     let mixed : are_units vs ≡ false = sym c.are_units.ensures ∙ c.if-are_units.false in
-    IfOk-weaker c.mixed_body.result _ _
-    (λ b is. ap (λ u. enum_by (items_of root) (λ rule tagging. cond u (units_of (known root.container.now) rule vs tagging) (mixed_of (known root.container.now) rule vs tagging))) mixed ∙ is)
-    c.mixed_body.ensures.body
+    mixed_enum body_view c.mixed_body.result (known root.container.now) (items_of root) vs mixed c.mixed_body.ensures.body

@@ -21,7 +21,7 @@ use Rattle.configuration.specs.declared.config.Config.{Config}
 
 -- what is known in the scope
 abbrev known_here : Scope → Config → Around
-known_here scope config = around_of config.renames (declared_in scope) (name_in scope) (generics_in scope)
+known_here scope config = around_of config (declared_in scope) (name_in scope) (generics_in scope)
 
 pub returns-in_err-resolved_of-clause-refused : goal.returns-in_err-resolved_of-clause-refused
 returns-in_err-resolved_of-clause-refused c =
@@ -31,12 +31,12 @@ returns-in_err-resolved_of-clause-refused c =
     let d = c.index-as_slice-owner.result in
     let lt : at < length items = omega arith in
     let is : d ≡ get_or items at d = c.index-as_slice-owner.is ∙ ap (λ (xs : List Declaration). get_or xs at d) c.as_slice.ensures in
-    let same : known_here c.in_ok-scope.scope c.args.config.now ≡ around_of c.args.config.now.renames (declarations_view c.args.places.now.declarations.now) d.ident.text (declaration_view d).generics =
-    around_is c.args.config.now.renames c.in_ok-scope.scope.places.now.declarations.now c.args.places.now.declarations.now c.in_ok-scope.scope.owner at d (ap (λ (places : Places). places.declarations.now) c.in_ok-scope.ensures.places) c.in_ok-scope.ensures.owner lt is in
+    let same : known_here c.in_ok-scope.scope c.args.config.now ≡ around_of c.args.config.now (declarations_view c.args.places.now.declarations.now) d.ident.text (declaration_view d).generics =
+    around_is c.args.config.now c.in_ok-scope.scope.places.now.declarations.now c.args.places.now.declarations.now c.in_ok-scope.scope.owner at d (ap (λ (places : Places). places.declarations.now) c.in_ok-scope.ensures.places) c.in_ok-scope.ensures.owner lt is in
     rw (p.1, p.2)
     (elim c.in_err-resolved_of.ensures.refused [
       | inl memory ↦ inl memory
-      | inr fault ↦ inr (somewhere (λ x. IsFaultyItem (around_of c.args.config.now.renames (declarations_view c.args.places.now.declarations.now) x.ident.text x.generics) x c.in_err-resolved_of.field-0.0) declaration_view items at d lt is (subst (λ around. IsFaultyItem around (declaration_view d) c.in_err-resolved_of.field-0.0) same fault))
+      | inr fault ↦ inr (somewhere (λ x. IsFaultyItem (around_of c.args.config.now (declarations_view c.args.places.now.declarations.now) x.ident.text x.generics) x c.in_err-resolved_of.field-0.0) declaration_view items at d lt is (subst (λ around. IsFaultyItem around (declaration_view d) c.in_err-resolved_of.field-0.0) same fault))
     ])
 
 pub loop-owner-preserved : goal.loop-owner-preserved
@@ -46,9 +46,9 @@ loop-owner-preserved c =
     let d = c.index-as_slice-owner.result in
     let lt : at < length items = omega arith in
     let is : d ≡ get_or items at d = c.index-as_slice-owner.is ∙ ap (λ (xs : List Declaration). get_or xs at d) c.as_slice.ensures in
-    let same : known_here c.in_ok-scope.scope c.args.config.now ≡ around_of c.args.config.now.renames (declarations_view c.args.places.now.declarations.now) d.ident.text (declaration_view d).generics =
-    around_is c.args.config.now.renames c.in_ok-scope.scope.places.now.declarations.now c.args.places.now.declarations.now c.in_ok-scope.scope.owner at d (ap (λ (places : Places). places.declarations.now) c.in_ok-scope.ensures.places) c.in_ok-scope.ensures.owner lt is in
-    rw c.in_ok-push.ensures.ok (all_more (resolved_among c.args.config.now.renames (declarations_view c.args.places.now.declarations.now)) declaration_view resolved_view items at d c.loop-owner.resolved _ lt is c.loop-owner.invariant
+    let same : known_here c.in_ok-scope.scope c.args.config.now ≡ around_of c.args.config.now (declarations_view c.args.places.now.declarations.now) d.ident.text (declaration_view d).generics =
+    around_is c.args.config.now c.in_ok-scope.scope.places.now.declarations.now c.args.places.now.declarations.now c.in_ok-scope.scope.owner at d (ap (λ (places : Places). places.declarations.now) c.in_ok-scope.ensures.places) c.in_ok-scope.ensures.owner lt is in
+    rw c.in_ok-push.ensures.ok (all_more (resolved_among c.args.config.now (declarations_view c.args.places.now.declarations.now)) declaration_view resolved_view items at d c.loop-owner.resolved _ lt is c.loop-owner.invariant
     (subst (λ around. resolved_of around (declaration_view d) ≡ Some (resolved_view c.in_ok-resolved_of.field-0)) same c.in_ok-resolved_of.ensures.resolved))
 
 pub resolved_of-requires-clause-named : goal.resolved_of-requires-clause-named
@@ -73,19 +73,19 @@ resolved_of-requires-clause-derivable c =
 pub returns-clause-resolved : goal.returns-clause-resolved
 returns-clause-resolved c =
     let whole : take c.loop-owner.owner c.args.places.now.declarations.now.items ≡ c.args.places.now.declarations.now.items = grind (arith, common_steps) in
-    let rows = c.args.config.now.renames in
-    subst (λ ds. all_of (resolved_among rows (declarations_view c.args.places.now.declarations.now)) (map declaration_view ds) ≡ Some (map resolved_view c.loop-owner.resolved)) whole c.loop-owner.invariant
+    let config = c.args.config.now in
+    subst (λ ds. all_of (resolved_among config (declarations_view c.args.places.now.declarations.now)) (map declaration_view ds) ≡ Some (map resolved_view c.loop-owner.resolved)) whole c.loop-owner.invariant
 
 pub returns-clause-names : goal.returns-clause-names
 returns-clause-names c =
     let whole : take c.loop-owner.owner c.args.places.now.declarations.now.items ≡ c.args.places.now.declarations.now.items = grind (arith, common_steps) in
-    let rows = c.args.config.now.renames in
+    let config = c.args.config.now in
     let ds = declarations_view c.args.places.now.declarations.now in
-    names_are rows ds (map resolved_view c.loop-owner.resolved) (subst (λ xs. all_of (resolved_among rows ds) (map declaration_view xs) ≡ Some (map resolved_view c.loop-owner.resolved)) whole c.loop-owner.invariant)
+    names_are config ds (map resolved_view c.loop-owner.resolved) (subst (λ xs. all_of (resolved_among config ds) (map declaration_view xs) ≡ Some (map resolved_view c.loop-owner.resolved)) whole c.loop-owner.invariant)
 
 pub returns-clause-fitting : goal.returns-clause-fitting
 returns-clause-fitting c =
     let whole : take c.loop-owner.owner c.args.places.now.declarations.now.items ≡ c.args.places.now.declarations.now.items = grind (arith, common_steps) in
-    let rows = c.args.config.now.renames in
+    let config = c.args.config.now in
     let ds = declarations_view c.args.places.now.declarations.now in
-    all_fitting c.resolved_are_over.ensures rows ds (map resolved_view c.loop-owner.resolved) (subst (λ xs. all_of (resolved_among rows ds) (map declaration_view xs) ≡ Some (map resolved_view c.loop-owner.resolved)) whole c.loop-owner.invariant)
+    all_fitting c.resolved_are_over.ensures config ds (map resolved_view c.loop-owner.resolved) (subst (λ xs. all_of (resolved_among config ds) (map declaration_view xs) ≡ Some (map resolved_view c.loop-owner.resolved)) whole c.loop-owner.invariant)

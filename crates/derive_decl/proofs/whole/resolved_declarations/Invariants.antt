@@ -8,4 +8,4 @@ use Rattle.derive_decl.specs.Whole.{resolved_among}
 -- the declarations so far are resolved
 abbrev pub invariant-loop-owner : goal.invariant-loop-owner
 invariant-loop-owner l =
-    all_of (resolved_among l.config.renames (declarations_view l.places.declarations.now)) (map declaration_view (take l.owner l.places.declarations.now.items)) ≡ Some (map resolved_view l.resolved)
+    all_of (resolved_among l.config (declarations_view l.places.declarations.now)) (map declaration_view (take l.owner l.places.declarations.now.items)) ≡ Some (map resolved_view l.resolved)

@@ -1,27 +1,46 @@
-use Rattle.std.proofs.Common.{◌≡◌, ◌<◌, ◌≤◌, ◌+◌, ◌∙◌, MatchOption, None, cond, ap, arith, inl, inr, subst, le-leb}
-use Rattle.std.proofs.lemmas.Result.{IfOk-weaker}
+use Rattle.std.proofs.Common.{◌≡◌, ◌⊎◌, inl, inr, rules, ℕ, List, [], ◌∷◌, length, IfOk, IfErr, Option, Some, None, option_and_then, refl, sym, subst, arith}
+use Rattle.std.specs.BTreeMap.{get_by_text}
+use Rattle.std.proofs.lemmas.Result.{err_from_is_err_and}
+use Rattle.diag.specs.Refusal.{Refuses}
+use Rattle.open_types.specs.Open.{open_view}
+use Rattle.written_types.specs.declared.written.WrittenType.{WrittenType}
 use Rattle.written_types.specs.Written.{written_view}
-use Rattle.resolving.specs.Known.{known}
-use Rattle.resolving.specs.Names.{size}
-use Rattle.resolving.specs.Resolved.{type_of, too_large}
-use Rattle.resolving.proofs.Whole.{fault_of-error}
+use Rattle.resolving.specs.Known.{type_at, known}
+use Rattle.resolving.specs.Names.{span_of}
+use Rattle.resolving.specs.Aliases.{expanded_type}
+use Rattle.resolving.specs.Resolved.{fitting_type, IsFaultIn, IsRefusedFor, Fault, too_large}
+use Rattle.resolving.proofs.Expanding.{unaliased}
 use Rattle.resolving.proofs.resolve.resolve_type.Goals as goal
 
-pub returns-in-None-clause-refused : goal.returns-in-None-clause-refused
-returns-in-None-clause-refused c =
-    let n = size (known c.args.names.now) (written_view c.args.ty.now) in
-    let more : 256 < n = subst (λ r. MatchOption r (256 < n) (λ rest. rest + n ≡ 256)) c.in-None.is c.left_after.ensures in
-    elim c.type_size.ensures [
+no_types : (ts : List WrittenType) → length ts ≡ 0 → (o : Option ℕ) → option_and_then (type_at ts) o ≡ None
+no_types [] l None = refl
+no_types [] l (Some place) = refl
+no_types (t ∷ ts) l o = absurd (omega arith)
+
+pub returns-then-is_empty-clause-resolved : goal.returns-then-is_empty-clause-resolved
+returns-then-is_empty-clause-resolved c =
+    let names = c.args.names.now in
+    let none : (name : List ℕ) → (known names).alias_of name ≡ None = λ name. no_types names.alias_types.now (search rules) (get_by_text names.aliases.now name) in
+    let same = unaliased (known names) none (written_view c.args.ty.now) in
+    subst (λ w. IfOk c.resolve_fitting.result (λ t. fitting_type (known names) w ≡ Some (open_view t))) (sym same) c.resolve_fitting.ensures.resolved
+
+pub returns-then-is_empty-clause-refused : goal.returns-then-is_empty-clause-refused
+returns-then-is_empty-clause-refused c =
+    let names = c.args.names.now in
+    let none : (name : List ℕ) → (known names).alias_of name ≡ None = λ name. no_types names.alias_types.now (search rules) (get_by_text names.aliases.now name) in
+    let same = unaliased (known names) none (written_view c.args.ty.now) in
+    subst (λ w. Refuses c.resolve_fitting.result (λ e. (fault : Fault) × IsFaultIn (known names) w fault × IsRefusedFor fault e)) (sym same) c.resolve_fitting.ensures.refused
+
+pub returns-in_err-expanded-clause-refused : goal.returns-in_err-expanded-clause-refused
+returns-in_err-expanded-clause-refused c =
+    let q = err_from_is_err_and c.from_residual.result c.from_residual.ensures.1 in
+    rw (q.1, q.2)
+    (elim c.in_err-expanded.ensures.refused [
       | inl memory ↦ inl memory
-      | inr refusal ↦ inr (too_large c.span_of.result, (c.span_of.ensures, more), refusal)
-    ]
+      | inr fault ↦ inr (too_large (span_of (expanded_type (known c.args.names.now) (written_view c.args.ty.now))), (refl, fault.0), fault.1)
+    ])
 
-pub returns-in-Some-clause-resolved : goal.returns-in-Some-clause-resolved
-returns-in-Some-clause-resolved c =
-    let n = size (known c.args.names.now) (written_view c.args.ty.now) in
-    let left = subst (λ r. MatchOption r (256 < n) (λ rest. rest + n ≡ 256)) c.in-Some.is c.left_after.ensures in
-    let few : n ≤ 256 = omega (arith, left) in
-    IfOk-weaker c.resolve_whole.result _ _ (λ t is. ap (λ b. cond b (type_of (known c.args.names.now) (written_view c.args.ty.now)) None) (le-leb n 256 few) ∙ is) c.resolve_whole.ensures.resolved
-
-pub returns-in-Some-clause-refused : goal.returns-in-Some-clause-refused
-returns-in-Some-clause-refused c = fault_of-error (known c.args.names.now) (written_view c.args.ty.now) c.resolve_whole.result c.resolve_whole.ensures.refused
+pub returns-clause-refused : goal.returns-clause-refused
+returns-clause-refused c =
+    let names = c.args.names.now in
+    subst (λ w. Refuses c.resolve_fitting-2.result (λ e. (fault : Fault) × IsFaultIn (known names) w fault × IsRefusedFor fault e)) c.in_ok-expanded.ensures.expanded c.resolve_fitting-2.ensures.refused

@@ -23,9 +23,9 @@ clear_text one bounded c source e sound (inr (inl unreadable)) = unreadable.3 so
 clear_text one bounded c source e sound (inr (inr (ds, read, shallow, fault))) = by (subst IsFine (one source sound.declarations ds sound.read read) (sound.clear, sound.bounded)) fault
   where
     IsFine : List DeclaredItem → Type 0
-    IsFine ds = AreClear c.renames ds × ((resolved : List DeclarationOf) → resolved_declarations c.renames ds ≡ Some resolved → AreBounded c resolved)
+    IsFine ds = AreClear c ds × ((resolved : List DeclarationOf) → resolved_declarations c ds ≡ Some resolved → AreBounded c resolved)
 
-    by : IsFine ds → AreAtFault c.renames ds e ⊎ IsBeyond c ds e → ⊥
+    by : IsFine ds → AreAtFault c ds e ⊎ IsBeyond c ds e → ⊥
     by fine (inl (inl (span, at, is))) = none-some span (sym fine.0.derivable ∙ at)
     by fine (inl (inr (derivable, fault))) = fine.0.faultless e fault
     by fine (inr (clear, (resolved, resolves, unbounded))) = bounded c (declared_idents ds) resolved e (fine.1 resolved resolves) unbounded

@@ -1,22 +1,23 @@
-use Rattle.std.proofs.Common.{◌⊎◌, ℕ, List, Some, inl, inr}
+use Rattle.std.proofs.Common.{◌⊎◌, ℕ, List, Some, IsTrue, inl, inr}
 use Rattle.reporting.specs.Beginning.{Beginning}
 use Rattle.reporting.specs.Program.{IsRefusedGiven, IsReportOf}
-use Rattle.diag.specs.declared.kind.Kind.TheVariants.{BadConfig}
+use Rattle.diag.specs.declared.kind.Kind.{Kind}
+use Rattle.schema_gen.specs.Given.{is_of_configuration}
 use Rattle.schema_gen.specs.Owed.{schema_gen}
 use Rattle.schema_gen.proofs.Consequences.{described, other_kind, bad_config_cause, only_bad_owed}
 use Rattle.schema_gen.proofs.Told.{sound_run}
 use Rattle.schema_gen.proofs.program.run.Goals as goal
 
 -- what holds where no source is refused, or where one is refused as a configuration
-without_source : (begun : Beginning) (P : Type 0) → P ⊎ ((line : List ℕ) × IsReportOf (IsRefusedGiven schema_gen begun) BadConfig line) → P
-without_source begun P (inl holds) = holds
-without_source begun P (inr (line, reported)) = absurd (other_kind begun line reported)
+without_source : (begun : Beginning) (kind : Kind) → IsTrue (is_of_configuration kind) → (P : Type 0) → P ⊎ ((line : List ℕ) × IsReportOf (IsRefusedGiven schema_gen begun) kind line) → P
+without_source begun kind own P (inl holds) = holds
+without_source begun kind own P (inr (line, reported)) = absurd (other_kind begun kind own line reported)
 
 pub returns-clause-done : goal.returns-clause-done
 returns-clause-done g c = λ is. let done = c.run_command.ensures.done is in described _ done.0 _ _ done.1 done.2
 
 pub returns-clause-bad_config : goal.returns-clause-bad_config
-returns-clause-bad_config g c = λ is. let refused = c.run_command.ensures.refused BadConfig is in bad_config_cause _ refused.0 refused.1
+returns-clause-bad_config g c = λ kind own is. let refused = c.run_command.ensures.refused kind is in bad_config_cause _ kind own refused.0 refused.1
 
 pub returns-clause-only_bad_config : goal.returns-clause-only_bad_config
 returns-clause-only_bad_config g c = λ told file.
@@ -31,7 +32,7 @@ returns-clause-unread g c = λ none. c.run_command.ensures.unread (λ configured
 pub returns-clause-unread_config : goal.returns-clause-unread_config
 returns-clause-unread_config g c = λ why.
     elim why [
-      | inl bad ↦ without_source _ _ (c.run_command.ensures.unread_refusal BadConfig bad)
+      | inl (kind, own, is) ↦ without_source _ kind own _ (c.run_command.ensures.unread_refusal kind is)
       | inr fault ↦ c.run_command.ensures.unread_fault fault
     ]
 

@@ -1,10 +1,11 @@
-use Rattle.std.proofs.Common.{◌≡◌, ◌∙◌, true, cond, None, ap, inl, inr, subst}
-use Rattle.std.proofs.lemmas.Result.{IfOk-weaker, err_from_is_err_and}
+use Rattle.std.proofs.Common.{◌≡◌, true, inl, inr, subst}
+use Rattle.std.proofs.lemmas.Result.{err_from_is_err_and}
 use Rattle.derive_decl.specs.Faults.{AreFaultyParameters}
 use Rattle.derive_decl.specs.Lifetimes.{parameters_are_distinct}
-use Rattle.derive_decl.specs.Resolved.{declaration_of}
+use Rattle.shapes.specs.Views.{declaration_view}
 use Rattle.derive_decl.specs.Views.{known}
 use Rattle.declaration_schemas.specs.Schemas.{item_of}
+use Rattle.declaration_schemas.proofs.Once.{resolved_once}
 use Rattle.declaration_schemas.proofs.schema.Schema.resolve.Goals as goal
 
 pub returns-in_err-distinct_parameters-clause-refused : goal.returns-in_err-distinct_parameters-clause-refused
@@ -20,6 +21,4 @@ pub returns-clause-resolved : goal.returns-clause-resolved
 returns-clause-resolved c =
     let schema = c.args.self.now in
     let once : parameters_are_distinct (item_of schema).generics ≡ true = subst (λ ps. parameters_are_distinct ps ≡ true) c.generics_of.ensures c.in_ok-distinct_parameters.ensures.once in
-    IfOk-weaker c.resolve_declaration.result _ _
-    (λ s is. ap (λ b. cond b (declaration_of (known schema.container.now) (item_of schema).attrs (item_of schema).ident (item_of schema).body) None) once ∙ is)
-    c.resolve_declaration.ensures.resolved
+    resolved_once declaration_view c.resolve_declaration.result (known schema.container.now) (item_of schema) once c.resolve_declaration.ensures.resolved

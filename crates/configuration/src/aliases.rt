@@ -1,0 +1,206 @@
+//! Aliases: names, and the types that they stand for.
+
+ghost use Rattle.std.specs.Prelude.{◌≡◌, ◌↔◌, ℕ, List as Items, [], length, map, IfOk, IfSome, IsSomeAnd, IsTrue};
+ghost use Rattle.std.specs.BTreeMap.{get_by_text};
+ghost use Rattle.serde_json.specs.Find.{get};
+ghost use Rattle.serde_json.specs.View.{view as view_of, members_view};
+ghost use Rattle.texts.specs.Names.{place_in};
+ghost use Rattle.diag.specs.Refusal.{IsErrorFor, Refuses};
+ghost use Rattle.written_types.specs.Written.{Written, written_view};
+ghost use Rattle.configuration.specs.Aliases.{alias_names, alias_types, bare, AreDeep};
+ghost use Rattle.configuration.specs.Form.{SaysType, AreMembers, AreAliases, SaysOrDefault, HoldsTexts, LackType, LacksType, IsBadRow};
+ghost use Rattle.configuration.specs.Stored.{aliases_of};
+
+use crate::bare::bare_types;
+use crate::targets::targets_of;
+use diag::{DeriveError, Kind};
+use inlining::{Depth, inline_order};
+use serde_json::{Map, Value};
+use std::alloc::{AllocError, Global};
+use std::collections::BTreeMap;
+use std::marker::Model;
+use texts::{List, Span, Text};
+use type_grammar::parse_type;
+use written_types::WrittenType;
+
+/// How many aliases may stand in each other.
+const MAX_DEPTH: usize = 32;
+
+/// Aliases in the order of their names: what they stand for, the same without what nothing is resolved from, and the
+/// places of the names. Contracts see the list of the aliases.
+#[derive(Drop)]
+pub struct Aliases {
+    names: List<Text>,
+    types: List<WrittenType>,
+    bare: List<WrittenType>,
+    places: BTreeMap<String, usize>,
+}
+
+impl Model for Aliases {
+    ghost use Rattle.std.specs.Prelude.{List as Items};
+    ghost use Rattle.std.specs.Coded.{coded_list};
+    ghost use Rattle.std.specs.BTreeMap.{get_by_text};
+    ghost use Rattle.configuration.specs.Configuration.{Alias};
+    ghost use Rattle.configuration.specs.proved.Code.{coded_alias};
+    ghost use Rattle.configuration.specs.Stored.{aliases_of, AreStored};
+
+    ghost Value = { Items Alias };
+
+    ghost coded = { coded_list coded_alias };
+
+    ghost view = { λ aliases. aliases_of aliases.names aliases.types };
+
+    ghost invariant = { λ aliases. AreStored aliases.names aliases.types aliases.bare (get_by_text aliases.places) };
+}
+
+impl Aliases {
+    /// No aliases. It takes no memory.
+    pub fn new(alloc: Global) -> Aliases
+        ensures { result ≡ [] }
+    {
+        Aliases {
+            names: List::new(alloc),
+            types: List::new(alloc),
+            bare: List::new(alloc),
+            places: BTreeMap::new(alloc),
+        }
+    }
+
+    /// The aliases that the members say. A member that says no type is refused with the kind `BadRow`.
+    fn from_members(alloc: Global, members: &Map<String, Value>) -> Result<Aliases, DeriveError>
+        ensures said { IfOk result (AreMembers (members_view members.now.entries)) }
+        ensures refused { Refuses result
+            (λ e. (IsBadRow e × LackType (members_view members.now.entries))) }
+    {
+        let (names, types) = rows_of(alloc, members)?;
+        let bare = bare_types(alloc, types.as_slice())?;
+        let places = places_of(alloc, names.as_slice())?;
+        Ok(Aliases {
+            names,
+            types,
+            bare,
+            places,
+        })
+    }
+
+    /// Whether more aliases than may stand in each other.
+    pub fn are_deep(&self, alloc: Global) -> Result<bool, AllocError>
+        ensures { IfOk result (λ deep. IsTrue deep ↔ AreDeep self.now) }
+    {
+        let targets = targets_of(alloc, &self.places, self.types.as_slice())?;
+        match inline_order(alloc, targets.as_slice(), MAX_DEPTH)? {
+            Depth::Within(_) => Ok(false),
+            Depth::Beyond(_) => Ok(true),
+        }
+    }
+
+    /// The names, in order.
+    pub fn names(&self) -> &[Text]
+        ensures { result.now ≡ alias_names self.now }
+    {
+        self.names.as_slice()
+    }
+
+    /// The types of the names, in their order.
+    pub fn types(&self) -> &[WrittenType]
+        ensures { map written_view result.now ≡ alias_types self.now }
+    {
+        self.types.as_slice()
+    }
+
+    /// The same types without what nothing is resolved from.
+    pub fn bare_types(&self) -> &[WrittenType]
+        ensures { map written_view result.now ≡ map bare (alias_types self.now) }
+    {
+        self.bare.as_slice()
+    }
+
+    /// The place of each name.
+    pub fn places(&self) -> &BTreeMap<String, usize>
+        ensures { (name : Items ℕ) → get_by_text result.now name
+            ≡ place_in name (alias_names self.now) }
+    {
+        &self.places
+    }
+}
+
+/// The refusal of an alias that is no type, or want of memory.
+fn bad_row(alloc: Global) -> DeriveError
+    ensures { IsErrorFor IsBadRow result }
+{
+    DeriveError::refusal(
+        alloc,
+        Kind::BadRow,
+        Span::nowhere(),
+        "a row of `aliases` is no type",
+    )
+}
+
+/// The type that the value says. A value that says none is refused with the kind `BadRow`.
+fn type_of(alloc: Global, value: &Value) -> Result<WrittenType, DeriveError>
+    ensures said { IfOk result (λ ty. SaysType (view_of value.now) (written_view ty)) }
+    ensures refused { Refuses result
+        (λ e. (IsBadRow e × ((t : Written) → ¬ SaysType (view_of value.now) t))) }
+{
+    let Some(text) = value.as_str() else {
+        return Err(bad_row(alloc));
+    };
+    match parse_type(alloc, text) {
+        Ok(ty) => Ok(ty),
+        Err(DeriveError::Memory) => Err(DeriveError::Memory),
+        Err(DeriveError::Refused(_)) => Err(bad_row(alloc)),
+    }
+}
+
+/// The names of the members, and the types that they say.
+fn rows_of(
+    alloc: Global,
+    members: &Map<String, Value>,
+) -> Result<(List<Text>, List<WrittenType>), DeriveError>
+    ensures said { IfOk result
+        (λ rows. (AreMembers (members_view members.now.entries) (aliases_of rows.0 rows.1)
+        × (length rows.0 ≡ length rows.1))) }
+    ensures refused { Refuses result
+        (λ e. (IsBadRow e × LackType (members_view members.now.entries))) }
+{
+    let mut names = List::new(alloc);
+    let mut types = List::new(alloc);
+    for (name, value) in members.iter() {
+        types.push(type_of(alloc, value)?)?;
+        names.push(Text::new(alloc, name.as_str())?)?;
+    }
+    Ok((names, types))
+}
+
+/// The place of each name; of several that are equal, that of the first.
+fn places_of(alloc: Global, names: &[Text]) -> Result<BTreeMap<String, usize>, AllocError>
+    ensures { IfOk result (λ places. (name : Items ℕ)
+        → get_by_text places name ≡ place_in name names.now) }
+{
+    let mut places = BTreeMap::new(alloc);
+    for at in 0..names.len() {
+        let name = names[at].as_str();
+        if let Some(_) = places.get(name) {
+            continue;
+        }
+        let name = String::from_str(alloc, name)?;
+        let _ = places.insert(name, at).map_err(AllocError::from)?;
+    }
+    Ok(places)
+}
+
+/// The aliases of the member, of which there are none without the member.
+pub fn aliases_at(alloc: Global, value: &Value, name: &str) -> Result<Aliases, DeriveError>
+    requires { IfSome (get name.now (view_of value.now)) HoldsTexts }
+    ensures said { IfOk result (SaysOrDefault AreAliases [] (get name.now (view_of value.now))) }
+    ensures refused { Refuses result
+        (λ e. (IsBadRow e × IsSomeAnd (get name.now (view_of value.now)) LacksType)) }
+{
+    let Some(member) = value.get(name) else {
+        return Ok(Aliases::new(alloc));
+    };
+    match member.as_object() {
+        Some(members) => Aliases::from_members(alloc, members),
+        None => unreachable!(),
+    }
+}
