@@ -9,17 +9,19 @@ use Rattle.std.proofs.lemmas.Bool.{and_from}
 use Rattle.std.proofs.lemmas.Cmp.{nat_list_cmp_total}
 use Rattle.std.proofs.lemmas.Float.{T_from_true}
 use Rattle.std.proofs.lemmas.Map.Text.{is_eq-slice_cmp}
+use Rattle.std.proofs.lemmas.Option.{same_Some}
 use Rattle.std.proofs.lemmas.Slice.Eq.{bytes_eq-Decides}
 use Rattle.schema_trees.specs.declared.tree.RefLeaf.{RefLeaf}
 use Rattle.schema_trees.specs.Schema.{SchemaOf}
 use Rattle.schema_core.specs.Document.{Entry}
 use Rattle.schema_core.specs.Entries.{entry_names, find, IsInOrder}
+use Rattle.configuration.specs.Configuration.{Configuration}
 use Rattle.syntax.specs.Items.{DeclaredItem}
 use Rattle.syntax.specs.Source.{Reads}
 use Rattle.shapes.specs.Declarations.{DeclarationOf}
 use Rattle.closing.specs.Described.{AreComponents}
 use Rattle.compose.specs.Bounds.{collects_all}
-use Rattle.compose.specs.Faults.{ComponentsAreOne}
+use Rattle.compose.specs.Faults.{AreDerived, ComponentsAreOne}
 
 -- ---- entries in order
 
@@ -61,6 +63,11 @@ one_list ss all es fs a b = same_list es fs a.order b.order (λ k. by k (find k 
     by k None e (Some s) f = sym (held ss all fs es b a k (ap is_some f))
     by k (Some s) e p f = held ss all es fs a b k (ap is_some e)
 
+one_derived : (c : Configuration) (ds : List DeclaredItem) (es fs : List Entry) → AreDerived c ds es → AreDerived c ds fs → es ≡ fs
+one_derived c ds es fs a b =
+    let resolved : a.resolved ≡ b.resolved = same_Some a.resolved b.resolved (sym a.resolves ∙ b.resolves) in
+    one_list b.resolved (collects_all c.collect) es fs (subst (λ ss. AreComponents ss (collects_all c.collect) es) resolved a.components_are) b.components_are
+
 -- ---- sources
 
 abbrev pub OneReading : Type 0
@@ -69,5 +76,4 @@ OneReading = (source : List ℕ) (ds es : List DeclaredItem) → Reads source ds
 pub components_are_one : OneReading → ComponentsAreOne
 components_are_one one c source es fs a b =
     let read : a.declarations ≡ b.declarations = one source a.declarations b.declarations a.read b.read in
-    let resolved : a.resolved ≡ b.resolved = cc in
-    one_list b.resolved (collects_all c.collect) es fs (subst (λ ss. AreComponents ss (collects_all c.collect) es) resolved a.components_are) b.components_are
+    one_derived c b.declarations es fs (subst (λ ds. AreDerived c ds es) read a.derived) b.derived

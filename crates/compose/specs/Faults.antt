@@ -33,25 +33,33 @@ pub record AreClear (c : Configuration) (ds : List DeclaredItem) : Type 0 where
 abbrev pub IsBeyond : Configuration → List DeclaredItem → DeriveError → Type 0
 IsBeyond c ds e = AreClear c ds × ((ss : List DeclarationOf) × (resolved_declarations c ds ≡ Some ss) × IsUnbounded c (declared_idents ds) ss e)
 
+-- the error refuses declarations that are at fault or beyond a bound
+abbrev pub AreRefused : Configuration → List DeclaredItem → DeriveError → Type 0
+AreRefused c ds e = AreAtFault c ds e ⊎ IsBeyond c ds e
+
 -- the error refuses a source that is read and nests no deeper than it may, whose declarations are at fault or beyond a bound
 abbrev pub IsFaultySource : Configuration → List ℕ → DeriveError → Type 0
-IsFaultySource c source e = (ds : List DeclaredItem) × Reads source ds × ((span : Span) → ¬ (NestsTooDeep source span)) × (AreAtFault c ds e ⊎ IsBeyond c ds e)
+IsFaultySource c source e = (ds : List DeclaredItem) × Reads source ds × ((span : Span) → ¬ (NestsTooDeep source span)) × AreRefused c ds e
 
 -- the error refuses the source: it nests too deep, or it has no reading, or else its declarations are at fault, or else beyond a bound
 abbrev pub IsRefused : Configuration → List ℕ → DeriveError → Type 0
 IsRefused c source e = IsTooDeep source e ⊎ IsUnreadable source e ⊎ IsFaultySource c source e
 
--- The components are those of the instances that the source's declarations reach, and no condition of a refusal holds.
+-- The components are those of the instances that the declarations reach, and no condition of a refusal holds.
+pub record AreDerived (c : Configuration) (ds : List DeclaredItem) (components : List Entry) : Type 0 where
+  pub clear : AreClear c ds
+  pub resolved : List DeclarationOf
+  pub resolves : resolved_declarations c ds ≡ Some resolved
+  pub bounded : AreBounded c resolved
+  pub apart : AreApartBodies resolved
+  pub components_are : AreComponents resolved (collects_all c.collect) components
+
+-- The source is read, no deeper than it may be, as declarations whose components these are.
 pub record IsDerived (c : Configuration) (source : List ℕ) (components : List Entry) : Type 0 where
   pub declarations : List DeclaredItem
   pub read : Reads source declarations
   pub shallow : (span : Span) → ¬ NestsTooDeep source span
-  pub clear : AreClear c declarations
-  pub resolved : List DeclarationOf
-  pub resolves : resolved_declarations c declarations ≡ Some resolved
-  pub bounded : AreBounded c resolved
-  pub apart : AreApartBodies resolved
-  pub components_are : AreComponents resolved (collects_all c.collect) components
+  pub derived : AreDerived c declarations components
 
 -- The law: a configuration and a source have one list of components.
 abbrev pub ComponentsAreOne : Type 0

@@ -4,9 +4,9 @@ ghost use Rattle.std.specs.Prelude.{◌≡◌, ◌<◌, ◌≤◌, ◌⊎◌, �
 ghost use Rattle.diag.specs.Refusal.{IsRefusal, Refuses};
 ghost use Rattle.texts.specs.Span.{no_span};
 ghost use Rattle.resolving.specs.Resolved.{most_names};
-ghost use Rattle.shapes.specs.Declarations.{AreFitting, declaration_names};
+ghost use Rattle.shapes.specs.Declarations.{AreFitting};
 ghost use Rattle.shapes.specs.Views.{declaration_view};
-ghost use Rattle.inlining.specs.Inlining.{AreTargets, IsAmong, IsAtMost, IsOrder, copies, sum_of};
+ghost use Rattle.inlining.specs.Inlining.{IsAmong, IsAtMost, IsOrder, copies, sum_of};
 ghost use Rattle.instances.specs.Lists.{AreInstances};
 ghost use Rattle.instances.specs.Names.{NamesDiffer, instance_names};
 ghost use Rattle.instances.specs.Walk.{AreReached};

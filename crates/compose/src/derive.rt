@@ -1,14 +1,16 @@
-//! From a source to its components.
+//! From declarations, and from a source, to their components.
 
-ghost use Rattle.std.specs.Prelude.{◌≡◌, length, map, IfOk};
+ghost use Rattle.std.specs.Prelude.{◌≡◌, map, IfOk};
 ghost use Rattle.diag.specs.Refusal.{Refuses};
 ghost use Rattle.schema_core.specs.Document.{document};
 ghost use Rattle.schema_core.specs.Entries.{entry_names};
 ghost use Rattle.open_types.specs.Open.{open_view};
+ghost use Rattle.syntax.specs.Items.{declarations_view};
+ghost use Rattle.syntax.specs.Named.{AreNamed};
 ghost use Rattle.shapes.specs.Views.{declaration_view};
 ghost use Rattle.closing.specs.Described.{AreComponents, Describes};
 ghost use Rattle.compose.specs.Bounds.{collects_all};
-ghost use Rattle.compose.specs.Faults.{IsDerived, IsRefused};
+ghost use Rattle.compose.specs.Faults.{AreDerived, AreRefused, IsDerived, IsRefused};
 ghost use Rattle.compose.specs.Types.{AreTypesOf};
 ghost use Rattle.compose.specs.Within.{AreWithin};
 
@@ -22,7 +24,7 @@ use open_types::ClosedType;
 use schema_core::Components;
 use shapes::Declaration;
 use std::alloc::{AllocError, Global};
-use syntax::parse_declarations;
+use syntax::{Declarations, parse_declarations};
 use texts::List;
 
 /// What is derived of a source.
@@ -69,6 +71,38 @@ fn components_within(
     Ok(Derived { components, types })
 }
 
+/// The components of the declarations.
+///
+/// A refusal is as for `terms`; else it is as for `instances`.
+pub fn derive_declarations(
+    alloc: Global,
+    declarations: Declarations,
+    config: &Config,
+) -> Result<Derived, DeriveError>
+    requires { AreNamed (declarations_view declarations) }
+    ensures derived { IfOk result
+        (λ d. AreDerived config.now (declarations_view declarations) d.components) }
+    ensures refused { Refuses result (AreRefused config.now (declarations_view declarations)) }
+    // The document of the components describes the declarations.
+    ensures describes { IfOk result
+        (λ d. (made : AreDerived config.now (declarations_view declarations) d.components)
+        × Describes made.resolved (collects_all config.now.collect)
+        (document d.components)) }
+    ensures types { IfOk result
+        (λ d. (made : AreDerived config.now (declarations_view declarations) d.components)
+        × AreTypesOf made.resolved (collects_all config.now.collect) (entry_names d.components)
+        (map open_view d.types)) }
+{
+    closing::components_describe();
+    derive_decl::resolved_are_apart();
+    let terms = terms(alloc, &declarations, config)?;
+    // The declarations are dropped before schemas are made.
+    drop(declarations);
+    let resolved = terms.resolved.as_slice();
+    let bounded = within_bounds(alloc, terms.idents.as_slice(), resolved, config)?;
+    Ok(components_within(alloc, resolved, bounded)?)
+}
+
 /// The components of the source's declarations.
 ///
 /// A refusal is of kind `TooDeep` or `Syntax`, where the source cannot be read; else it is as for `terms`; else it is as for
@@ -82,20 +116,13 @@ pub fn derive_components(
     ensures refused { Refuses result (IsRefused config.now source.now) }
     // The document of the components describes the declarations of the source.
     ensures describes { IfOk result (λ d. (made : IsDerived config.now source.now d.components)
-        × Describes made.resolved (collects_all config.now.collect)
+        × Describes made.derived.resolved (collects_all config.now.collect)
         (document d.components)) }
     ensures types { IfOk result (λ d. (made : IsDerived config.now source.now d.components)
-        × AreTypesOf made.resolved (collects_all config.now.collect) (entry_names d.components)
-        (map open_view d.types)) }
+        × AreTypesOf made.derived.resolved (collects_all config.now.collect)
+        (entry_names d.components) (map open_view d.types)) }
 {
     let declarations = parse_declarations(alloc, source)?;
     syntax::read_fields_are_named();
-    closing::components_describe();
-    derive_decl::resolved_are_apart();
-    let terms = terms(alloc, &declarations, config)?;
-    // The declarations are let go before terms are made.
-    drop(declarations);
-    let resolved = terms.resolved.as_slice();
-    let bounded = within_bounds(alloc, terms.idents.as_slice(), resolved, config)?;
-    Ok(components_within(alloc, resolved, bounded)?)
+    Ok(derive_declarations(alloc, declarations, config)?)
 }

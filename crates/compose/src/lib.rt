@@ -16,7 +16,7 @@ pub use closing::{
     components_describe, components_lead, places_agree, places_describe, references_accept,
     schemas_describe,
 };
-pub use derive::{Derived, derive_components};
+pub use derive::{Derived, derive_components, derive_declarations};
 pub use law::{bounded_are_not_refused, components_are_one};
 pub use names::component_name;
 pub use sets::{InstanceSet, TermSet, compose, instances, terms};

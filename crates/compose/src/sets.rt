@@ -1,6 +1,6 @@
 //! The terms and the instances of a source, and the schemas of instances.
 
-ghost use Rattle.std.specs.Prelude.{◌≡◌, ◌↔◌, length, map, IfOk, IsTrue};
+ghost use Rattle.std.specs.Prelude.{◌≡◌, ◌↔◌, map, IfOk, IsTrue};
 ghost use Rattle.diag.specs.Refusal.{Refuses};
 ghost use Rattle.schema_trees.specs.Schema.{schema_view};
 ghost use Rattle.open_types.specs.Open.{open_view};

@@ -25,10 +25,10 @@ pub described : (begun : Beginning) (text : List ℕ) (old new : Option (List �
     → (given : Given) × (resolved : List DeclarationOf) × (doc : Json) × IsGiven begun given × ResolvesTo given resolved × Describes resolved (collects_all given.config.collect) doc × Appends old new (text_of doc)
 described begun text old new (given, is_given, of) grown = (
   given,
-  of.made.resolved,
+  of.made.derived.resolved,
   document of.components,
   is_given,
-  record { declarations = of.made.declarations; read = of.made.read; resolves = of.made.resolves },
+  record { declarations = of.made.declarations; read = of.made.read; resolves = of.made.derived.resolves },
   of.describes,
   subst (Appends old new) of.text_is grown,
 )

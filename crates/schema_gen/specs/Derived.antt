@@ -18,7 +18,7 @@ pub record IsDocumentOf (c : Configuration) (source text : List ℕ) : Type 0 wh
   pub is_text : IsText source
   pub components : List Entry
   pub made : IsDerived c source components
-  pub describes : Describes made.resolved (collects_all c.collect) (document components)
+  pub describes : Describes made.derived.resolved (collects_all c.collect) (document components)
   pub text_is : text ≡ text_of (document components)
   pub held : IsHeld (document components)
   pub one : (x : Json) → HasShortNumbers x → text ≡ text_of x → x ≡ document components

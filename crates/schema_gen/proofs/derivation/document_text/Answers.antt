@@ -21,7 +21,7 @@ refused_bytes config source bytes e same is_text (inr refused) = inr (inr (inr (
 
 -- the document of the text is that of its bytes
 document_of_bytes : (config : Configuration) (source bytes text : List ℕ) (components : List Entry) → source ≡ bytes → IsText bytes
-    → (made : IsDerived config source components) × Describes made.resolved (collects_all config.collect) (document components) → text ≡ text_of (document components) → IsHeld (document components) → OneText → IsDocumentOf config bytes text
+    → (made : IsDerived config source components) × Describes made.derived.resolved (collects_all config.collect) (document components) → text ≡ text_of (document components) → IsHeld (document components) → OneText → IsDocumentOf config bytes text
 document_of_bytes config source bytes text components same is_text made text_is held one =
     subst (λ b. IsDocumentOf config b text) same (record {
       is_text = subst IsText (sym same) is_text;
