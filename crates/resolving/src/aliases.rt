@@ -44,6 +44,7 @@ pub fn expand_type(
 ) -> Result<WrittenType, DeriveError>
     ensures expanded { IfOk result
         (λ t. written_view t ≡ expanded_type (known names.now) (written_view ty.now)) }
+    ensures fits { IfOk result (λ t. size (known names.now) (written_view t) ≤ most_names) }
     ensures refused { Refuses result (λ e. (most_names
         < size (known names.now) (expanded_type (known names.now) (written_view ty.now)))
         × IsRefusedFor
