@@ -1,9 +1,10 @@
 -- What is accepted at a depth is accepted at each greater depth.
 use Rattle.std.proofs.Common.{ℕ, zero, suc, List, [], ◌∷◌, Bool, true, ◌≤◌, Option, Some, None, drop, ◌≡◌, arith}
 use Rattle.acceptance.specs.Json.{Json, null, boolean, number, text, list, map, Items, no_items, item, Members, no_members, member, look}
+use Rattle.acceptance.specs.Json as json
 use Rattle.acceptance.specs.Keyword.{Keyword, keyword_of}
 use Rattle.acceptance.specs.Keyword as keyword
-use Rattle.acceptance.specs.Acceptance.{Readings, keyword_holds, named, prefix_count, target_of, at_target, reference_holds, accepts_with, members_hold, properties_accept, each_property, prefix_accepts, in_order, all_accept, each_accepts, one_accepts, some_accepts, component_schema, if_component, component_accepts, accepts}
+use Rattle.acceptance.specs.Acceptance.{Readings, keyword_holds, named, prefix_count, target_of, at_target, reference_holds, accepts_with, members_hold, properties_accept, each_property, prefix_accepts, in_order, all_accept, each_accepts, one_accepts, some_accepts, component_schema, component_accepts, accepts}
 use Rattle.acceptance.proofs.Laws.{Below, and-below, or-below, list_all-below, on_map-below, on_list-below, if_there-below, others-below, names-below}
 
 pub record ReadingsBelow (p q : Readings) : Type 0 where
@@ -98,7 +99,7 @@ module _ (R S : List ℕ → Json → Bool) (h : (name : List ℕ) → Below (R 
     some-below no_items = λ v e. e
     some-below (item x ss) = λ v. or-below _ _ _ _ (schema-below x v) (some-below ss v)
 
-found-below : (R S : List ℕ → Json → Bool) → ((name : List ℕ) → Below (R name) (S name)) → (o : Option Json) → Below (λ v. if_component o (λ s. accepts_with R s v)) (λ v. if_component o (λ s. accepts_with S s v))
+found-below : (R S : List ℕ → Json → Bool) → ((name : List ℕ) → Below (R name) (S name)) → (o : Option Json) → Below (λ v. json.there o (λ s. accepts_with R s v)) (λ v. json.there o (λ s. accepts_with S s v))
 found-below R S h None v e = e
 found-below R S h (Some s) v e = schema-below R S h s v e
 

@@ -3,7 +3,7 @@
 -- and a member that is not of its stated form binds nothing, like every member that is no keyword here.
 use Rattle.std.specs.Prelude.{ℕ, zero, suc, ◌%◌, ℤ, pos, negsuc, List, [], ◌∷◌, Bool, true, false, not, ◌&&◌, ◌||◌, ◌==◌, Option, Some, None, option_map, option_and_then, nat_eq, int_le, length, drop, cond, codes, chars, IsTrue}
 use Rattle.std.specs.List.{list_all, list_any}
-use Rattle.acceptance.specs.Json.{Json, null, boolean, number, text, list, map, Items, no_items, item, Members, no_members, member, elements, entries, names, look, same, distinct, on_map, on_list, on_number, on_text, if_there, member_of}
+use Rattle.acceptance.specs.Json.{Json, null, boolean, number, text, list, map, Items, no_items, item, Members, no_members, member, elements, entries, names, look, same, distinct, on_map, on_list, on_number, on_text, there, if_there, member_of}
 use Rattle.texts.specs.Names.{is_in}
 use Rattle.acceptance.specs.Keyword.{Keyword, keyword_of}
 use Rattle.acceptance.specs.Keyword as keyword
@@ -155,10 +155,7 @@ abbrev mutual
   pub accepts_with : (List ℕ → Json → Bool) → Json → Json → Bool
   accepts_with component (boolean b) v = b
   accepts_with component (map ms) v = members_hold component ms ms v
-  accepts_with component null v = false
-  accepts_with component (number n) v = false
-  accepts_with component (text s) v = false
-  accepts_with component (list xs) v = false
+  accepts_with component _ v = false
 
   -- each of these members of the schema holds
   pub members_hold : (List ℕ → Json → Bool) → Members → Members → Json → Bool
@@ -176,11 +173,7 @@ abbrev mutual
 
   pub properties_accept : (List ℕ → Json → Bool) → Json → Json → Bool
   properties_accept component (map ps) v = on_map v (each_property component ps)
-  properties_accept component null v = true
-  properties_accept component (boolean b) v = true
-  properties_accept component (number n) v = true
-  properties_accept component (text s) v = true
-  properties_accept component (list xs) v = true
+  properties_accept component _ v = true
 
   -- each entry that one of the schemas is named for is accepted by it
   pub each_property : (List ℕ → Json → Bool) → Members → List (List ℕ × Json) → Bool
@@ -189,11 +182,7 @@ abbrev mutual
 
   pub prefix_accepts : (List ℕ → Json → Bool) → Json → List Json → Bool
   prefix_accepts component (list ss) vs = in_order component ss vs
-  prefix_accepts component null vs = true
-  prefix_accepts component (boolean b) vs = true
-  prefix_accepts component (number n) vs = true
-  prefix_accepts component (text s) vs = true
-  prefix_accepts component (map ms) vs = true
+  prefix_accepts component _ vs = true
 
   -- by position, as far as both go
   pub in_order : (List ℕ → Json → Bool) → Items → List Json → Bool
@@ -203,11 +192,7 @@ abbrev mutual
 
   pub all_accept : (List ℕ → Json → Bool) → Json → Json → Bool
   all_accept component (list ss) v = each_accepts component ss v
-  all_accept component null v = true
-  all_accept component (boolean b) v = true
-  all_accept component (number n) v = true
-  all_accept component (text s) v = true
-  all_accept component (map ms) v = true
+  all_accept component _ v = true
 
   pub each_accepts : (List ℕ → Json → Bool) → Items → Json → Bool
   each_accepts component no_items v = true
@@ -215,11 +200,7 @@ abbrev mutual
 
   pub one_accepts : (List ℕ → Json → Bool) → Json → Json → Bool
   one_accepts component (list ss) v = some_accepts component ss v
-  one_accepts component null v = true
-  one_accepts component (boolean b) v = true
-  one_accepts component (number n) v = true
-  one_accepts component (text s) v = true
-  one_accepts component (map ms) v = true
+  one_accepts component _ v = true
 
   pub some_accepts : (List ℕ → Json → Bool) → Items → Json → Bool
   some_accepts component no_items v = false
@@ -242,14 +223,10 @@ readings_of component x = record {
 abbrev pub component_schema : Json → List ℕ → Option Json
 component_schema document name = option_and_then (member_of name) (option_and_then (member_of (codes "schemas")) (member_of (codes "components") document))
 
-abbrev pub if_component : Option Json → (Json → Bool) → Bool
-if_component (Some s) p = p s
-if_component None p = false
-
 -- what the component of a name accepts, where references are followed less often than the depth
 abbrev pub component_accepts : Json → ℕ → List ℕ → Json → Bool
 component_accepts document zero name v = false
-component_accepts document (suc depth) name v = if_component (component_schema document name) (λ s. accepts_with (component_accepts document depth) s v)
+component_accepts document (suc depth) name v = there (component_schema document name) (λ s. accepts_with (component_accepts document depth) s v)
 
 -- The schema s of the document accepts v at the depth: references are followed so often at most, one behind the other.
 abbrev pub accepts : Json → Json → Json → ℕ → Bool

@@ -94,35 +94,19 @@ distinct (x ∷ xs) = not (list_any (same x) xs) && distinct xs
 -- a test that binds a value of one kind alone
 abbrev pub on_map : Json → (List (List ℕ × Json) → Bool) → Bool
 on_map (map ms) p = p (entries ms)
-on_map null p = true
-on_map (boolean b) p = true
-on_map (number n) p = true
-on_map (text s) p = true
-on_map (list xs) p = true
+on_map _ p = true
 
 abbrev pub on_list : Json → (List Json → Bool) → Bool
 on_list (list xs) p = p (elements xs)
-on_list null p = true
-on_list (boolean b) p = true
-on_list (number n) p = true
-on_list (text s) p = true
-on_list (map ms) p = true
+on_list _ p = true
 
 abbrev pub on_number : Json → (ℤ → Bool) → Bool
 on_number (number n) p = p n
-on_number null p = true
-on_number (boolean b) p = true
-on_number (text s) p = true
-on_number (list xs) p = true
-on_number (map ms) p = true
+on_number _ p = true
 
 abbrev pub on_text : Json → (List ℕ → Bool) → Bool
 on_text (text s) p = p s
-on_text null p = true
-on_text (boolean b) p = true
-on_text (number n) p = true
-on_text (list xs) p = true
-on_text (map ms) p = true
+on_text _ p = true
 
 -- a test of a member, where it is there
 abbrev pub if_there : Option Json → (Json → Bool) → Bool
@@ -132,8 +116,4 @@ if_there None p = true
 -- the member of the name, of a map
 abbrev pub member_of : List ℕ → Json → Option Json
 member_of k (map ms) = look k (entries ms)
-member_of k null = None
-member_of k (boolean b) = None
-member_of k (number n) = None
-member_of k (text s) = None
-member_of k (list xs) = None
+member_of k _ = None

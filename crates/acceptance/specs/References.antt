@@ -1,22 +1,14 @@
 -- The references of a schema, met through the members that hold schemas. One inside an `enum`, an example or an extension is none.
-use Rattle.std.specs.Prelude.{ℕ, List, Option, Some, None}
+use Rattle.std.specs.Prelude.{ℕ, List, IsSomeAnd}
 use Rattle.acceptance.specs.Json.{Json, null, boolean, number, text, list, map, Items, no_items, item, Members, no_members, member}
 use Rattle.acceptance.specs.Keyword.{Keyword, keyword_of}
 use Rattle.acceptance.specs.Keyword as keyword
 use Rattle.acceptance.specs.Acceptance.{target_of}
 
-abbrev pub TargetHas : (List ℕ → Type 0) → Option (List ℕ) → Type 0
-TargetHas Q None = ⊥
-TargetHas Q (Some name) = Q name
-
 -- a reference leads to a name that has Q
 abbrev pub ReferenceHas : (List ℕ → Type 0) → Json → Type 0
-ReferenceHas Q (text s) = TargetHas Q (target_of s)
-ReferenceHas Q null = Unit {0}
-ReferenceHas Q (boolean b) = Unit {0}
-ReferenceHas Q (number n) = Unit {0}
-ReferenceHas Q (list xs) = Unit {0}
-ReferenceHas Q (map ms) = Unit {0}
+ReferenceHas Q (text s) = IsSomeAnd (target_of s) Q
+ReferenceHas Q _ = Unit {0}
 
 -- of what a member's value says as a schema, a map of schemas, a list of schemas and a reference, what counts
 abbrev pub AtKeyword : Keyword → (schema properties schemas reference : Type 0) → Type 0
@@ -34,11 +26,7 @@ AtKeyword _ s p l r = Unit {0}
 abbrev mutual
   pub EachReference : (List ℕ → Type 0) → Json → Type 0
   EachReference Q (map ms) = InMembers Q ms
-  EachReference Q null = Unit {0}
-  EachReference Q (boolean b) = Unit {0}
-  EachReference Q (number n) = Unit {0}
-  EachReference Q (text s) = Unit {0}
-  EachReference Q (list xs) = Unit {0}
+  EachReference Q _ = Unit {0}
 
   pub InMembers : (List ℕ → Type 0) → Members → Type 0
   InMembers Q no_members = Unit {0}
@@ -46,11 +34,7 @@ abbrev mutual
 
   pub InProperties : (List ℕ → Type 0) → Json → Type 0
   InProperties Q (map ps) = InEach Q ps
-  InProperties Q null = Unit {0}
-  InProperties Q (boolean b) = Unit {0}
-  InProperties Q (number n) = Unit {0}
-  InProperties Q (text s) = Unit {0}
-  InProperties Q (list xs) = Unit {0}
+  InProperties Q _ = Unit {0}
 
   pub InEach : (List ℕ → Type 0) → Members → Type 0
   InEach Q no_members = Unit {0}
@@ -58,11 +42,7 @@ abbrev mutual
 
   pub InSchemas : (List ℕ → Type 0) → Json → Type 0
   InSchemas Q (list xs) = InItems Q xs
-  InSchemas Q null = Unit {0}
-  InSchemas Q (boolean b) = Unit {0}
-  InSchemas Q (number n) = Unit {0}
-  InSchemas Q (text s) = Unit {0}
-  InSchemas Q (map ms) = Unit {0}
+  InSchemas Q _ = Unit {0}
 
   pub InItems : (List ℕ → Type 0) → Items → Type 0
   InItems Q no_items = Unit {0}

@@ -6,7 +6,8 @@ use Rattle.std.specs.List.Sorted.{IsStrictlySortedBy}
 use Rattle.std.proofs.lemmas.Map.Text.{is_eq-slice_cmp}
 use Rattle.std.proofs.lemmas.Option.{none-some, same_Some}
 use Rattle.acceptance.specs.Json.{Json}
-use Rattle.acceptance.specs.Acceptance.{accepts_with, component_schema, component_accepts, if_component, accepts, Accepts}
+use Rattle.acceptance.specs.Json as json
+use Rattle.acceptance.specs.Acceptance.{accepts_with, component_schema, component_accepts, accepts, Accepts}
 use Rattle.acceptance.specs.References.{EachReference}
 use Rattle.texts.specs.Names.{is_in, IsDistinct}
 use Rattle.schema_trees.specs.declared.tree.RefLeaf.{RefLeaf}
@@ -46,10 +47,10 @@ reference-accepts forms doc name annotations s v e = (there, back)
 
     there : Accepts doc (form reference) v → Accepts doc s v
     there (zero, h) = let never : IsTrue false = subst IsTrue (at zero) h in cc
-    there (suc depth, h) = (depth, subst IsTrue (at (suc depth) ∙ (λ i. if_component (e i) (λ t. accepts_with (component_accepts doc depth) t v))) h)
+    there (suc depth, h) = (depth, subst IsTrue (at (suc depth) ∙ (λ i. json.there (e i) (λ t. accepts_with (component_accepts doc depth) t v))) h)
 
     back : Accepts doc s v → Accepts doc (form reference) v
-    back a = (suc a.0, subst IsTrue (sym (at (suc a.0) ∙ (λ i. if_component (e i) (λ t. accepts_with (component_accepts doc a.0) t v)))) a.1)
+    back a = (suc a.0, subst IsTrue (sym (at (suc a.0) ∙ (λ i. json.there (e i) (λ t. accepts_with (component_accepts doc a.0) t v)))) a.1)
 
 -- each reference has its component where the leaves of each component's schema name components
 pub references-found : FormsRefer → DocumentsHold → (cs : List Entry) → IsInOrder (entry_names cs) →

@@ -9,14 +9,14 @@ use Rattle.schema_trees.specs.Schema.{SchemaOf, leaf, bind}
 use Rattle.schema_core.specs.Form.{form}
 use Rattle.schema_core.specs.Document.{Entry, document}
 use Rattle.schema_core.specs.Entries.{find, entry_names, IsInOrder}
-use Rattle.open_types.specs.Open.{Open}
+use Rattle.open_types.specs.Open.{Open, named, no_types}
 use Rattle.component.specs.Places.{inside, place}
 use Rattle.shapes.specs.Declarations.{DeclarationOf, AreApartBodies}
 use Rattle.shapes.specs.Shape.{type_shape}
 use Rattle.shapes.specs.Plain.{IsPlainType}
 use Rattle.terms.specs.InstanceTerms.{instance_term}
 use Rattle.shapes.specs.InstanceNames.{instance_name}
-use Rattle.shapes.specs.InstanceShape.{shape, HasShape, IsPlain, IsReachable}
+use Rattle.shapes.specs.InstanceShape.{shape, HasShape, IsPlain, IsRoot, IsReachable}
 use Rattle.inlining.specs.Inlining.{IsAtMost}
 use Rattle.closing.specs.Closed.{most_inlined}
 use Rattle.instances.specs.Lists.{IsOneOf, AreInstances}
@@ -45,10 +45,12 @@ pub record AreComponents (ss : List DeclarationOf) (all : Bool) (components : Li
 abbrev pub HasComponent : Json → List ℕ → Type 0
 HasComponent doc name = IsTrue (is_some (component_schema doc name))
 
--- Each component and each reference has its entry, each name is that of a component, and the component of each plain reachable instance accepts exactly what has its shape.
+-- Each root and each reference has its component, and where all are collected each reachable instance; each name is that of a
+-- reachable instance, and the component of each plain reachable instance accepts exactly what has its shape.
 pub record Describes (ss : List DeclarationOf) (all : Bool) (doc : Json) : Type 0 where
-  pub components : (t : Open) → IsComponent ss all t → HasComponent doc (instance_name ss t)
-  pub only : (name : List ℕ) → HasComponent doc name → (t : Open) × IsComponent ss all t × (name ≡ instance_name ss t)
+  pub roots : (d : ℕ) → IsRoot ss d → HasComponent doc (instance_name ss (named d no_types))
+  pub collected : IsTrue all → (t : Open) → IsReachable ss t → HasComponent doc (instance_name ss t)
+  pub only : (name : List ℕ) → HasComponent doc name → (t : Open) × IsReachable ss t × (name ≡ instance_name ss t)
   pub references : (name : List ℕ) (s : Json) → component_schema doc name ≡ Some s → EachReference (HasComponent doc) s
   pub accepts : (t : Open) → IsReachable ss t → IsPlain ss t → (s v : Json) → component_schema doc (instance_name ss t) ≡ Some s → Accepts doc s v ↔ HasShape ss t v
 

@@ -1,10 +1,9 @@
 //! The schemas of instances, in which those of others stand.
 
-ghost use Rattle.std.specs.Prelude.{◌≡◌, ◌<◌, ℕ, length, map, IfOk};
+ghost use Rattle.std.specs.Prelude.{◌≡◌, ◌<◌, length, map, IfOk};
 ghost use Rattle.schema_trees.specs.Schema.{schema_view, leaf};
 ghost use Rattle.open_types.specs.Open.{open_view};
 ghost use Rattle.component.specs.Leaves.{term_view};
-ghost use Rattle.shapes.specs.Declarations.{DeclarationOf};
 ghost use Rattle.shapes.specs.InstanceNames.{instance_name};
 ghost use Rattle.shapes.specs.Views.{declaration_view};
 ghost use Rattle.inlining.specs.Inlining.{IsOrder};

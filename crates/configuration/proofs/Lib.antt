@@ -3,4 +3,5 @@ pub mod FormLaws
 pub mod OneLaws
 pub mod RefusalLaws
 pub mod RowLaws
+pub mod SaidLaws
 pub mod TypeLaws

@@ -67,9 +67,8 @@ pub record IsRow (value : Data) (row : RenameRow) : Type 0 where
 -- each of the items says one of the rows, in order
 abbrev pub AreRows : Items → List RenameRow → Type 0
 AreRows no_items [] = Unit {0}
-AreRows no_items (row ∷ rows) = ⊥
-AreRows (item value items) [] = ⊥
 AreRows (item value items) (row ∷ rows) = IsRow value row × AreRows items rows
+AreRows _ _ = ⊥
 
 abbrev pub IsRenames : Data → List RenameRow → Type 0
 IsRenames (array items) rows = AreRows items rows
@@ -81,21 +80,30 @@ IsRenames _ rows = ⊥
 abbrev pub IsTypeText : List ℕ → Written → Type 0
 IsTypeText text t = ReadsType text t × ((span : Span) → ¬ (TypeNestsTooDeep text span))
 
--- the value is a text of this type
-abbrev pub SaysType : Data → Written → Type 0
-SaysType (string text) t = IsTypeText text t
-SaysType _ t = ⊥
+-- the value is a text that reads as this type, where `Reads` says which texts do
+abbrev pub SaysTypeBy : (Reads : List ℕ → Written → Type 0) → Data → Written → Type 0
+SaysTypeBy Reads (string text) t = Reads text t
+SaysTypeBy Reads _ t = ⊥
 
 -- each of the members says one of the aliases, in order: its name, and as its value the type
+abbrev pub AreMembersBy : (Reads : List ℕ → Written → Type 0) → Members → List Alias → Type 0
+AreMembersBy Reads no_members [] = Unit {0}
+AreMembersBy Reads (member name value ms) (a ∷ rest) = (a.name ≡ name) × SaysTypeBy Reads value a.of × AreMembersBy Reads ms rest
+AreMembersBy Reads _ _ = ⊥
+
+abbrev pub AreAliasesBy : (Reads : List ℕ → Written → Type 0) → Data → List Alias → Type 0
+AreAliasesBy Reads (object ms) aliases = AreMembersBy Reads ms aliases
+AreAliasesBy Reads _ aliases = ⊥
+
+-- the same, where texts that nest too deep are no types
+abbrev pub SaysType : Data → Written → Type 0
+SaysType value t = SaysTypeBy IsTypeText value t
+
 abbrev pub AreMembers : Members → List Alias → Type 0
-AreMembers no_members [] = Unit {0}
-AreMembers no_members (a ∷ rest) = ⊥
-AreMembers (member name value ms) [] = ⊥
-AreMembers (member name value ms) (a ∷ rest) = (a.name ≡ name) × SaysType value a.of × AreMembers ms rest
+AreMembers ms aliases = AreMembersBy IsTypeText ms aliases
 
 abbrev pub AreAliases : Data → List Alias → Type 0
-AreAliases (object ms) aliases = AreMembers ms aliases
-AreAliases _ aliases = ⊥
+AreAliases value aliases = AreAliasesBy IsTypeText value aliases
 
 -- the members' values are texts, of types or not
 abbrev pub AreTexts : Members → Type 0
@@ -139,10 +147,18 @@ pub record SaysOthers (value : Data) (c : Configuration) : Type 0 where
   pub empty : KeepsEmpty value
 
 -- the member `aliases` says these, or is absent and there are none
-abbrev pub SaysAliases : Data → List Alias → Type 0
-SaysAliases value aliases = SaysOrDefault AreAliases [] (get (codes "aliases") value) aliases
+abbrev pub SaysAliasesBy : (Reads : List ℕ → Written → Type 0) → Data → List Alias → Type 0
+SaysAliasesBy Reads value aliases = SaysOrDefault (AreAliasesBy Reads) [] (get (codes "aliases") value) aliases
 
--- the value says this configuration, of which no 33 aliases stand in each other
+abbrev pub SaysAliases : Data → List Alias → Type 0
+SaysAliases value aliases = SaysAliasesBy IsTypeText value aliases
+
+-- the value says this configuration
+pub record SaysConfiguration (value : Data) (c : Configuration) : Type 0 where
+  pub others : SaysOthers value c
+  pub aliases : SaysAliasesBy ReadsType value c.aliases
+
+-- the value says this configuration, of whose aliases no text nests too deep and no 33 stand in each other
 pub record IsConfiguration (value : Data) (c : Configuration) : Type 0 where
   pub others : SaysOthers value c
   pub aliases : SaysAliases value c.aliases
@@ -154,11 +170,17 @@ pub record IsJson (bytes : List ℕ) (value : Data) : Type 0 where
   pub utf8 : IsUtf8 bytes
   pub reads : read bytes ≡ Some value
 
--- a text that says this configuration
-pub record IsConfigurationText (bytes : List ℕ) (c : Configuration) : Type 0 where
+-- a text whose value says this configuration, where `Says` tells which values do
+pub record IsTextBy (Says : Data → Configuration → Type 0) (bytes : List ℕ) (c : Configuration) : Type 0 where
   pub value : Data
   pub json : IsJson bytes value
-  pub says : IsConfiguration value c
+  pub says : Says value c
+
+abbrev pub SaysInText : List ℕ → Configuration → Type 0
+SaysInText bytes c = IsTextBy SaysConfiguration bytes c
+
+abbrev pub IsConfigurationText : List ℕ → Configuration → Type 0
+IsConfigurationText bytes c = IsTextBy IsConfiguration bytes c
 
 -- ---- refusals
 

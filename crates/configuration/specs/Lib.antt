@@ -2,4 +2,5 @@ pub mod Configuration
 pub mod Aliases
 pub mod Stored
 pub mod Form
+pub mod Said
 pub mod proved

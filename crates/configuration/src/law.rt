@@ -1,7 +1,14 @@
+//! Laws of the definitions that contracts cite.
+
 ghost use Rattle.std.specs.Prelude.{◌≡◌, ℕ, List};
 ghost use Rattle.serde_json.specs.Data.{Data};
+ghost use Rattle.diag.specs.Diagnostics.{HasFirst};
+ghost use Rattle.diag.specs.declared.diagnostics.DiangosticsInner.{DiangosticsInner};
+ghost use Rattle.diag.specs.declared.error.DeriveError.TheVariants as error;
+ghost use Rattle.diag.specs.declared.kind.Kind.{Kind};
 ghost use Rattle.configuration.specs.Configuration.{Configuration};
-ghost use Rattle.configuration.specs.Form.{IsConfiguration, IsConfigurationText};
+ghost use Rattle.configuration.specs.Form.{IsConfiguration, IsConfigurationText, IsRefusedText, SaysInText};
+ghost use Rattle.configuration.specs.Said.{HaveFault};
 
 use diag::rules_have_own_names;
 use type_grammar::one_type_reading;
@@ -16,3 +23,16 @@ pub fn configurations_are_one()
     rules_have_own_names();
     one_type_reading();
 }
+
+/// A text of a configuration says it, whatever is judged beside.
+pub fn configurations_are_said()
+    ensures { (bytes : List ℕ) (c : Configuration) → IsConfigurationText bytes c
+        → SaysInText bytes c }
+{}
+
+/// Bytes that are refused with a kind have the fault of this kind.
+pub fn refused_texts_have_faults()
+    ensures { (kind : Kind) (ds : List DiangosticsInner) (bytes : List ℕ)
+        → HasFirst ds (λ d. d.kind ≡ kind) → IsRefusedText bytes (error.Refused ds)
+        → HaveFault kind bytes }
+{}

@@ -13,4 +13,4 @@ mod targets;
 
 pub use collect::SchemaCollect;
 pub use config::{Config, bad_config};
-pub use law::configurations_are_one;
+pub use law::{configurations_are_one, configurations_are_said, refused_texts_have_faults};

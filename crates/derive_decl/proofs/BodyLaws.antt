@@ -1,5 +1,5 @@
 -- What bodies are resolved to, by the tests that the program makes before.
-use Rattle.std.proofs.Common.{◌≡◌, ◌∙◌, List, Option, Some, None, Result, IfOk, is_none, true, false, cond, ap}
+use Rattle.std.proofs.Common.{◌≡◌, ◌∙◌, List, Some, None, Result, IfOk, is_none, true, false, cond, ap}
 use Rattle.std.proofs.lemmas.Result.{IfOk-weaker}
 use Rattle.diag.specs.declared.error.DeriveError.{DeriveError}
 use Rattle.attributes.specs.Attributes.{AttributeItem, serde_items}

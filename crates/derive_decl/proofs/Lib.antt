@@ -15,3 +15,4 @@ pub mod Exact
 pub mod Apart
 pub mod BodyLaws
 pub mod Rowless
+pub mod Meant

@@ -1,5 +1,5 @@
 -- What is known in a declaration that stands at a place.
-use Rattle.std.proofs.Common.{◌≡◌, ◌∙◌, ◌<◌, ℕ, List, length, get_or, ap}
+use Rattle.std.proofs.Common.{◌≡◌, ◌∙◌, ◌<◌, ℕ, length, get_or, ap}
 use Rattle.configuration.specs.Configuration.{Configuration}
 use Rattle.syntax.specs.declared.item.Declaration.{Declaration}
 use Rattle.syntax.specs.declared.item.Declarations.{Declarations}

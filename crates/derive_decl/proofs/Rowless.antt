@@ -36,7 +36,7 @@ use Rattle.derive_decl.specs.Fields.{FieldRules, field_rules}
 use Rattle.derive_decl.specs.Variants.{tagging_by}
 use Rattle.derive_decl.specs.Resolved.{Around, around_of}
 use Rattle.derive_decl.specs.Tags.{IsMisplacedTag}
-use Rattle.derive_decl.specs.Faults.{IsFaultyType, IsFaultyName, IsFaultyMember, AreFaultyFields, IsFaultyTagging, IsUnnamed, IsFaultyTag, IsFaultyVariant, AreFaultyVariants, IsFaultyEnum, IsFaultyBody, IsFaultyItem, AreFaultyItems}
+use Rattle.derive_decl.specs.Faults.{IsFaultyType, IsFaultyName, IsFaultyMember, AreFaultyFields, IsFaultyTagging, IsUnnamed, IsFaultyTag, IsFaultyVariant, AreFaultyVariants, IsFaultyEnum, IsFaultyBody, IsFaultyItem}
 use Rattle.derive_decl.specs.Law.{IsMissingRow, IsRowlessDerived, ItemsLookUpRows, DeclarationsLookUpRows}
 
 -- ---- lists of which some item has a fact

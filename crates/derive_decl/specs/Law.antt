@@ -21,7 +21,7 @@ use Rattle.serde_names.specs.Asked.{IsRowlessItem}
 use Rattle.derive_decl.specs.Attributed.{first_other, attributes_in}
 use Rattle.derive_decl.specs.Resolved.{Around, form_of, units_of, mixed_of, plain_body, mixed_body, body_of, derived_body, resolved_of}
 use Rattle.derive_decl.specs.Faults.{AreFaultyFields, AreUnnamed, AreFaultyVariants, IsFaultyPlain, IsFaultyEnum, IsFaultyBody, IsFaultyDeclaration, IsFaultyItem, AreFaultyItems}
-use Rattle.derive_decl.specs.Whole.{resolved_declarations}
+use Rattle.derive_decl.specs.Whole.{resolved_declarations, meant_declarations}
 
 -- there is a value exactly where no error refuses
 abbrev pub IsExact : {A : Type 0} → Option A → (DeriveError → Type 0) → Type 0
@@ -106,3 +106,9 @@ ItemsLookUpRows = (around : Around) (d : DeclaredItem) (e : DeriveError) → (Is
 
 abbrev pub DeclarationsLookUpRows : Type 0
 DeclarationsLookUpRows = (c : Configuration) (ds : List DeclaredItem) (e : DeriveError) → (AreFaultyItems c ds e × IsMissingRow e) ↔ Somewhere (λ d. IsRowlessDerived c.renames d e) ds
+
+-- ---- what is meant
+
+-- What declarations are resolved to is what they mean.
+abbrev pub ResolvedIsMeant : Type 0
+ResolvedIsMeant = (c : Configuration) (ds : List DeclaredItem) (ss : List DeclarationOf) → resolved_declarations c ds ≡ Some ss → meant_declarations c ds ≡ Some ss

@@ -9,7 +9,7 @@ use Rattle.attributes.specs.declared.serde_item.SerdeItem.{SerdeItem}
 use Rattle.serde_rules.specs.declared.enum_repr.SerdeEnumRepr.{SerdeEnumRepr}
 use Rattle.serde_rules.specs.declared.enum_repr.SerdeEnumRepr.TheVariants as serde
 use Rattle.serde_rules.specs.Container.{TagFault, representation}
-use Rattle.syntax.specs.Items.{FieldItems, named, unnamed, unit, VariantItem}
+use Rattle.syntax.specs.Items.{FieldItems, unit, VariantItem}
 use Rattle.scopes.specs.Names.{are_distinct}
 use Rattle.shapes.specs.declared.tagging.Tagging.{Tagging}
 use Rattle.shapes.specs.declared.tagging.Tagging.TheVariants.{External, Internal, Adjacent, Untagged}
@@ -34,9 +34,8 @@ abbrev pub tagging_in : List SerdeItem → Option Tagging
 tagging_in items = tagging_by (representation items)
 
 abbrev pub is_unit : FieldItems → Bool
-is_unit (named fs) = false
-is_unit (unnamed fs) = false
 is_unit unit = true
+is_unit _ = false
 
 -- no variant has braces or parentheses, even empty ones; skipped variants count too
 abbrev pub are_units : List VariantItem → Bool
@@ -45,9 +44,7 @@ are_units vs = list_all (λ v. is_unit v.fields) vs
 -- the name of a variant in JSON, by the enum's rule; that of an untagged enum stands nowhere, so it needs no row
 abbrev pub variant_name : List RenameRow → Option RenameRule → Tagging → VariantItem → Option (List ℕ)
 variant_name rows rule Untagged v = Some v.ident.text
-variant_name rows rule External v = name_by Variant rows rule (value_of_variant v) v.ident
-variant_name rows rule (Internal tag) v = name_by Variant rows rule (value_of_variant v) v.ident
-variant_name rows rule (Adjacent tag content) v = name_by Variant rows rule (value_of_variant v) v.ident
+variant_name rows rule _ v = name_by Variant rows rule (value_of_variant v) v.ident
 
 -- no two of these names are equal, where names tell variants apart
 abbrev pub are_told : Tagging → List (List ℕ) → Bool

@@ -1,6 +1,6 @@
 //! What rests on the definitions alone: laws that callers rely on, as contracts of functions that do nothing.
 
-ghost use Rattle.derive_decl.specs.Law.{FormsAreExact, UnitsAreExact, VariantsAreExact, PlainAreExact, MixedAreExact, BodiesAreExact, DerivedAreExact, ItemsAreExact, DeclarationsAreExact, FormsAreApart, UnitsAreApart, VariantsAreApart, PlainAreApart, MixedAreApart, BodiesAreApart, ItemsAreApart, DeclarationsAreApart, ItemsLookUpRows, DeclarationsLookUpRows};
+ghost use Rattle.derive_decl.specs.Law.{FormsAreExact, UnitsAreExact, VariantsAreExact, PlainAreExact, MixedAreExact, BodiesAreExact, DerivedAreExact, ItemsAreExact, DeclarationsAreExact, FormsAreApart, UnitsAreApart, VariantsAreApart, PlainAreApart, MixedAreApart, BodiesAreApart, ItemsAreApart, DeclarationsAreApart, ItemsLookUpRows, DeclarationsLookUpRows, ResolvedIsMeant};
 
 use scopes::names_repeat_or_not;
 use serde_rules::container_rules_are_one;
@@ -41,4 +41,9 @@ pub fn resolved_are_apart()
 pub fn rows_are_looked_up()
     ensures items { ItemsLookUpRows }
     ensures declarations { DeclarationsLookUpRows }
+{}
+
+/// What declarations are resolved to is what they mean.
+pub fn resolved_is_meant()
+    ensures { ResolvedIsMeant }
 {}

@@ -24,7 +24,7 @@ pub use annotations::annotations_of;
 pub use attributed::only_derivable;
 pub use bodies::resolve_body;
 pub use enums::{enum_body, mixed_body, plain_body};
-pub use law::{resolution_is_exact, resolved_are_apart, rows_are_looked_up};
+pub use law::{resolution_is_exact, resolved_are_apart, resolved_is_meant, rows_are_looked_up};
 pub use named_fields::named_form;
 pub use parameters::distinct_parameters;
 pub use root::Root;

@@ -68,9 +68,8 @@ abbrev mutual
   expanded_list known standing at (more_arguments a rest) = more_arguments (expanded_argument known standing at a) (expanded_list known standing at rest)
 
   pub expanded_argument : Known → Standing → Option Span → Argument → Argument
-  expanded_argument known standing at (lifetime_argument x) = lifetime_argument x
-  expanded_argument known standing at (constant_argument ts) = constant_argument ts
   expanded_argument known standing at (type_argument t) = type_argument (cond (is_constant_type known t) t (expanded known standing at t))
+  expanded_argument known standing at a = a
 
   pub expanded_types : Known → Standing → Option Span → Writtens → Writtens
   expanded_types known standing at no_types = no_types

@@ -32,9 +32,8 @@ abbrev mutual
   arguments_hold_bad (more_arguments a rest) = argument_holds_bad a || arguments_hold_bad rest
 
   pub argument_holds_bad : Argument → Bool
-  argument_holds_bad (lifetime_argument x) = false
-  argument_holds_bad (constant_argument ts) = false
   argument_holds_bad (type_argument t) = holds_bad t
+  argument_holds_bad _ = false
 
 abbrev pub is_declared : Meaning → Bool
 is_declared (meanings.Declared d) = true

@@ -8,18 +8,15 @@ use Rattle.resolving.specs.Known.{Known}
 -- the free object stands in the type, at any depth
 abbrev mutual
   pub holds_free : Open → Bool
-  holds_free (types.leaf x) = false
-  holds_free types.any_value = false
   holds_free types.free_object = true
-  holds_free types.unit = false
   holds_free (types.tuple ts) = hold_free ts
   holds_free (types.items h t) = holds_free t
   holds_free (types.set h t) = holds_free t
   holds_free (types.map_of h k t) = holds_free k || holds_free t
   holds_free (types.option t) = holds_free t
   holds_free (types.through h t) = holds_free t
-  holds_free (types.param i) = false
   holds_free (types.named d ts) = hold_free ts
+  holds_free _ = false
 
   pub hold_free : Opens → Bool
   hold_free types.no_types = false

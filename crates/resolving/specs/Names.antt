@@ -29,11 +29,7 @@ constant_path known (path_of false ss s) = constant_segments known ss
 -- one identifier that names a constant parameter
 abbrev pub is_constant_type : Known → Written → Bool
 is_constant_type known (path p) = constant_path known p
-is_constant_type known (reference t) = false
-is_constant_type known (tuple ts s) = false
-is_constant_type known (slice t s) = false
-is_constant_type known (array t s) = false
-is_constant_type known (trait_object p s) = false
+is_constant_type known _ = false
 
 -- the types among the arguments: lifetimes and constants are left away
 abbrev pub types_of : Known → Arguments → List Written
@@ -119,9 +115,8 @@ abbrev mutual
   arguments_size known (more_arguments a rest) = argument_size known a + arguments_size known rest
 
   pub argument_size : Known → Argument → ℕ
-  argument_size known (lifetime_argument x) = 0
-  argument_size known (constant_argument ts) = 0
   argument_size known (type_argument t) = cond (is_constant_type known t) 0 (size known t)
+  argument_size known _ = 0
 
   pub sizes : Known → Writtens → ℕ
   sizes known no_types = 0

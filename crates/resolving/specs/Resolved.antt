@@ -30,10 +30,8 @@ small_list (types.items lists.Array t) = Some (types.items lists.SmallVec t)
 small_list _ = None
 
 abbrev pub list_of : ListHead → Open → Option Open
-list_of lists.Vec t = Some (types.items lists.Vec t)
-list_of lists.LinkedList t = Some (types.items lists.LinkedList t)
 list_of lists.SmallVec t = small_list t
-list_of lists.Array t = Some (types.items lists.Array t)
+list_of h t = Some (types.items h t)
 
 abbrev pub of_one : Head → Open → Option Open
 of_one (heads.List h) t = list_of h t
@@ -43,11 +41,8 @@ of_one heads.Option t = Some (types.option t)
 of_one (heads.Through h) t = Some (types.through h t)
 
 abbrev pub of_two : Head → Open → Open → Option Open
-of_two (heads.List h) k t = None
-of_two (heads.Set h) k t = None
 of_two (heads.Map h) k t = Some (types.map_of h k t)
-of_two heads.Option k t = None
-of_two (heads.Through h) k t = None
+of_two _ k t = None
 
 -- a container of its type arguments
 abbrev pub contained : Head → Opens → Option Open

@@ -1,11 +1,15 @@
 -- What follows from what a run owes.
-use Rattle.std.proofs.Common.{ℕ, List, IsTrue, Option, Some, ◌≡◌, ◌≢◌, ◌⊎◌, inl, inr, refl, subst}
+use Rattle.std.proofs.Common.{ℕ, List, IsTrue, Option, Some, None, ◌≡◌, ◌≢◌, ◌⊎◌, inl, inr, refl, subst}
 use Rattle.std.specs.Io.KnownBytes.{Appends}
 use Rattle.diag.specs.declared.error.DeriveError.TheVariants as error
 use Rattle.diag.specs.declared.kind.Kind.{Kind}
 use Rattle.acceptance.specs.Json.{Json}
 use Rattle.schema_core.specs.Document.{document, text_of}
+use Rattle.configuration.specs.Configuration.{Configuration}
+use Rattle.configuration.specs.Form.{IsConfigurationText, SaysInText}
+use Rattle.configuration.specs.Said.{is_of_configuration}
 use Rattle.shapes.specs.Declarations.{DeclarationOf}
+use Rattle.derive_decl.specs.Law.{ResolvedIsMeant}
 use Rattle.closing.specs.Described.{Describes}
 use Rattle.compose.specs.Bounds.{collects_all}
 use Rattle.reporting.specs.Beginning.{Beginning}
@@ -14,38 +18,44 @@ use Rattle.reporting.specs.Program.{IsRefusedRun, IsRefusedGiven, IsReportOf}
 use Rattle.reporting.specs.declared.status.Status.{Status}
 use Rattle.reporting.specs.declared.status.Status.TheVariants.{Done, Refused, Usage, ReadFault, WriteFault, Memory, FileFault}
 use Rattle.schema_gen.specs.Derived.{IsDocument}
-use Rattle.schema_gen.specs.Given.{Given, IsMisconfigured, IsMisconfiguredBy, is_of_configuration, IsGiven, ResolvesTo}
+use Rattle.schema_gen.specs.Given.{Given, IsConfiguredBy, IsConfigured, IsMisconfigured, IsMisconfiguredBy, IsGivenBy, ResolvesTo}
 use Rattle.schema_gen.specs.Owed.{schema_gen, IsReported, Owed}
-use Rattle.schema_gen.proofs.Misconfigured.{file_fault}
+use Rattle.schema_gen.proofs.Misconfigured.{RefusedHaveFaults, file_fault}
 use Rattle.schema_gen.proofs.OtherKinds.{no_configuration}
 use Rattle.schema_gen.proofs.Told.{misconfigured}
 
+-- what a file says, whatever is judged beside
+said_config : ((bytes : List ℕ) (c : Configuration) → IsConfigurationText bytes c → SaysInText bytes c) → (begun : Beginning) (c : Configuration) → IsConfigured begun c → IsConfiguredBy SaysInText begun c
+said_config said begun c (None, form, is) = (None, form, is)
+said_config said begun c (Some path, form, (bytes, at, is)) = (Some path, form, (bytes, at, said bytes c is))
+
 -- the document of what is given describes what it is resolved to
-pub described : (begun : Beginning) (text : List ℕ) (old new : Option (List ℕ)) → IsDocument begun text → Appends old new text
-    → (given : Given) × (resolved : List DeclarationOf) × (doc : Json) × IsGiven begun given × ResolvesTo given resolved × Describes resolved (collects_all given.config.collect) doc × Appends old new (text_of doc)
-described begun text old new (given, is_given, of) grown = (
+pub described : ((bytes : List ℕ) (c : Configuration) → IsConfigurationText bytes c → SaysInText bytes c) → ResolvedIsMeant
+    → (begun : Beginning) (text : List ℕ) (old new : Option (List ℕ)) → IsDocument begun text → Appends old new text
+    → (given : Given) × (resolved : List DeclarationOf) × (doc : Json) × IsGivenBy SaysInText begun given × ResolvesTo given resolved × Describes resolved (collects_all given.config.collect) doc × Appends old new (text_of doc)
+described said meant begun text old new (given, is_given, of) grown = (
   given,
   of.made.derived.resolved,
   document of.components,
-  is_given,
-  record { declarations = of.made.declarations; read = of.made.read; resolves = of.made.derived.resolves },
+  record { config = said_config said begun given.config is_given.config; text = is_given.text },
+  record { declarations = of.made.declarations; read = of.made.read; resolves = meant given.config of.made.declarations of.made.derived.resolved of.made.derived.resolves },
   of.describes,
   subst (Appends old new) of.text_is grown,
 )
 
-module _ (begun : Beginning) where
-  -- no source is refused with a kind of configurations
-  pub other_kind : (kind : Kind) → IsTrue (is_of_configuration kind) → (line : List ℕ) → IsReportOf (IsRefusedGiven schema_gen begun) kind line → ⊥
-  other_kind kind own line reported =
-      let cause = reported.cause in
-      no_configuration kind own reported.diagnostics reported.kind_is cause.0.config cause.0.text cause.2
+-- no source is refused with a kind of configurations
+pub other_kind : (begun : Beginning) (kind : Kind) → IsTrue (is_of_configuration kind) → (line : List ℕ) → IsReportOf (IsRefusedGiven schema_gen begun) kind line → ⊥
+other_kind begun kind own line reported =
+    let cause = reported.cause in
+    no_configuration kind own reported.diagnostics reported.kind_is cause.0.config cause.0.text cause.2
 
+module _ (faults : RefusedHaveFaults) (begun : Beginning) where
   -- what refuses with such a kind is the file
   pub bad_config_cause : (kind : Kind) → IsTrue (is_of_configuration kind) → (line : List ℕ) → IsReported begun kind line → IsMisconfiguredBy kind begun
   bad_config_cause kind own line reported = by reported.cause
     where
       by : IsRefusedRun schema_gen begun (error.Refused reported.diagnostics) → IsMisconfiguredBy kind begun
-      by (inl file) = file_fault kind reported.diagnostics reported.kind_is begun file
+      by (inl file) = file_fault faults kind reported.diagnostics reported.kind_is begun file
       by (inr (given, is_given, refused)) = absurd (no_configuration kind own reported.diagnostics reported.kind_is given.config given.text refused)
 
   -- a file that says no configuration is refused for what it holds
@@ -53,7 +63,7 @@ module _ (begun : Beginning) where
   only_cause told file kind line reported = by reported.cause
     where
       by : IsRefusedRun schema_gen begun (error.Refused reported.diagnostics) → IsMisconfiguredBy kind begun
-      by (inl other) = file_fault kind reported.diagnostics reported.kind_is begun other
+      by (inl other) = file_fault faults kind reported.diagnostics reported.kind_is begun other
       by (inr (given, is_given, refused)) = absurd (misconfigured begun told file given.config is_given.config)
 
   pub only_bad_owed : IsTrue begun.tells → IsMisconfigured begun → (status : Status) → (status ≢ WriteFault → (text : List ℕ) × (report : List ℕ) × Owed begun status text report)

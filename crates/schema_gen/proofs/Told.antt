@@ -9,7 +9,8 @@ use Rattle.compose.specs.Faults.{ComponentsAreOne}
 use Rattle.reporting.specs.Beginning.{Beginning}
 use Rattle.reporting.specs.Program.{IsRefusedRun}
 use Rattle.schema_gen.specs.Derived.{IsDocument, IsDocumentOf}
-use Rattle.schema_gen.specs.Given.{Given, IsSaid, IsConfigured, IsMisconfigured, IsGiven}
+use Rattle.configuration.specs.Said.{IsSaidBy}
+use Rattle.schema_gen.specs.Given.{Given, IsConfigured, IsMisconfigured, IsGiven}
 use Rattle.schema_gen.specs.Owed.{schema_gen, IsTold}
 use Rattle.schema_gen.specs.Refusals.{IsSound, IsRefusedSource}
 use Rattle.schema_gen.specs.Words.{IsDerive}
@@ -50,8 +51,8 @@ one_held held x y p q = cc
 
 module _ (begun : Beginning) where
   -- what the words name at a path is said there
-  said_at : (path : List ℕ) → IsDerive begun.words (Some path) → (c : Configuration) → IsConfigured begun c → IsSaid begun (Some path) c
-  said_at path derive c (p, form, said) = subst (λ o. IsSaid begun o c) (one_path begun.words p (Some path) form derive) said
+  said_at : (path : List ℕ) → IsDerive begun.words (Some path) → (c : Configuration) → IsConfigured begun c → IsSaidBy IsConfigurationText begun.tells begun.held (Some path) c
+  said_at path derive c (p, form, said) = subst (λ o. IsSaidBy IsConfigurationText begun.tells begun.held o c) (one_path begun.words p (Some path) form derive) said
 
   -- a file that says no configuration is the one of what is configured
   pub misconfigured : IsTrue begun.tells → IsMisconfigured begun → (c : Configuration) → IsConfigured begun c → ⊥
@@ -59,7 +60,7 @@ module _ (begun : Beginning) where
       let said = said_at path form c configured in
       none c (subst (λ b. IsConfigurationText b c) (one_held (begun.held path) said.0 bytes (said.1 told) (at told)) said.2)
 
-  one_said : OneConfiguration → (p : Option (List ℕ)) → ((path : List ℕ) → p ≡ Some path → IsTrue begun.tells) → (c d : Configuration) → IsSaid begun p c → IsSaid begun p d → c ≡ d
+  one_said : OneConfiguration → (p : Option (List ℕ)) → ((path : List ℕ) → p ≡ Some path → IsTrue begun.tells) → (c d : Configuration) → IsSaidBy IsConfigurationText begun.tells begun.held p c → IsSaidBy IsConfigurationText begun.tells begun.held p d → c ≡ d
   one_said law None told c d of_c of_d = of_c ∙ sym of_d
   one_said law (Some path) told c d (x, x_at, x_says) (y, y_at, y_says) =
       let here : IsTrue begun.tells = told path refl in
@@ -69,7 +70,7 @@ module _ (begun : Beginning) where
   one_configuration : OneConfiguration → IsTold begun → (c d : Configuration) → IsConfigured begun c → IsConfigured begun d → c ≡ d
   one_configuration law told c d (p, p_form, p_said) (q, q_form, q_said) =
       let same : q ≡ p = one_path begun.words q p q_form p_form in
-      one_said law p (λ path is. told.held path (subst (IsDerive begun.words) is p_form)) c d p_said (subst (λ o. IsSaid begun o d) same q_said)
+      one_said law p (λ path is. told.held path (subst (IsDerive begun.words) is p_form)) c d p_said (subst (λ o. IsSaidBy IsConfigurationText begun.tells begun.held o d) same q_said)
 
   -- what is told has one text
   pub one_document : OneConfiguration → ComponentsAreOne → (text other : List ℕ) → IsTold begun → IsDocument begun text → IsDocument begun other → text ≡ other

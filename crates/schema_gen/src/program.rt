@@ -6,6 +6,8 @@ ghost use Rattle.schema_core.specs.Document.{text_of};
 ghost use Rattle.streams.specs.Faults.{CountsFault};
 ghost use Rattle.streams.specs.Told.{AppendsPart};
 ghost use Rattle.configuration.specs.Configuration.{Configuration};
+ghost use Rattle.configuration.specs.Form.{SaysInText};
+ghost use Rattle.configuration.specs.Said.{is_of_configuration};
 ghost use Rattle.files.specs.Held.{IsMissing};
 ghost use Rattle.shapes.specs.Declarations.{DeclarationOf};
 ghost use Rattle.closing.specs.Described.{Describes};
@@ -13,14 +15,15 @@ ghost use Rattle.compose.specs.Bounds.{collects_all};
 ghost use Rattle.reporting.specs.Beginning.{beginning_of};
 ghost use Rattle.reporting.specs.declared.status.Status.{Status as AnyStatus};
 ghost use Rattle.schema_gen.specs.Derived.{IsDocument};
-ghost use Rattle.schema_gen.specs.Given.{Given as AnyGiven, IsGiven, IsConfigured, IsMisconfigured, IsMisconfiguredBy, is_of_configuration, ResolvesTo};
+ghost use Rattle.schema_gen.specs.Given.{Given as AnyGiven, IsGiven, IsGivenBy, IsConfigured, IsMisconfigured, IsMisconfiguredBy, ResolvesTo};
 ghost use Rattle.schema_gen.specs.Owed.{IsReported, IsTold, Owed};
 ghost use Rattle.schema_gen.specs.Refusals.{IsSound};
 ghost use Rattle.schema_gen.specs.Words.{IsDerive, HaveForm};
 
 use crate::derivation::derivation_of;
 use crate::law::sound_is_not_refused;
-use configuration::configurations_are_one;
+use configuration::{configurations_are_one, configurations_are_said, refused_texts_have_faults};
+use derive_decl::resolved_is_meant;
 use files::Files;
 use reporting::{Status, Words, run_command};
 use std::alloc::Global;
@@ -41,12 +44,12 @@ pub fn run<S: Source, F: Files, O: Sink, E: Sink>(
     out: &mut O,
     err: &mut E,
 ) -> Status
-    // The bytes that were written are one document. It describes the declarations that the source
-    // is resolved to: each root has its component, and so has each reference, there are no others,
-    // and the component of a plain instance accepts exactly the JSON that has its shape.
+    // The bytes that were written are one document. It describes the declarations of the source, as
+    // the configuration says what they mean: each root has its component, and so has each
+    // reference, and the component of a plain instance accepts exactly the JSON of its shape.
     ensures done { result ≡ Status.Done
         → (given : AnyGiven) × (resolved : List DeclarationOf) × (document : Json)
-        × IsGiven (beginning_of S.Source F.Files words.now input.old files.old) given
+        × IsGivenBy SaysInText (beginning_of S.Source F.Files words.now input.old files.old) given
         × ResolvesTo given resolved
         × Describes resolved (collects_all given.config.collect) document
         × Appends (O.written out.old) (O.written out.new) (text_of document) }
@@ -141,6 +144,9 @@ pub fn run<S: Source, F: Files, O: Sink, E: Sink>(
     ensures err_calm { result ≢ Status.WriteFault → E.faults err.new ≡ E.faults err.old }
 {
     sound_is_not_refused();
+    resolved_is_meant();
     configurations_are_one();
+    configurations_are_said();
+    refused_texts_have_faults();
     run_command(alloc, words, derivation_of(words), input, files, out, err)
 }

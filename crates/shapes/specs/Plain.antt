@@ -2,7 +2,7 @@
 use Rattle.std.specs.Prelude.{◌≡◌, ◌≢◌, List, [], ◌∷◌, false}
 use Rattle.leaves.specs.Leaves.{kind_of}
 use Rattle.leaves.specs.declared.leaf.LeafKind.TheVariants as kinds
-use Rattle.open_types.specs.Open.{Open, Opens, leaf, any_value, free_object, unit, tuple, items, set, map_of, option, through, param, named, no_types, more_types}
+use Rattle.open_types.specs.Open.{Open, Opens, leaf, any_value, free_object, tuple, items, set, map_of, option, through, named, no_types, more_types}
 use Rattle.shapes.specs.Declarations.{FormOf, named_fields, unnamed_fields, no_fields, VariantOf, BodyOf, fields, units, variants, DeclarationOf, declaration_at, form_types}
 use Rattle.shapes.specs.declared.tagging.Tagging.{Tagging}
 use Rattle.shapes.specs.declared.tagging.Tagging.TheVariants.{External, Internal, Untagged}
@@ -25,15 +25,14 @@ abbrev mutual
   IsPlainType ss (leaf x) = kind_of x ≢ kinds.Float
   IsPlainType ss any_value = Unit {0}
   IsPlainType ss free_object = Unit {0}
-  IsPlainType ss unit = ⊥
   IsPlainType ss (tuple ts) = ArePlainTypes ss ts
   IsPlainType ss (items h t) = IsPlainType ss t
   IsPlainType ss (set h t) = IsPlainType ss t
   IsPlainType ss (map_of h k t) = IsKey ss k × IsPlainType ss k × IsPlainType ss t
   IsPlainType ss (option t) = IsPlainType ss t
   IsPlainType ss (through h t) = IsPlainType ss t
-  IsPlainType ss (param i) = ⊥
   IsPlainType ss (named d ts) = ArePlainTypes ss ts
+  IsPlainType ss _ = ⊥
 
   pub ArePlainTypes : List DeclarationOf → Opens → Type 0
   ArePlainTypes ss no_types = Unit {0}
@@ -44,9 +43,8 @@ AreAllPlain ss [] = Unit {0}
 AreAllPlain ss (t ∷ ts) = IsPlainType ss t × AreAllPlain ss ts
 
 abbrev pub IsPlainForm : List DeclarationOf → FormOf → Type 0
-IsPlainForm ss (named_fields denies ms) = AreAllPlain ss (form_types (named_fields denies ms))
-IsPlainForm ss (unnamed_fields ts) = AreAllPlain ss ts
 IsPlainForm ss no_fields = ⊥
+IsPlainForm ss form = AreAllPlain ss (form_types form)
 
 -- a struct with named fields that denies no others
 abbrev pub IsOpenStruct : BodyOf → Type 0

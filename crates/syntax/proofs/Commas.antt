@@ -1,13 +1,11 @@
 -- What stands before the first comma, and from it on.
-use Rattle.std.proofs.Common.{◌≡◌, ◌∙◌, ◌+◌, ◌-◌, ◌≤◌, ℕ, zero, suc, List, [], ◌∷◌, ◌++◌, length, take, refl, ap, sym, arith, Bool, true, false, cond, is_some}
+use Rattle.std.proofs.Common.{◌≡◌, ◌∙◌, ◌+◌, ◌-◌, ◌≤◌, ℕ, zero, suc, List, [], ◌∷◌, ◌++◌, length, take, refl, ap, sym, arith, Bool, true, false, cond}
 use Rattle.std.proofs.lemmas.List.{take_at, length-append}
 use Rattle.tokens.specs.declared.token.TokenTree.{TokenTree}
 use Rattle.tokens.specs.Trees.{tree_view}
-use Rattle.words.specs.declared.vocabulary.Sign.TheVariants.{Comma}
 use Rattle.words.specs.Words.{Word, words_view, word_of}
-use Rattle.words.specs.Reading.{as_sign}
 use Rattle.words.proofs.Laws.{length_view}
-use Rattle.syntax.specs.ItemWords.{before_comma, from_comma}
+use Rattle.syntax.specs.ItemWords.{is_comma, before_comma, from_comma}
 
 parts_from : (b : Bool) (w : Word) (ws before from : List Word) → before ++ from ≡ ws → cond b [] (w ∷ before) ++ cond b (w ∷ ws) from ≡ w ∷ ws
 parts_from true w ws before from e = refl
@@ -15,7 +13,7 @@ parts_from false w ws before from e = ap (λ v. w ∷ v) e
 
 parts : (ws : List Word) → before_comma ws ++ from_comma ws ≡ ws
 parts [] = refl
-parts (w ∷ ws) = parts_from (is_some (as_sign Comma w)) w ws (before_comma ws) (from_comma ws) (parts ws)
+parts (w ∷ ws) = parts_from (is_comma w) w ws (before_comma ws) (from_comma ws) (parts ws)
 
 lengths : (ws : List Word) → length (before_comma ws) + length (from_comma ws) ≡ length ws
 lengths ws = sym (length-append (before_comma ws) (from_comma ws)) ∙ ap length (parts ws)

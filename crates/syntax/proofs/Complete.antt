@@ -1,5 +1,5 @@
 -- What is in the grammar is read, unless something nests too deep, where ty reads types, and readers types and bounds.
-use Rattle.std.proofs.Common.{◌≡◌, ◌∙◌, inl, inr, List, [], ◌∷◌, refl, ap, sym, subst, Bool, true, false, not, ◌&&◌, cond, is_some, Option, Some, None, Ok, Err}
+use Rattle.std.proofs.Common.{◌≡◌, ◌∙◌, inl, inr, List, [], ◌∷◌, refl, ap, sym, subst, Bool, true, false, not, ◌&&◌, cond, Option, Some, None, Ok, Err}
 use Rattle.std.proofs.lemmas.Bool.{cases_Bool}
 use Rattle.texts.specs.declared.span.Span.{Span}
 use Rattle.tokens.specs.declared.token.Bracket.TheVariants.{Round, Square, Curly}
@@ -14,7 +14,7 @@ use Rattle.words.specs.declared.vocabulary.Sign.{Sign}
 use Rattle.words.specs.declared.vocabulary.Sign.TheVariants as signs
 use Rattle.words.specs.declared.vocabulary.Sign.TheVariants.{Colon, Comma, Semicolon, Less, Hash, Exclamation}
 use Rattle.words.specs.Words.{Word, name, underscore, keyword, sign, lifetime, literal, doc, group, words_of}
-use Rattle.words.specs.Reading.{wrong, Read, ◌>>=◌, as_sign, as_keyword, name_at, keyword_at, sign_at, group_at}
+use Rattle.words.specs.Reading.{wrong, Read, ◌>>=◌, as_keyword, name_at, keyword_at, sign_at, group_at}
 use Rattle.type_grammar.specs.Starts.{Stops, begins_type}
 use Rattle.type_grammar.specs.Grammar.{IsType}
 use Rattle.words.specs.Lists.{IsList, list_of}
@@ -24,7 +24,7 @@ use Rattle.attributes.specs.AttributeGrammar.{IsAttributes}
 use Rattle.attributes.specs.AttributeReading.{begins_attribute}
 use Rattle.attributes.proofs.Laws.{attributes_complete}
 use Rattle.syntax.specs.Items.{FieldItem, FieldItems, named, unnamed, unit, VariantItem, ParameterItem, struct_body, enum_body, HeadItem, DeclaredItem}
-use Rattle.syntax.specs.ItemWords.{before_comma, from_comma, is_restriction}
+use Rattle.syntax.specs.ItemWords.{is_comma, before_comma, from_comma, is_restriction}
 use Rattle.syntax.specs.ItemGrammar.{IsVisibility, private, public, restricted, IsNamedField, named_field, IsUnnamedField, unnamed_field, IsFields, named_fields, unnamed_fields, no_fields, IsStructBody, in_braces, in_parentheses, fieldless, IsDiscriminant, no_discriminant, discriminant, IsVariant, variant_item, IsUse, use_line, IsStruct, struct_item, IsEnumBody, variants_in_braces, IsEnum, enum_item, IsDeclaration, structure, enumeration, IsItems, nothing, used, declared, IsSource, inner_doc, inner_attribute, items}
 use Rattle.syntax.specs.Generics.{IsWhere, no_where, where_clause}
 use Rattle.syntax.specs.GenericReading.{Readers, generics_at, after_where}
@@ -53,11 +53,11 @@ begins_no_pub (literal t) e = refl
 begins_no_pub (doc t) e = refl
 begins_no_pub (group b ts s) e = refl
 
-no_type_sign : (k : Sign) (s : Span) → begins_type (sign k s) ≡ true → is_some (as_sign Comma (sign k s)) ≡ false
+no_type_sign : (k : Sign) (s : Span) → begins_type (sign k s) ≡ true → is_comma (sign k s) ≡ false
 no_type_sign signs.Comma s e = cc
 no_type_sign _ s e = refl
 
-begins_no_comma : (w : Word) → begins_type w ≡ true → is_some (as_sign Comma w) ≡ false
+begins_no_comma : (w : Word) → begins_type w ≡ true → is_comma w ≡ false
 begins_no_comma (name x) e = refl
 begins_no_comma (underscore x) e = refl
 begins_no_comma (keyword k x) e = refl

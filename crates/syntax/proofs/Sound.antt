@@ -1,5 +1,5 @@
 -- What readers of items that went well have read, where ty reads types.
-use Rattle.std.proofs.Common.{◌≡◌, ◌∙◌, ℕ, zero, suc, ◌<◌, ◌≤◌, List, [], ◌∷◌, ◌++◌, length, refl, ap, sym, subst, arith, Bool, true, false, cond, is_some, Option, Some, None, Result, Ok, Err}
+use Rattle.std.proofs.Common.{◌≡◌, ◌∙◌, ℕ, zero, suc, ◌<◌, ◌≤◌, List, [], ◌∷◌, ◌++◌, length, refl, ap, sym, subst, arith, Bool, true, false, cond, Option, Some, None, Result, Ok, Err}
 use Rattle.texts.specs.declared.span.Span.{Span}
 use Rattle.tokens.specs.declared.token.Bracket.{Bracket}
 use Rattle.tokens.specs.declared.token.Bracket.TheVariants.{Round, Square, Curly}
@@ -10,7 +10,7 @@ use Rattle.words.specs.declared.vocabulary.Keyword.{Keyword}
 use Rattle.words.specs.declared.vocabulary.Keyword.TheVariants.{Struct, Enum, Use}
 use Rattle.words.specs.declared.vocabulary.Sign.TheVariants.{Colon, Semicolon, Equals, Hash, Exclamation}
 use Rattle.words.specs.Words.{Word, name, underscore, keyword, sign, lifetime, literal, doc, group, words_of}
-use Rattle.words.specs.Reading.{Fault, wrong, Read, ◌>>=◌, as_sign, name_at, keyword_at, sign_at, group_at}
+use Rattle.words.specs.Reading.{Fault, wrong, Read, ◌>>=◌, name_at, keyword_at, sign_at, group_at}
 use Rattle.type_grammar.specs.Grammar.{IsType}
 use Rattle.words.specs.Lists.{many_at, many_of, list_of}
 use Rattle.attributes.specs.Attributes.{AttributeItem}
@@ -19,7 +19,7 @@ use Rattle.attributes.specs.AttributeGrammar.{IsAttributes}
 use Rattle.attributes.specs.AttributeReading.{attributes_at}
 use Rattle.attributes.proofs.Laws.{attributes_sound, attributes_no_longer}
 use Rattle.syntax.specs.Items.{FieldItem, FieldItems, named, unnamed, unit, VariantItem, HeadItem, DeclaredItem}
-use Rattle.syntax.specs.ItemWords.{after_semicolon, before_comma, from_comma, is_end}
+use Rattle.syntax.specs.ItemWords.{is_semicolon, after_semicolon, before_comma, from_comma, is_end}
 use Rattle.syntax.specs.ItemGrammar.{IsVisibility, IsNamedField, named_field, IsUnnamedField, unnamed_field, IsFields, named_fields, unnamed_fields, no_fields, IsStructBody, in_braces, in_parentheses, fieldless, IsDiscriminant, no_discriminant, discriminant, IsVariant, variant_item, IsUse, use_line, IsEnumBody, variants_in_braces, struct_item, enum_item, IsDeclaration, structure, enumeration, IsItems, nothing, used, declared, IsSource, inner_doc, inner_attribute, items}
 use Rattle.syntax.specs.Generics.{IsWhere}
 use Rattle.syntax.specs.ItemReading.{after_visibility, field_of, named_field_at, unnamed_field_at, fields_in, fields_at, begins_group, without_fields, tuple_body_at, other_body_at, struct_body_at, value_or_none, discriminant_at, variant_of, variant_at, declared_of, struct_at, enum_body_at, enum_at, struct_or_enum, declaration_at, left_by, use_or_declaration, item_at, kept, after_inner_attribute, inner_at, inner_from, after_inner_within, after_inner, source_at}
@@ -63,7 +63,7 @@ semicolon_from false ws rest o h e = let less = h e in omega arith
 
 semicolon_shorter : (ws rest : List Word) → after_semicolon ws ≡ Some rest → length rest < length ws
 semicolon_shorter [] rest e = cc
-semicolon_shorter (w ∷ ws) rest e = semicolon_from (is_some (as_sign Semicolon w)) ws rest (after_semicolon ws) (semicolon_shorter ws rest) e
+semicolon_shorter (w ∷ ws) rest e = semicolon_from (is_semicolon w) ws rest (after_semicolon ws) (semicolon_shorter ws rest) e
 
 pub use_shorter : {ws rest : List Word} → IsUse ws rest → length rest < length ws
 use_shorter (use_line {vs = vs} {rest = rest} d v e) = omega (arith, attributes_no_longer d, visibility_no_longer v, semicolon_shorter vs rest e)

@@ -2,9 +2,9 @@
 use Rattle.std.proofs.Common.{◌≡◌, ◌∙◌, ◌<◌, ◌-◌, ℕ, zero, suc, List, [], ◌∷◌, length, refl, ap, ap₂, sym, arith, get_or}
 use Rattle.tokens.specs.declared.token.TokenTree.{TokenTree}
 use Rattle.tokens.specs.Trees.{tree_view}
-use Rattle.words.specs.Words.{Word, words_view, word_of, cover}
+use Rattle.words.specs.Words.{Word, words_view, word_of, span_of, cover}
 use Rattle.words.proofs.Laws.{length_view}
-use Rattle.syntax.specs.ItemWords.{span_of, spanning}
+use Rattle.syntax.specs.ItemWords.{spanning}
 
 word_at : (ts : List TokenTree) (i : ℕ) (d : TokenTree) (w : Word) → i < length ts → get_or (words_view ts) i w ≡ word_of (tree_view (get_or ts i d))
 word_at [] i d w h = absurd (omega arith)

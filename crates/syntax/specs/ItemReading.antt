@@ -1,21 +1,21 @@
 -- Reading items from left to right, as functions. Types are read by ty, and types and bounds by readers.
-use Rattle.std.specs.Prelude.{ℕ, zero, suc, List, [], ◌∷◌, length, Bool, true, false, not, cond, ◌&&◌, is_some, Option, Some, None, Result, Ok, Err}
+use Rattle.std.specs.Prelude.{ℕ, zero, suc, List, [], ◌∷◌, length, Bool, true, false, not, cond, ◌&&◌, Option, Some, None, Result, Ok, Err}
 use Rattle.texts.specs.declared.span.Span.{Span}
 use Rattle.tokens.specs.declared.token.Bracket.{Bracket}
 use Rattle.tokens.specs.declared.token.Bracket.TheVariants.{Round, Square, Curly}
 use Rattle.written_types.specs.declared.written.Ident.{Ident}
 use Rattle.written_types.specs.Written.{Written}
 use Rattle.words.specs.declared.vocabulary.Keyword.TheVariants.{Pub, Struct, Enum, Use}
-use Rattle.words.specs.declared.vocabulary.Sign.TheVariants.{Colon, Comma, Semicolon, Equals, Hash, Exclamation}
+use Rattle.words.specs.declared.vocabulary.Sign.TheVariants.{Colon, Semicolon, Equals, Hash, Exclamation}
 use Rattle.words.specs.Words.{Word, group, words_of}
-use Rattle.words.specs.Reading.{Fault, wrong, Read, ◌>>=◌, same_bracket, as_sign, name_at, keyword_at, sign_at, group_at}
+use Rattle.words.specs.Reading.{Fault, wrong, Read, ◌>>=◌, same_bracket, name_at, keyword_at, sign_at, group_at}
 use Rattle.words.specs.Lists.{many_of, list_of}
 use Rattle.attributes.specs.Attributes.{AttributeItem}
 use Rattle.attributes.specs.AttributeWords.{is_inner_doc}
 use Rattle.attributes.specs.AttributeReading.{attributes_at}
 use Rattle.syntax.specs.Items.{FieldItem, FieldItems, named, unnamed, unit, VariantItem, ParameterItem, BodyItem, struct_body, enum_body, HeadItem, DeclaredItem}
 use Rattle.syntax.specs.GenericReading.{Readers, generics_at, after_where}
-use Rattle.syntax.specs.ItemWords.{after_semicolon, before_comma, from_comma, is_end, is_restriction, spanning}
+use Rattle.syntax.specs.ItemWords.{is_comma, after_semicolon, before_comma, from_comma, is_end, is_restriction, spanning}
 
 -- what follows vis?; behind `pub`, where an unnamed field may end, a group is its type
 abbrev pub is_scope : Word → Bool
@@ -24,7 +24,7 @@ is_scope _ = false
 
 abbrev pub ends_item : List Word → Bool
 ends_item [] = true
-ends_item (w ∷ ws) = is_some (as_sign Comma w)
+ends_item (w ∷ ws) = is_comma w
 
 abbrev pub after_scope : Bool → List Word → List Word
 after_scope in_tuple [] = []

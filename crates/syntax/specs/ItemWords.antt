@@ -1,25 +1,32 @@
 -- Words of items: visibilities, and what a `use` line and a discriminant take (The Rust Reference, "Visibility and Privacy", "Use declarations", "Enumerations").
-use Rattle.std.specs.Prelude.{◌-◌, List, [], ◌∷◌, length, get_or, Bool, true, false, cond, Option, Some, None, is_some, is_none}
+use Rattle.std.specs.Prelude.{◌-◌, List, [], ◌∷◌, length, get_or, Bool, true, false, cond, Option, Some, None, is_none}
 use Rattle.texts.specs.Span.{no_span}
 use Rattle.texts.specs.declared.span.Span.{Span}
 use Rattle.words.specs.declared.vocabulary.Keyword.TheVariants as keywords
 use Rattle.words.specs.declared.vocabulary.Sign.TheVariants.{Comma, Semicolon}
-use Rattle.words.specs.Words.{Word, name, underscore, keyword, sign, lifetime, literal, doc, group, cover}
-use Rattle.words.specs.Reading.{as_sign}
+use Rattle.words.specs.Words.{Word, keyword, sign, cover, span_of}
+
+abbrev pub is_semicolon : Word → Bool
+is_semicolon (sign Semicolon s) = true
+is_semicolon _ = false
+
+abbrev pub is_comma : Word → Bool
+is_comma (sign Comma s) = true
+is_comma _ = false
 
 -- what follows the first `;`
 abbrev pub after_semicolon : List Word → Option (List Word)
 after_semicolon [] = None
-after_semicolon (w ∷ ws) = cond (is_some (as_sign Semicolon w)) (Some ws) (after_semicolon ws)
+after_semicolon (w ∷ ws) = cond (is_semicolon w) (Some ws) (after_semicolon ws)
 
 -- what stands before the first comma, and from it on
 abbrev pub before_comma : List Word → List Word
 before_comma [] = []
-before_comma (w ∷ ws) = cond (is_some (as_sign Comma w)) [] (w ∷ before_comma ws)
+before_comma (w ∷ ws) = cond (is_comma w) [] (w ∷ before_comma ws)
 
 abbrev pub from_comma : List Word → List Word
 from_comma [] = []
-from_comma (w ∷ ws) = cond (is_some (as_sign Comma w)) (w ∷ ws) (from_comma ws)
+from_comma (w ∷ ws) = cond (is_comma w) (w ∷ ws) (from_comma ws)
 
 abbrev pub is_end : List Word → Bool
 is_end [] = true
@@ -36,17 +43,6 @@ restricts _ ws = false
 abbrev pub is_restriction : List Word → Bool
 is_restriction [] = false
 is_restriction (w ∷ ws) = restricts w ws
-
--- the bytes of a word
-abbrev pub span_of : Word → Span
-span_of (name x) = x.span
-span_of (underscore x) = x.span
-span_of (keyword k x) = x.span
-span_of (sign k s) = s
-span_of (lifetime x) = x.span
-span_of (literal t) = t.span
-span_of (doc t) = t.span
-span_of (group b ts s) = s
 
 -- from the first of the words to the last that stands before the rest
 unfoldable pub spanning : List Word → List Word → Span

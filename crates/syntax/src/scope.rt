@@ -1,12 +1,10 @@
 //! Visibilities, `use` lines and spans.
 
-ghost use Rattle.std.specs.Prelude.{◌≡◌, ◌<◌, ◌≤◌, length, IfSome, is_some};
+ghost use Rattle.std.specs.Prelude.{◌≡◌, ◌<◌, ◌≤◌, length, IfSome};
 ghost use Rattle.std.specs.Option.{option_map};
 ghost use Rattle.tokens.specs.Trees.{tree_view};
-ghost use Rattle.words.specs.declared.vocabulary.Sign.TheVariants.{Comma, Semicolon};
-ghost use Rattle.words.specs.Words.{words_view, word_of};
-ghost use Rattle.words.specs.Reading.{as_sign};
-ghost use Rattle.syntax.specs.ItemWords.{after_semicolon, is_end, is_restriction, span_of, spanning};
+ghost use Rattle.words.specs.Words.{span_of, words_view, word_of};
+ghost use Rattle.syntax.specs.ItemWords.{is_semicolon, is_comma, after_semicolon, is_end, is_restriction, spanning};
 ghost use Rattle.syntax.specs.ItemReading.{is_scope, ends_item, after_scope, after_visibility};
 
 use texts::Span;
@@ -14,13 +12,13 @@ use tokens::{Bracket, TokenTree};
 use words::{Keyword, Sign, Word, covering, optional_keyword, word_of};
 
 fn is_semicolon(tree: &TokenTree) -> bool
-    ensures { result ≡ is_some (as_sign Semicolon (word_of (tree_view tree.now))) }
+    ensures { result ≡ is_semicolon (word_of (tree_view tree.now)) }
 {
     matches!(word_of(tree), Word::Sign(Sign::Semicolon, _))
 }
 
 pub(crate) fn is_comma(tree: &TokenTree) -> bool
-    ensures { result ≡ is_some (as_sign Comma (word_of (tree_view tree.now))) }
+    ensures { result ≡ is_comma (word_of (tree_view tree.now)) }
 {
     matches!(word_of(tree), Word::Sign(Sign::Comma, _))
 }

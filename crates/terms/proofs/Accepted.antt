@@ -28,7 +28,7 @@ use Rattle.component.specs.Places.{word_of, minimum_of, type_word, one_of_null, 
 use Rattle.shapes.specs.declared.annotations.Annotations.{Annotations}
 use Rattle.shapes.specs.Declarations.{MemberOf, FormOf, named_fields, unnamed_fields, no_fields, DeclarationOf, member_types, member_names, unannotated}
 use Rattle.shapes.specs.Instances.{member_over, form_over}
-use Rattle.shapes.specs.Shape.{is_null, is_text, is_boolean, is_number, is_list, is_map, reads, type_shape, items_fit, member_fits, no_others, elements_fit, unnamed_shape, form_shape}
+use Rattle.shapes.specs.Shape.{is_null, is_text, is_boolean, is_number, is_list, is_map, reads, type_shape, items_fit, member_fits, only_named, elements_fit, unnamed_shape, form_shape}
 use Rattle.shapes.specs.Plain.{IsPlainType, ArePlainTypes, AreAllPlain, IsPlainForm}
 use Rattle.terms.specs.Terms.{field_place, properties_of, required_names, object_of, are_all, alike_term, field_terms, mixed_term, unnamed_term, form_term, keywords_of}
 use Rattle.terms.specs.Meaning.{leaf_shape}
@@ -315,7 +315,7 @@ module _ (ss : List DeclarationOf) (instance : Open → Json → Bool) (args : O
   -- what members ask of entries, and where others are denied that there are none
   fields-accept : (denies : Bool) (keywords : AnnotationKeywords) (ms : List MemberOf) → AreAllPlain ss (member_types (members_over ms)) → (es : Members) →
       tree_accepts says (object_of keywords denies (required_names ms) (properties_of ms)) (map es)
-      ≡ (list_all (member_fits instance (entries es)) (members_over ms) && (not denies || no_others (members_over ms) (entries es)))
+      ≡ (list_all (member_fits instance (entries es)) (members_over ms) && (not denies || only_named (member_names (members_over ms)) (entries es)))
   fields-accept false keywords ms h es = members-accept ms h (entries es) ∙ sym (and-true (list_all (member_fits instance (entries es)) (members_over ms)))
   fields-accept true keywords ms h es =
       and-last (properties_accept says (properties_of ms) (entries es)) (others_pass (property_names (properties_of ms)) (λ w. false) (entries es))

@@ -147,13 +147,18 @@ cover first last = record { start = first.start; end = max first.start last.end;
 unfoldable pub opening : Span → Span
 opening s = record { start = s.start; end = min (suc s.start) s.end; ordered = le-min (le-suc s.start) s.ordered }
 
+-- the bytes of a word
+abbrev pub span_of : Word → Span
+span_of (name x) = x.span
+span_of (underscore x) = x.span
+span_of (keyword k x) = x.span
+span_of (sign k s) = s
+span_of (lifetime x) = x.span
+span_of (literal t) = t.span
+span_of (doc t) = t.span
+span_of (group b ts s) = s
+
 -- where a word begins: its bytes, or the opening bracket of what stands in brackets
 abbrev pub start_of : Word → Span
-start_of (name x) = x.span
-start_of (underscore x) = x.span
-start_of (keyword k x) = x.span
-start_of (sign k s) = s
-start_of (lifetime x) = x.span
-start_of (literal t) = t.span
-start_of (doc t) = t.span
 start_of (group b ts s) = opening s
+start_of w = span_of w

@@ -3,7 +3,7 @@ use Rattle.acceptance.specs.Acceptance.{members_hold, component_schema}
 use Rattle.acceptance_checker.specs.Judge.{components_at}
 use Rattle.acceptance_checker.specs.Layer.{json_of_layer, json_of_value, json_of_entries}
 use Rattle.acceptance_checker.proofs.Levels.{levels, members_levels, levels-component, one_less}
-use Rattle.acceptance_checker.proofs.Schemas.{members_hold-first}
+use Rattle.acceptance_checker.proofs.Schemas.{component_there, members_hold-first}
 use Rattle.acceptance_checker.proofs.Views.{Entry}
 use Rattle.acceptance_checker.proofs.judge.+judge.Goals as goal
 
@@ -14,6 +14,12 @@ component_holds-schema_accepts-requires t c =
     let low : levels s ≤ levels (json_of_value c.args.document.now) = levels-component (json_of_value c.args.document.now) c.args.name.now s found in
     let less = one_less c.args.depth (levels (json_of_value c.args.document.now)) (levels s) c.if-depth-eq0.false low in
     (omega (arith, less, c.requires), tt)
+
+pub component_holds-returns-in-Some : goal.component_holds-returns-in-Some
+component_holds-returns-in-Some t c =
+    let s = json_of_layer c.in-Some.schema in
+    let found : component_schema (json_of_value c.args.document.now) c.args.name.now ≡ Some s = sym c.component_schema.ensures ∙ ap (option_map json_of_layer) c.in-Some.is in
+    c.schema_accepts.ensures ∙ sym (component_there (json_of_value c.args.document.now) c.args.depth c.args.name.now s (json_of_layer c.args.value) c.if-depth-eq0.false found)
 
 pub members_hold-returns-then-not-member_holds : goal.members_hold-returns-then-not-member_holds
 members_hold-returns-then-not-member_holds t c =

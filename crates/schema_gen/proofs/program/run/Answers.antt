@@ -2,7 +2,7 @@ use Rattle.std.proofs.Common.{◌⊎◌, ℕ, List, Some, IsTrue, inl, inr}
 use Rattle.reporting.specs.Beginning.{Beginning}
 use Rattle.reporting.specs.Program.{IsRefusedGiven, IsReportOf}
 use Rattle.diag.specs.declared.kind.Kind.{Kind}
-use Rattle.schema_gen.specs.Given.{is_of_configuration}
+use Rattle.configuration.specs.Said.{is_of_configuration}
 use Rattle.schema_gen.specs.Owed.{schema_gen}
 use Rattle.schema_gen.proofs.Consequences.{described, other_kind, bad_config_cause, only_bad_owed}
 use Rattle.schema_gen.proofs.Told.{sound_run}
@@ -14,14 +14,14 @@ without_source begun kind own P (inl holds) = holds
 without_source begun kind own P (inr (line, reported)) = absurd (other_kind begun kind own line reported)
 
 pub returns-clause-done : goal.returns-clause-done
-returns-clause-done g c = λ is. let done = c.run_command.ensures.done is in described _ done.0 _ _ done.1 done.2
+returns-clause-done g c = λ is. let done = c.run_command.ensures.done is in described c.configurations_are_said.ensures c.resolved_is_meant.ensures _ done.0 _ _ done.1 done.2
 
 pub returns-clause-bad_config : goal.returns-clause-bad_config
-returns-clause-bad_config g c = λ kind own is. let refused = c.run_command.ensures.refused kind is in bad_config_cause _ kind own refused.0 refused.1
+returns-clause-bad_config g c = λ kind own is. let refused = c.run_command.ensures.refused kind is in bad_config_cause c.refused_texts_have_faults.ensures _ kind own refused.0 refused.1
 
 pub returns-clause-only_bad_config : goal.returns-clause-only_bad_config
 returns-clause-only_bad_config g c = λ told file.
-    only_bad_owed _ told file _ (λ whole. let written = c.run_command.ensures.written whole in (written.0, written.1, written.2))
+    only_bad_owed c.refused_texts_have_faults.ensures _ told file _ (λ whole. let written = c.run_command.ensures.written whole in (written.0, written.1, written.2))
 
 pub returns-clause-missing : goal.returns-clause-missing
 returns-clause-missing g c = λ path form missing. c.run_command.ensures.missing path (Some path, form) form missing

@@ -1,7 +1,6 @@
 use Rattle.std.proofs.Common.{◌∙◌, ap₂}
-use Rattle.words.specs.Words.{cover, word_of}
+use Rattle.words.specs.Words.{cover, span_of, word_of}
 use Rattle.tokens.specs.Trees.{tree_view}
-use Rattle.syntax.specs.ItemWords.{span_of}
 use Rattle.syntax.proofs.Turns.{spanning_is}
 use Rattle.syntax.proofs.scope.spanning.Goals as goal
 
