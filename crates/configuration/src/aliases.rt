@@ -28,12 +28,23 @@ const MAX_DEPTH: usize = 32;
 
 /// Aliases in the order of their names: what they stand for, the same without what nothing is resolved from, and the
 /// places of the names. Contracts see the list of the aliases.
-#[derive(Drop)]
 pub struct Aliases {
     names: List<Text>,
     types: List<WrittenType>,
     bare: List<WrittenType>,
     places: BTreeMap<String, usize>,
+}
+
+// by hand, so that a function that drops aliases makes one call for it
+impl Drop for Aliases {
+    fn drop(self) {
+        let Aliases {
+            names: _,
+            types: _,
+            bare: _,
+            places: _,
+        } = self;
+    }
 }
 
 impl Model for Aliases {

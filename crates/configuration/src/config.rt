@@ -40,13 +40,25 @@ const MEMBERS: [&str; 8] = [
 ];
 
 /// A configuration. Contracts see the record of what is configured.
-#[derive(Drop)]
 pub struct Config {
     limit: usize,
     copies: usize,
     collect: SchemaCollect,
     renames: RenameTable,
     aliases: Aliases,
+}
+
+// by hand, so that a function that drops a configuration makes one call for it
+impl Drop for Config {
+    fn drop(self) {
+        let Config {
+            limit: _,
+            copies: _,
+            collect: _,
+            renames: _,
+            aliases: _,
+        } = self;
+    }
 }
 
 impl Model for Config {
