@@ -9,9 +9,10 @@ use rows::given::text_of;
 use rows::{Row, refusal_text, run};
 use serde_json::Value;
 use std::alloc::Global;
+use texts::List;
 
 /// The pieces of the file that stand, or why it is refused.
-fn standing(alloc: Global, given: &Value, choice: Choice) -> anyhow::Result<String> {
+fn standing(alloc: Global, given: &Value, choice: &Choice) -> anyhow::Result<String> {
     let source = text_of(given)?;
     match declarations(alloc, source, choice) {
         Ok(text) => pieces::pieces_text(alloc, source, text.as_str()),
@@ -22,8 +23,8 @@ fn standing(alloc: Global, given: &Value, choice: Choice) -> anyhow::Result<Stri
 /// What the call of the row answers.
 fn told(alloc: Global, row: &Row) -> anyhow::Result<String> {
     match row.call.as_str() {
-        "all" => standing(alloc, &row.given, Choice::All),
-        "serde" => standing(alloc, &row.given, Choice::Serde),
+        "all" => standing(alloc, &row.given, &Choice::All),
+        "serde" => standing(alloc, &row.given, &Choice::Serde(List::new(alloc))),
         other => bail!("no call {other}"),
     }
 }

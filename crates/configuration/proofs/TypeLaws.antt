@@ -2,7 +2,6 @@
 use Rattle.std.proofs.Common.{◌≡◌, ◌<◌, ◌≤◌, ◌+◌, ◌-◌, ℕ, zero, suc, List, [], ◌∷◌, ◌++◌, Bool, ◌||◌, Option, Some, None, option_map, map, length, get_or, slice_index_or, nat_lt, drop, lt-ltb, refl, sym, ap, ◌∙◌, arith, rules, add-one, drop-cons, append_assoc, append-nil}
 use Rattle.std.specs.List.{filter_map, cons_option}
 use Rattle.std.proofs.lemmas.List.{drop_all, map_push}
-use Rattle.std.proofs.lemmas.List.Elements.{filter_map-append}
 use Rattle.tokens.specs.declared.token.TokenTree.{TokenTree}
 use Rattle.tokens.specs.Trees.{trees_view}
 use Rattle.texts.specs.declared.list.List.{List as Tokens}
@@ -69,77 +68,83 @@ module _ (ss : List PathSegment) (s : PathSegment) (l : 1 ≤ length ss) (is : s
       last_of last_bare (λ x. more_segments (bare_segment x) no_segments) (λ x. refl) (λ x u rest. refl) ss s (length ss - 1) (omega arith)
       ∙ ap (λ x. more_segments (bare_segment (segment_view x)) no_segments) (sym is)
 
--- ---- places that are added
+-- ---- names that are added
 
-module _ (f : List ℕ → Option ℕ) where
-  -- the place of the name of the last segment is added, where it has one
-  pub last_added : (old new : List ℕ) (ss : List PathSegment) (s : PathSegment) (text : List ℕ) (p : ℕ) → 1 ≤ length ss → s ≡ slice_index_or ss (length ss - 1) s → text ≡ s.ident.text → Some p ≡ f text → new ≡ old ++ p ∷ [] →
-      new ≡ old ++ filter_map f (last_name (segments_view ss))
-  last_added old new ss s text p l is same found e =
-      e ∙ ap (λ o. old ++ cons_option o []) (found ∙ ap f same) ∙ ap (λ ns. old ++ filter_map f ns) (sym (last_name-is ss s l is))
+-- the name of the last segment is added
+pub last_added : (old new : List (List ℕ)) (ss : List PathSegment) (s : PathSegment) (text : List ℕ) → 1 ≤ length ss → s ≡ slice_index_or ss (length ss - 1) s → text ≡ s.ident.text → new ≡ old ++ text ∷ [] → new ≡ old ++ last_name (segments_view ss)
+last_added old new ss s text l is same e = e ∙ ap (λ n. old ++ n ∷ []) same ∙ ap (λ ns. old ++ ns) (sym (last_name-is ss s l is))
 
-  pub last_missed : (old : List ℕ) (ss : List PathSegment) (s : PathSegment) (text : List ℕ) → 1 ≤ length ss → s ≡ slice_index_or ss (length ss - 1) s → text ≡ s.ident.text → None ≡ f text → old ≡ old ++ filter_map f (last_name (segments_view ss))
-  last_missed old ss s text l is same none =
-      sym (append-nil old) ∙ ap (λ o. old ++ cons_option o []) (none ∙ ap f same) ∙ ap (λ ns. old ++ filter_map f ns) (sym (last_name-is ss s l is))
+-- what is added for the first names, and then for the rest, is added for all
+added : (now after whole front rest : List (List ℕ)) → now ++ (front ++ rest) ≡ whole → after ≡ now ++ front → after ++ rest ≡ whole
+added now after whole front rest w e = ap (λ xs. xs ++ rest) e ∙ append_assoc now front rest ∙ w
 
-  -- what is added for the first names, and then for the rest, is added for all
-  added : (now after whole : List ℕ) (front rest : List (List ℕ)) → now ++ filter_map f (front ++ rest) ≡ whole → after ≡ now ++ filter_map f front → after ++ filter_map f rest ≡ whole
-  added now after whole front rest w e =
-      ap (λ xs. xs ++ filter_map f rest) e
-      ∙ append_assoc now (filter_map f front) (filter_map f rest)
-      ∙ ap (λ xs. now ++ xs) (sym (filter_map-append f front rest))
-      ∙ w
+pub types_turn : (now after whole : List (List ℕ)) (ts : List WrittenType) (i : ℕ) (t : WrittenType) → i < length ts → t ≡ get_or ts i t → now ++ types_last_names (writtens_view (drop i ts)) ≡ whole →
+    after ≡ now ++ last_names (written_view t) → after ++ types_last_names (writtens_view (drop (i + 1) ts)) ≡ whole
+types_turn now after whole ts i t h is w e =
+    added now after whole (last_names (written_view t)) (types_last_names (writtens_view (drop (i + 1) ts)))
+    (ap (λ v. now ++ types_last_names v) (sym (types_drop ts i t h is)) ∙ w) e
 
-  pub types_turn : (now after whole : List ℕ) (ts : List WrittenType) (i : ℕ) (t : WrittenType) → i < length ts → t ≡ get_or ts i t → now ++ filter_map f (types_last_names (writtens_view (drop i ts))) ≡ whole →
-      after ≡ now ++ filter_map f (last_names (written_view t)) → after ++ filter_map f (types_last_names (writtens_view (drop (i + 1) ts))) ≡ whole
-  types_turn now after whole ts i t h is w e =
-      added now after whole (last_names (written_view t)) (types_last_names (writtens_view (drop (i + 1) ts)))
-      (ap (λ v. now ++ filter_map f (types_last_names v)) (sym (types_drop ts i t h is)) ∙ w) e
+argument_turn : (now after whole : List (List ℕ)) (xs : List GenericArgument) (i : ℕ) (a : GenericArgument) (v : Argument) → i < length xs → a ≡ get_or xs i a → argument_view a ≡ v → now ++ arguments_last_names (arguments_view (drop i xs)) ≡ whole →
+    after ≡ now ++ argument_last_names v → after ++ arguments_last_names (arguments_view (drop (i + 1) xs)) ≡ whole
+argument_turn now after whole xs i a v h is view w e =
+    added now after whole (argument_last_names v) (arguments_last_names (arguments_view (drop (i + 1) xs)))
+    (ap (λ x. now ++ (argument_last_names x ++ arguments_last_names (arguments_view (drop (i + 1) xs)))) (sym view)
+    ∙ ap (λ x. now ++ arguments_last_names x) (sym (arguments_drop xs i a h is)) ∙ w) e
 
-  argument_turn : (now after whole : List ℕ) (xs : List GenericArgument) (i : ℕ) (a : GenericArgument) (v : Argument) → i < length xs → a ≡ get_or xs i a → argument_view a ≡ v → now ++ filter_map f (arguments_last_names (arguments_view (drop i xs))) ≡ whole →
-      after ≡ now ++ filter_map f (argument_last_names v) → after ++ filter_map f (arguments_last_names (arguments_view (drop (i + 1) xs))) ≡ whole
-  argument_turn now after whole xs i a v h is view w e =
-      added now after whole (argument_last_names v) (arguments_last_names (arguments_view (drop (i + 1) xs)))
-      (ap (λ x. now ++ filter_map f (argument_last_names x ++ arguments_last_names (arguments_view (drop (i + 1) xs)))) (sym view)
-      ∙ ap (λ x. now ++ filter_map f (arguments_last_names x)) (sym (arguments_drop xs i a h is)) ∙ w) e
+pub type_turn : (now after whole : List (List ℕ)) (xs : List GenericArgument) (i : ℕ) (a : GenericArgument) (t : WrittenType) → i < length xs → a ≡ get_or xs i a → a ≡ arguments.Ty t → now ++ arguments_last_names (arguments_view (drop i xs)) ≡ whole →
+    after ≡ now ++ last_names (written_view t) → after ++ arguments_last_names (arguments_view (drop (i + 1) xs)) ≡ whole
+type_turn now after whole xs i a t h is of w e = argument_turn now after whole xs i a (type_argument (written_view t)) h is (ap argument_view of ∙ view-type t) w e
 
-  pub type_turn : (now after whole : List ℕ) (xs : List GenericArgument) (i : ℕ) (a : GenericArgument) (t : WrittenType) → i < length xs → a ≡ get_or xs i a → a ≡ arguments.Ty t → now ++ filter_map f (arguments_last_names (arguments_view (drop i xs))) ≡ whole →
-      after ≡ now ++ filter_map f (last_names (written_view t)) → after ++ filter_map f (arguments_last_names (arguments_view (drop (i + 1) xs))) ≡ whole
-  type_turn now after whole xs i a t h is of w e = argument_turn now after whole xs i a (type_argument (written_view t)) h is (ap argument_view of ∙ view-type t) w e
+pub lifetime_turn : (now whole : List (List ℕ)) (xs : List GenericArgument) (i : ℕ) (a : GenericArgument) (x : Ident) → i < length xs → a ≡ get_or xs i a → a ≡ arguments.Lifetime x → now ++ arguments_last_names (arguments_view (drop i xs)) ≡ whole →
+    now ++ arguments_last_names (arguments_view (drop (i + 1) xs)) ≡ whole
+lifetime_turn now whole xs i a x h is of w = argument_turn now now whole xs i a (lifetime_argument x) h is (ap argument_view of ∙ view-lifetime x) w (sym (append-nil now))
 
-  pub lifetime_turn : (now whole : List ℕ) (xs : List GenericArgument) (i : ℕ) (a : GenericArgument) (x : Ident) → i < length xs → a ≡ get_or xs i a → a ≡ arguments.Lifetime x → now ++ filter_map f (arguments_last_names (arguments_view (drop i xs))) ≡ whole →
-      now ++ filter_map f (arguments_last_names (arguments_view (drop (i + 1) xs))) ≡ whole
-  lifetime_turn now whole xs i a x h is of w = argument_turn now now whole xs i a (lifetime_argument x) h is (ap argument_view of ∙ view-lifetime x) w (sym (append-nil now))
+pub constant_turn : (now whole : List (List ℕ)) (xs : List GenericArgument) (i : ℕ) (a : GenericArgument) (ts : Tokens TokenTree) → i < length xs → a ≡ get_or xs i a → a ≡ arguments.Constant ts → now ++ arguments_last_names (arguments_view (drop i xs)) ≡ whole →
+    now ++ arguments_last_names (arguments_view (drop (i + 1) xs)) ≡ whole
+constant_turn now whole xs i a ts h is of w = argument_turn now now whole xs i a (constant_argument (trees_view ts)) h is (ap argument_view of ∙ view-constant ts) w (sym (append-nil now))
 
-  pub constant_turn : (now whole : List ℕ) (xs : List GenericArgument) (i : ℕ) (a : GenericArgument) (ts : Tokens TokenTree) → i < length xs → a ≡ get_or xs i a → a ≡ arguments.Constant ts → now ++ filter_map f (arguments_last_names (arguments_view (drop i xs))) ≡ whole →
-      now ++ filter_map f (arguments_last_names (arguments_view (drop (i + 1) xs))) ≡ whole
-  constant_turn now whole xs i a ts h is of w = argument_turn now now whole xs i a (constant_argument (trees_view ts)) h is (ap argument_view of ∙ view-constant ts) w (sym (append-nil now))
+segment_turn : (now after whole : List (List ℕ)) (ss : List PathSegment) (i : ℕ) (s : PathSegment) (o : Option (List GenericArgument)) → i < length ss → s ≡ get_or ss i s → s.arguments ≡ o → now ++ segments_last_names (segments_view (drop i ss)) ≡ whole →
+    after ≡ now ++ segment_last_names (segment_of s.ident (option_map (map (λ (a : GenericArgument). argument_view a)) o)) → after ++ segments_last_names (segments_view (drop (i + 1) ss)) ≡ whole
+segment_turn now after whole ss i s o h is has w e =
+    let view : segment_view s ≡ segment_of s.ident (option_map (map (λ (a : GenericArgument). argument_view a)) o) = view-segment s ∙ ap (λ q. segment_of s.ident (option_map (map (λ (a : GenericArgument). argument_view a)) q)) has in
+    added now after whole (segment_last_names (segment_of s.ident (option_map (map (λ (a : GenericArgument). argument_view a)) o))) (segments_last_names (segments_view (drop (i + 1) ss)))
+    (ap (λ x. now ++ (segment_last_names x ++ segments_last_names (segments_view (drop (i + 1) ss)))) (sym view)
+    ∙ ap (λ x. now ++ segments_last_names x) (sym (segments_drop ss i s h is)) ∙ w) e
 
-  segment_turn : (now after whole : List ℕ) (ss : List PathSegment) (i : ℕ) (s : PathSegment) (o : Option (List GenericArgument)) → i < length ss → s ≡ get_or ss i s → s.arguments ≡ o → now ++ filter_map f (segments_last_names (segments_view (drop i ss))) ≡ whole →
-      after ≡ now ++ filter_map f (segment_last_names (segment_of s.ident (option_map (map (λ (a : GenericArgument). argument_view a)) o))) → after ++ filter_map f (segments_last_names (segments_view (drop (i + 1) ss))) ≡ whole
-  segment_turn now after whole ss i s o h is has w e =
-      let view : segment_view s ≡ segment_of s.ident (option_map (map (λ (a : GenericArgument). argument_view a)) o) = view-segment s ∙ ap (λ q. segment_of s.ident (option_map (map (λ (a : GenericArgument). argument_view a)) q)) has in
-      added now after whole (segment_last_names (segment_of s.ident (option_map (map (λ (a : GenericArgument). argument_view a)) o))) (segments_last_names (segments_view (drop (i + 1) ss)))
-      (ap (λ x. now ++ filter_map f (segment_last_names x ++ segments_last_names (segments_view (drop (i + 1) ss)))) (sym view)
-      ∙ ap (λ x. now ++ filter_map f (segments_last_names x)) (sym (segments_drop ss i s h is)) ∙ w) e
+pub applied_turn : (now after whole : List (List ℕ)) (ss : List PathSegment) (i : ℕ) (s : PathSegment) (xs : List GenericArgument) → i < length ss → s ≡ get_or ss i s → s.arguments ≡ Some xs → now ++ segments_last_names (segments_view (drop i ss)) ≡ whole →
+    after ≡ now ++ arguments_last_names (arguments_view xs) → after ++ segments_last_names (segments_view (drop (i + 1) ss)) ≡ whole
+applied_turn now after whole ss i s xs h is has w e = segment_turn now after whole ss i s (Some xs) h is has w e
 
-  pub applied_turn : (now after whole : List ℕ) (ss : List PathSegment) (i : ℕ) (s : PathSegment) (xs : List GenericArgument) → i < length ss → s ≡ get_or ss i s → s.arguments ≡ Some xs → now ++ filter_map f (segments_last_names (segments_view (drop i ss))) ≡ whole →
-      after ≡ now ++ filter_map f (arguments_last_names (arguments_view xs)) → after ++ filter_map f (segments_last_names (segments_view (drop (i + 1) ss))) ≡ whole
-  applied_turn now after whole ss i s xs h is has w e = segment_turn now after whole ss i s (Some xs) h is has w e
+pub plain_turn : (now whole : List (List ℕ)) (ss : List PathSegment) (i : ℕ) (s : PathSegment) → i < length ss → s ≡ get_or ss i s → s.arguments ≡ None → now ++ segments_last_names (segments_view (drop i ss)) ≡ whole →
+    now ++ segments_last_names (segments_view (drop (i + 1) ss)) ≡ whole
+plain_turn now whole ss i s h is has w = segment_turn now now whole ss i s None h is has w (sym (append-nil now))
 
-  pub plain_turn : (now whole : List ℕ) (ss : List PathSegment) (i : ℕ) (s : PathSegment) → i < length ss → s ≡ get_or ss i s → s.arguments ≡ None → now ++ filter_map f (segments_last_names (segments_view (drop i ss))) ≡ whole →
-      now ++ filter_map f (segments_last_names (segments_view (drop (i + 1) ss))) ≡ whole
-  plain_turn now whole ss i s h is has w = segment_turn now now whole ss i s None h is has w (sym (append-nil now))
+-- the name of the last segment, and then what stands in the arguments of all
+pub path_added : (q : Path) (ss : List PathSegment) (old now after : List (List ℕ)) → ss ≡ (out-Path q).segments → now ≡ old ++ last_name (segments_view ss) → after ≡ now ++ segments_last_names (segments_view ss) →
+    after ≡ old ++ path_last_names (path_view q)
+path_added q ss old now after all e w =
+    let v = segments_view ss in
+    w ∙ ap (λ xs. xs ++ segments_last_names v) e ∙ append_assoc old (last_name v) (segments_last_names v)
+    ∙ ap (λ xs. old ++ (last_name (segments_view xs) ++ segments_last_names (segments_view xs))) all
+    ∙ ap (λ p. old ++ path_last_names p) (sym (path_view_is q))
 
-  -- the name of the last segment, and then what stands in the arguments of all
-  pub path_added : (q : Path) (ss : List PathSegment) (old now after : List ℕ) → ss ≡ (out-Path q).segments → now ≡ old ++ filter_map f (last_name (segments_view ss)) → after ≡ now ++ filter_map f (segments_last_names (segments_view ss)) →
-      after ≡ old ++ filter_map f (path_last_names (path_view q))
-  path_added q ss old now after all e w =
-      let v = segments_view ss in
-      w ∙ ap (λ xs. xs ++ filter_map f (segments_last_names v)) e ∙ append_assoc old (filter_map f (last_name v)) (filter_map f (segments_last_names v))
-      ∙ ap (λ xs. old ++ xs) (sym (filter_map-append f (last_name v) (segments_last_names v)))
-      ∙ ap (λ xs. old ++ filter_map f (last_name (segments_view xs) ++ segments_last_names (segments_view xs))) all
-      ∙ ap (λ p. old ++ filter_map f (path_last_names p)) (sym (path_view_is q))
+-- ---- places of names that have one
+
+names_drop : (names : List (List ℕ)) (i : ℕ) (n : List ℕ) → i < length names → n ≡ get_or names i n → drop i names ≡ n ∷ drop (i + 1) names
+names_drop names i n h e = rw (add-one, drop-cons names i n, ← e)
+
+place_first : (o : Option ℕ) (rest : List ℕ) → cons_option o [] ++ rest ≡ cons_option o rest
+place_first None rest = refl
+place_first (Some p) rest = refl
+
+pub place_turn : (f : List ℕ → Option ℕ) (now after whole : List ℕ) (names : List (List ℕ)) (i : ℕ) (n : List ℕ) → i < length names → n ≡ get_or names i n → now ++ filter_map f (drop i names) ≡ whole → after ≡ now ++ cons_option (f n) [] →
+    after ++ filter_map f (drop (i + 1) names) ≡ whole
+place_turn f now after whole names i n h is w e =
+    let rest = filter_map f (drop (i + 1) names) in
+    ap (λ xs. xs ++ rest) e ∙ append_assoc now (cons_option (f n) []) rest
+    ∙ ap (λ ys. now ++ ys) (place_first (f n) rest)
+    ∙ ap (λ ns. now ++ filter_map f ns) (sym (names_drop names i n h is))
+    ∙ w
 
 -- ---- types without what nothing is resolved from
 

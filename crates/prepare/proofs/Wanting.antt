@@ -1,47 +1,60 @@
 -- Names that are wanted are taken out one after another, until no more can be.
-use Rattle.std.proofs.Common.{◌≡◌, ◌∙◌, ◌<◌, ℕ, length, get_or, unwrap_or, List, [], ◌∷◌, ◌++◌, refl, ap, sym, subst, ◌⊎◌, inl, inr, true, false, cond, bytes_eq, Option, Some, None}
+use Rattle.std.proofs.Common.{◌≡◌, ◌∙◌, ◌<◌, ℕ, length, get_or, unwrap_or, map, List, [], ◌∷◌, ◌++◌, append_assoc, refl, ap, sym, subst, ◌⊎◌, inl, inr, true, false, cond, bytes_eq, Option, Some, None}
 use Rattle.std.specs.List.{remove}
 use Rattle.std.specs.Map.{update}
 use Rattle.std.proofs.lemmas.Bool.{cases_Bool}
+use Rattle.std.proofs.lemmas.List.{append-nil}
 use Rattle.texts.specs.Names.{is_in}
+use Rattle.prepare.specs.declared.item.Alias.{Alias}
 use Rattle.prepare.specs.declared.item.Declared.{Declared}
 use Rattle.prepare.specs.declared.item.Standing.{Standing}
-use Rattle.prepare.specs.Wanted.{IsDeclaredIn, IsWanted, by_deriving, by_wanted, names_if_deriving, first_names, NamesByName, with_names, entry, TakesOne, AreUnwanted}
+use Rattle.prepare.specs.Wanted.{declarations_in, declared_by, all_declared, IsDeclaredIn, IsWanted, by_deriving, by_wanted, names_if_deriving, first_names, NamesByName, with_names, entry, TakesOne, AreUnwanted}
 use Rattle.prepare.proofs.Within.{bytes_same, bytes_itself, in_either, in_left, in_right, still_in, was_in, item_in}
 use Rattle.prepare.proofs.Entries.{AreSame, has_entry, from_entry}
 
 -- ---- the first names
-some_deriving : (o : Option Declared) (k : List ℕ) → is_in k (names_if_deriving o) ≡ true → (d : Declared) × (o ≡ Some d) × (d.is_deriving ≡ true) × (is_in k d.names ≡ true)
-some_deriving None k i = cc
-some_deriving (Some d) k i = elim (cases_Bool d.is_deriving) [
-  | inl h ↦ (d, refl, h, subst (λ b. is_in k (cond b d.names []) ≡ true) h i)
+named_by : (d : Declared) (k : List ℕ) → is_in k (names_if_deriving d) ≡ true → (d.is_deriving ≡ true) × (is_in k d.names ≡ true)
+named_by d k i = elim (cases_Bool d.is_deriving) [
+  | inl h ↦ (h, subst (λ b. is_in k (cond b d.names []) ≡ true) h i)
   | inr h ↦ let none : is_in k [] ≡ true = subst (λ b. is_in k (cond b d.names []) ≡ true) h i in cc
 ]
 
-first_from : (ss : List Standing) (k : List ℕ) → is_in k (first_names ss) ≡ true → (d : Declared) × IsDeclaredIn ss d × (d.is_deriving ≡ true) × (is_in k d.names ≡ true)
+first_from : (ds : List Declared) (k : List ℕ) → is_in k (first_names ds) ≡ true → (d : Declared) × IsDeclaredIn ds d × (d.is_deriving ≡ true) × (is_in k d.names ≡ true)
 first_from [] k i = cc
-first_from (s ∷ ss) k i = elim (in_either k (names_if_deriving s.declared) (first_names ss) i) [
-  | inl h ↦ let d = some_deriving s.declared k h in (d.0, inl d.1, d.2, d.3)
-  | inr h ↦ let d = first_from ss k h in (d.0, inr d.1, d.2, d.3)
+first_from (d ∷ ds) k i = elim (in_either k (names_if_deriving d) (first_names ds) i) [
+  | inl h ↦ let is = named_by d k h in (d, inl refl, is.0, is.1)
+  | inr h ↦ let c = first_from ds k h in (c.0, inr c.1, c.2, c.3)
 ]
 
-first_has : (ss : List Standing) (d : Declared) (k : List ℕ) → IsDeclaredIn ss d → d.is_deriving ≡ true → is_in k d.names ≡ true → is_in k (first_names ss) ≡ true
+first_has : (ds : List Declared) (d : Declared) (k : List ℕ) → IsDeclaredIn ds d → d.is_deriving ≡ true → is_in k d.names ≡ true → is_in k (first_names ds) ≡ true
 first_has [] d k h e i = elim h [ ]
-first_has (s ∷ ss) d k (inl h) e i =
-    let all : names_if_deriving s.declared ≡ d.names = ap names_if_deriving h ∙ ap (λ b. cond b d.names []) e in
-    in_left k (names_if_deriving s.declared) (first_names ss) (subst (λ v. is_in k v ≡ true) (sym all) i)
-first_has (s ∷ ss) d k (inr h) e i = in_right k (names_if_deriving s.declared) (first_names ss) (first_has ss d k h e i)
+first_has (c ∷ ds) d k (inl h) e i =
+    let all : names_if_deriving c ≡ d.names = ap names_if_deriving h ∙ ap (λ b. cond b d.names []) e in
+    in_left k (names_if_deriving c) (first_names ds) (subst (λ v. is_in k v ≡ true) (sym all) i)
+first_has (c ∷ ds) d k (inr h) e i = in_right k (names_if_deriving c) (first_names ds) (first_has ds d k h e i)
+
+-- aliases derive nothing, and name nothing by that
+aliases_first : (aliases : List Alias) → first_names (map declared_by aliases) ≡ []
+aliases_first [] = refl
+aliases_first (a ∷ aliases) = aliases_first aliases
+
+first_both : (cs ds : List Declared) → first_names (cs ++ ds) ≡ first_names cs ++ first_names ds
+first_both [] ds = refl
+first_both (c ∷ cs) ds = ap (λ ns. names_if_deriving c ++ ns) (first_both cs ds) ∙ sym (append_assoc (names_if_deriving c) (first_names cs) (first_names ds))
+
+pub first_with_aliases : (aliases : List Alias) (standing : List Standing) → first_names (declarations_in standing) ≡ first_names (all_declared aliases standing)
+first_with_aliases aliases standing = sym (first_both (declarations_in standing) (map declared_by aliases) ∙ ap (λ ns. first_names (declarations_in standing) ++ ns) (aliases_first aliases) ∙ append-nil (first_names (declarations_in standing)))
 
 -- ---- what is left, while names are taken out
 
 -- the wanted names are wanted, a name that is gone is wanted too, and what stands in declarations that are chosen is among them
-pub record AreLeft (ss : List Standing) (wanted : List (List ℕ)) (left : NamesByName) : Type 0 where
+pub record AreLeft (ss : List Declared) (wanted : List (List ℕ)) (left : NamesByName) : Type 0 where
   pub sound : (k : List ℕ) → is_in k wanted ≡ true → IsWanted ss k
   pub gone : (k : List ℕ) (ns : List (List ℕ)) → entry ss k ≡ Some ns → (left k ≡ Some ns) ⊎ ((left k ≡ None) × IsWanted ss k)
   pub undeclared : (k : List ℕ) → entry ss k ≡ None → left k ≡ None
   pub closed : (d : Declared) → IsDeclaredIn ss d → (d.is_deriving ≡ true) ⊎ (left d.name ≡ None) → (k : List ℕ) → is_in k d.names ≡ true → (is_in k wanted ≡ true) ⊎ (left k ≡ None)
 
-pub at_first : (ss : List Standing) (wanted : List (List ℕ)) (left : NamesByName) → wanted ≡ first_names ss → AreSame left (entry ss) → AreLeft ss wanted left
+pub at_first : (ss : List Declared) (wanted : List (List ℕ)) (left : NamesByName) → wanted ≡ first_names ss → AreSame left (entry ss) → AreLeft ss wanted left
 at_first ss wanted left w same = record {
   sound = λ k i. let d = first_from ss k (subst (λ v. is_in k v ≡ true) w i) in by_deriving d.0 d.1 d.2 d.3;
   gone = λ k ns e. inl (same k ∙ e);
@@ -60,7 +73,7 @@ entry_cases : {A : Type 0} (o : Option A) → ((x : A) × (o ≡ Some x)) ⊎ (o
 entry_cases None = inr refl
 entry_cases (Some x) = inl (x, refl)
 
-module _ (ss : List Standing) (wanted names rest : List (List ℕ)) (left after : NamesByName) (h : AreLeft ss wanted left) (t : TakesOne wanted left names rest after) where
+module _ (ss : List Declared) (wanted names rest : List (List ℕ)) (left after : NamesByName) (h : AreLeft ss wanted left) (t : TakesOne wanted left names rest after) where
   taken_same : (k : List ℕ) → bytes_eq t.name k ≡ true → after k ≡ None
   taken_same k e = t.taken k ∙ ap (λ b. cond b None (left k)) e
 
@@ -118,7 +131,7 @@ module _ (ss : List Standing) (wanted names rest : List (List ℕ)) (left after 
   }
 
 -- ---- where no more can be taken out
-module _ (ss : List Standing) (wanted : List (List ℕ)) (left : NamesByName) (h : AreLeft ss wanted left) (none : (k : List ℕ) → is_in k wanted ≡ true → left k ≡ None) where
+module _ (ss : List Declared) (wanted : List (List ℕ)) (left : NamesByName) (h : AreLeft ss wanted left) (none : (k : List ℕ) → is_in k wanted ≡ true → left k ≡ None) where
   left_none : (k : List ℕ) → (is_in k wanted ≡ true) ⊎ (left k ≡ None) → left k ≡ None
   left_none k (inl i) = none k i
   left_none k (inr e) = e
@@ -195,11 +208,11 @@ pub names_new : (o : Option (List (List ℕ))) → o ≡ None → [] ≡ unwrap_
 names_new None e = refl
 names_new (Some ns) e = cc
 
-pub names_added : (d : Declared) (old left new : NamesByName) (names value : List (List ℕ)) → names ≡ unwrap_or (old d.name) [] → value ≡ names ++ d.names
-    → ((k : List ℕ) → left k ≡ update bytes_eq old d.name None k) → ((k : List ℕ) → new k ≡ update bytes_eq left d.name (Some value) k) → (k : List ℕ) → new k ≡ with_names d old k
-names_added d old left new names value n v taken put k =
-    let is : value ≡ unwrap_or (old d.name) [] ++ d.names = v ∙ ap (λ ns. ns ++ d.names) n in
-    elim (cases_Bool (bytes_eq d.name k)) [
-      | inl b ↦ put k ∙ ap (λ t. cond t (Some value) (left k)) b ∙ ap (λ ns. Some ns) is ∙ sym (ap (λ t. cond t (Some (unwrap_or (old d.name) [] ++ d.names)) (old k)) b)
-      | inr b ↦ put k ∙ ap (λ t. cond t (Some value) (left k)) b ∙ taken k ∙ ap (λ t. cond t None (old k)) b ∙ sym (ap (λ t. cond t (Some (unwrap_or (old d.name) [] ++ d.names)) (old k)) b)
+pub names_added : (n : List ℕ) (more : List (List ℕ)) (old left new : NamesByName) (names value : List (List ℕ)) → names ≡ unwrap_or (old n) [] → value ≡ names ++ more
+    → ((k : List ℕ) → left k ≡ update bytes_eq old n None k) → ((k : List ℕ) → new k ≡ update bytes_eq left n (Some value) k) → (k : List ℕ) → new k ≡ with_names n more old k
+names_added n more old left new names value is_old v taken put k =
+    let is : value ≡ unwrap_or (old n) [] ++ more = v ∙ ap (λ ns. ns ++ more) is_old in
+    elim (cases_Bool (bytes_eq n k)) [
+      | inl b ↦ put k ∙ ap (λ t. cond t (Some value) (left k)) b ∙ ap (λ ns. Some ns) is ∙ sym (ap (λ t. cond t (Some (unwrap_or (old n) [] ++ more)) (old k)) b)
+      | inr b ↦ put k ∙ ap (λ t. cond t (Some value) (left k)) b ∙ taken k ∙ ap (λ t. cond t None (old k)) b ∙ sym (ap (λ t. cond t (Some (unwrap_or (old n) [] ++ more)) (old k)) b)
     ]

@@ -5,16 +5,16 @@ use Rattle.prepare.specs.declared.choice.Choice.{Choice}
 use Rattle.prepare.specs.declared.choice.Choice.TheVariants.{All, Serde}
 use Rattle.prepare.specs.declared.item.Declared.{Declared}
 use Rattle.prepare.specs.declared.item.Standing.{Standing}
-use Rattle.prepare.specs.Wanted.{IsWanted}
+use Rattle.prepare.specs.Wanted.{all_declared, IsWanted}
 
 -- a `use` line is chosen, and a declaration that derives one of the traits or whose name is wanted
-abbrev pub IsChosenBySerde : List Standing → Option Declared → Type 0
+abbrev pub IsChosenBySerde : List Declared → Option Declared → Type 0
 IsChosenBySerde all None = Unit {0}
 IsChosenBySerde all (Some d) = (d.is_deriving ≡ true) ⊎ IsWanted all d.name
 
 abbrev pub IsChosen : Choice → List Standing → Standing → Type 0
 IsChosen All all s = Unit {0}
-IsChosen Serde all s = IsChosenBySerde all s.declared
+IsChosen (Serde aliases) all s = IsChosenBySerde (all_declared aliases all) s.declared
 
 -- these are the spans of those of which it holds
 pub data AreSpansOf (Holds : Standing → Type 0) : List Standing → List Span → Type 0 where

@@ -7,18 +7,19 @@ ghost use Rattle.prepare.specs.declared.item.Standing.{Standing};
 ghost use Rattle.prepare.specs.Wanted.{is_chosen};
 ghost use Rattle.prepare.specs.Choices.{IsChosen, AreChosen};
 
-use crate::item::Standing;
+use crate::item::{Alias, Standing};
 use crate::wanted::{NamesByName, unwanted_names};
 use std::alloc::{AllocError, Global};
 use texts::{List, Span};
 
 /// Which declarations stand.
-#[derive(Clone, Copy, Debug, PartialEq, Eq)]
+#[derive(Debug, Drop)]
 pub enum Choice {
     /// All of them.
     All,
-    /// Those that derive `Serialize`, `Deserialize` or `ToSchema`, those that these name, and so on.
-    Serde,
+    /// Those that derive `Serialize`, `Deserialize` or `ToSchema`, those that these name, and so on. Where an alias is named,
+    /// what its type names is named as well; where a declaration has its name too, that is named beside.
+    Serde(List<Alias>),
 }
 
 /// Whether what stands is chosen, where the map has the names that are not wanted.
@@ -45,10 +46,14 @@ fn all_spans(alloc: Global, standing: &[Standing]) -> Result<List<Span>, AllocEr
 }
 
 /// The spans of what stands by serde's and utoipa's traits.
-fn serde_spans(alloc: Global, standing: &[Standing]) -> Result<List<Span>, AllocError>
-    ensures { IfOk result (AreChosen Serde standing.now) }
+fn serde_spans(
+    alloc: Global,
+    standing: &[Standing],
+    aliases: &List<Alias>,
+) -> Result<List<Span>, AllocError>
+    ensures { IfOk result (AreChosen (Serde aliases.now) standing.now) }
 {
-    let unwanted = unwanted_names(alloc, standing)?;
+    let unwanted = unwanted_names(alloc, standing, aliases.as_slice())?;
     let mut spans = List::new(alloc);
     let mut rest = standing;
     'standing: while let [first, after @ ..] = rest {
@@ -64,12 +69,12 @@ fn serde_spans(alloc: Global, standing: &[Standing]) -> Result<List<Span>, Alloc
 pub(crate) fn chosen_spans(
     alloc: Global,
     standing: &[Standing],
-    choice: Choice,
+    choice: &Choice,
 ) -> Result<List<Span>, AllocError>
-    ensures { IfOk result (AreChosen choice standing.now) }
+    ensures { IfOk result (AreChosen choice.now standing.now) }
 {
     match choice {
         Choice::All => all_spans(alloc, standing),
-        Choice::Serde => serde_spans(alloc, standing),
+        Choice::Serde(aliases) => serde_spans(alloc, standing, aliases),
     }
 }

@@ -11,6 +11,13 @@ pub struct Declared {
     pub names: List<Text>,
 }
 
+/// An alias: a name, and the names in the type that it stands for.
+#[derive(Debug, Drop)]
+pub struct Alias {
+    pub name: Text,
+    pub names: List<Text>,
+}
+
 /// What stands of a file: a declaration, or without one a `use` line. The span goes from the first attribute or doc comment
 /// to the end.
 #[derive(Debug, Drop)]

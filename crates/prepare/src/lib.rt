@@ -41,6 +41,7 @@ mod trees;
 mod wanted;
 
 pub use choice::Choice;
+pub use item::Alias;
 pub use law::one_preparation;
 pub use position::{Position, place};
 pub use prepare::declarations;

@@ -42,8 +42,8 @@ fn refusal(alloc: Global, stop: Stop, bytes: usize) -> DeriveError
 /// A refusal of kind `Syntax` has a span of the source: where it cannot be cut, as `lexing::lex` says; or that of the first
 /// token or opening bracket, behind attributes and doc comments, of what is no item. One of kind `TooDeep` has the span of
 /// the first bracket that opens inside 64 others.
-pub fn declarations(alloc: Global, source: &str, choice: Choice) -> Result<Text, DeriveError>
-    ensures prepared { IfOk result (λ text. IsPrepared choice source.now text) }
+pub fn declarations(alloc: Global, source: &str, choice: &Choice) -> Result<Text, DeriveError>
+    ensures prepared { IfOk result (λ text. IsPrepared choice.now source.now text) }
     ensures blanked { IfOk result (λ text. IsBlanked source.now text) }
     ensures length { IfOk result (λ text. length text ≡ length source.now) }
     ensures shallow { IfOk result (λ _. (span : Span) → ¬ (OpensTooDeep source.now span)) }

@@ -1,10 +1,10 @@
 //! The names that are wanted: those in chosen declarations.
 
-ghost use Rattle.std.specs.Prelude.{◌≡◌, ◌<◌, ◌++◌, ℕ, List as AnyList, Some, IfOk, OnOk, OnSome};
+ghost use Rattle.std.specs.Prelude.{◌≡◌, ◌<◌, ◌++◌, ℕ, List as AnyList, map, IfOk, OnOk, OnSome};
 ghost use Rattle.std.specs.BTreeMap.{get_by_text, btree_map_len};
-ghost use Rattle.prepare.specs.Wanted.{with_names, entry, names_if_deriving, first_names, Takes, AreUnwanted};
+ghost use Rattle.prepare.specs.Wanted.{declarations_in, declared_by, all_declared, with_names, entries_with, entry, names_if_deriving, first_names, Takes, AreUnwanted};
 
-use crate::item::{Declared, Standing};
+use crate::item::{Alias, Declared, Standing};
 use std::alloc::{AllocError, Global};
 use std::collections::BTreeMap;
 use texts::{List, Text};
@@ -24,41 +24,81 @@ fn push_copies(alloc: Global, copies: &mut List<Text>, names: &[Text]) -> Result
     Ok(())
 }
 
-/// Adds the names in the declaration.
+/// Adds the names in a declaration of that name.
 fn add_names(
     alloc: Global,
     by_name: &mut NamesByName,
-    declared: &Declared,
+    declared: &str,
+    names: &[Text],
 ) -> Result<(), AllocError>
     ensures { OnOk result ((name : AnyList ℕ) → get_by_text by_name.new name
-        ≡ with_names declared.now (get_by_text by_name.old) name) }
+        ≡ with_names declared.now names.now (get_by_text by_name.old) name) }
 {
-    let name = declared.name.as_str();
-    let mut names = match by_name.remove(name) {
+    let mut all = match by_name.remove(declared) {
         Some(names) => names,
         None => List::new(alloc),
     };
-    push_copies(alloc, &mut names, declared.names.as_slice())?;
-    let key = String::from_str(alloc, name)?;
-    match by_name.insert(key, names) {
+    push_copies(alloc, &mut all, names)?;
+    let key = String::from_str(alloc, declared)?;
+    match by_name.insert(key, all) {
         Ok(_) => Ok(()),
         Err(_) => Err(AllocError),
     }
 }
 
-/// The names in the declarations of each name.
-fn names_by_name(alloc: Global, standing: &[Standing]) -> Result<NamesByName, AllocError>
-    ensures { IfOk result (λ by_name. (name : AnyList ℕ)
-        → get_by_text by_name name ≡ entry standing.now name) }
+/// Adds the names in the declarations that stand.
+fn add_standing(
+    alloc: Global,
+    by_name: &mut NamesByName,
+    standing: &[Standing],
+) -> Result<(), AllocError>
+    ensures { OnOk result ((name : AnyList ℕ) → get_by_text by_name.new name
+        ≡ entries_with (get_by_text by_name.old) (declarations_in standing.now) name) }
 {
-    let mut by_name = BTreeMap::new(alloc);
     let mut rest = standing;
     'standing: while let [first, after @ ..] = rest {
         if let Some(declared) = &first.declared {
-            add_names(alloc, &mut by_name, declared)?;
+            add_names(
+                alloc,
+                by_name,
+                declared.name.as_str(),
+                declared.names.as_slice(),
+            )?;
         }
         rest = after;
     }
+    Ok(())
+}
+
+/// Adds the names in the aliases' types.
+fn add_aliases(
+    alloc: Global,
+    by_name: &mut NamesByName,
+    aliases: &[Alias],
+) -> Result<(), AllocError>
+    ensures { OnOk result ((name : AnyList ℕ) → get_by_text by_name.new name
+        ≡ entries_with (get_by_text by_name.old) (map declared_by aliases.now) name) }
+{
+    let mut rest = aliases;
+    'aliases: while let [first, after @ ..] = rest {
+        add_names(alloc, by_name, first.name.as_str(), first.names.as_slice())?;
+        rest = after;
+    }
+    Ok(())
+}
+
+/// The names in the declarations of each name, and in the types of the aliases.
+fn names_by_name(
+    alloc: Global,
+    standing: &[Standing],
+    aliases: &[Alias],
+) -> Result<NamesByName, AllocError>
+    ensures { IfOk result (λ by_name. (name : AnyList ℕ)
+        → get_by_text by_name name ≡ entry (all_declared aliases.now standing.now) name) }
+{
+    let mut by_name = BTreeMap::new(alloc);
+    add_standing(alloc, &mut by_name, standing)?;
+    add_aliases(alloc, &mut by_name, aliases)?;
     Ok(by_name)
 }
 
@@ -68,7 +108,7 @@ fn push_if_deriving(
     names: &mut List<Text>,
     declared: &Declared,
 ) -> Result<(), AllocError>
-    ensures { OnOk result (names.new ≡ names.old ++ names_if_deriving (Some declared.now)) }
+    ensures { OnOk result (names.new ≡ names.old ++ names_if_deriving declared.now) }
 {
     if declared.is_deriving {
         push_copies(alloc, names, declared.names.as_slice())?;
@@ -78,7 +118,7 @@ fn push_if_deriving(
 
 /// The names in the declarations that derive one of the traits.
 fn first_names(alloc: Global, standing: &[Standing]) -> Result<List<Text>, AllocError>
-    ensures { IfOk result (λ names. names ≡ first_names standing.now) }
+    ensures { IfOk result (λ names. names ≡ first_names (declarations_in standing.now)) }
 {
     let mut first = List::new(alloc);
     let mut rest = standing;
@@ -106,15 +146,17 @@ fn next_names(wanted: &mut List<Text>, by_name: &mut NamesByName) -> Option<List
     None
 }
 
-/// The names in the declarations of each name, without the names that are wanted: those in declarations that derive one of
-/// the traits, and in declarations of which the name is wanted.
+/// The names in the declarations and aliases of each name, without the names that are wanted: those in declarations that
+/// derive one of the traits, and in declarations and aliases of which the name is wanted.
 pub(crate) fn unwanted_names(
     alloc: Global,
     standing: &[Standing],
+    aliases: &[Alias],
 ) -> Result<NamesByName, AllocError>
-    ensures { IfOk result (λ unwanted. AreUnwanted standing.now (get_by_text unwanted)) }
+    ensures { IfOk result (λ unwanted. AreUnwanted (all_declared aliases.now standing.now)
+        (get_by_text unwanted)) }
 {
-    let mut by_name = names_by_name(alloc, standing)?;
+    let mut by_name = names_by_name(alloc, standing, aliases)?;
     let mut wanted = first_names(alloc, standing)?;
     'wanted: while let Some(names) = next_names(&mut wanted, &mut by_name) {
         wanted.append(names)?;

@@ -1,19 +1,24 @@
 -- What answers a request about a text, and what refuses it.
-use Rattle.std.specs.Prelude.{◌≡◌, ◌⊎◌, ℕ, List}
+use Rattle.std.specs.Prelude.{◌≡◌, ◌⊎◌, ℕ, List, map}
 use Rattle.diag.specs.Refusal.{RefusesNone}
 use Rattle.diag.specs.declared.error.DeriveError.{DeriveError}
 use Rattle.texts.specs.declared.span.Span.{Span}
+use Rattle.configuration.specs.Aliases.{last_names}
+use Rattle.configuration.specs.Configuration.{Configuration}
+use Rattle.configuration.specs.Configuration as configured
 use Rattle.lexing.specs.Cut.{OpensTooDeep, IsDepthError}
 use Rattle.syntax.specs.Items.{DeclaredItem}
 use Rattle.syntax.specs.Source.{Reads, NestsTooDeep}
 use Rattle.prepare.specs.declared.choice.Choice.{Choice}
+use Rattle.prepare.specs.declared.choice.Choice.TheVariants.{All, Serde}
+use Rattle.prepare.specs.declared.item.Alias.{Alias}
 use Rattle.prepare.specs.declared.item.Standing.{Standing}
 use Rattle.prepare.specs.Masked.{IsBlanked}
 use Rattle.prepare.specs.Prepared.{IsFile, IsPrepared, IsNoFile}
 use Rattle.renaming.specs.Refusals.{HaveNoRows}
 use Rattle.renaming.specs.Whole.{AreWritten, HasNoText}
 use Rattle.preparing.specs.Shown.{shown}
-use Rattle.preparing.specs.Words.{Request, declarations, renames, place}
+use Rattle.preparing.specs.Words.{Request, declarations, serde_declarations, renames, place}
 
 -- The text is the source, of which only what is chosen stands where it stood, and all else is
 -- blank.
@@ -22,15 +27,28 @@ pub record IsChosen (choice : Choice) (source text : List ℕ) : Type 0 where
   pub blanked : IsBlanked source text
   pub shallow : (span : Span) → ¬ OpensTooDeep source span
 
--- the text answers the request about the source
-abbrev pub IsAnswer : Request → (source text : List ℕ) → Type 0
-IsAnswer (declarations choice) source text = IsChosen choice source text
-IsAnswer renames source text = AreWritten source text
-IsAnswer (place path span) source text = text ≡ shown path source span
+-- an alias names what stands last in the paths of its type
+abbrev pub alias_of : configured.Alias → Alias
+alias_of alias = record { name = alias.name; names = last_names alias.of }
+
+abbrev pub aliases_of : Configuration → List Alias
+aliases_of c = map alias_of c.aliases
+
+-- the text answers the request about the source by the configuration
+abbrev pub IsAnswer : Request → Configuration → (source text : List ℕ) → Type 0
+IsAnswer declarations c source text = IsChosen All source text
+IsAnswer (serde_declarations config) c source text = IsChosen (Serde (aliases_of c)) source text
+IsAnswer renames c source text = AreWritten source text
+IsAnswer (place path span) c source text = text ≡ shown path source span
+
+-- the error refuses a source of which declarations are asked for
+abbrev pub HasNoDeclarations : (source : List ℕ) → DeriveError → Type 0
+HasNoDeclarations source e = IsDepthError source e ⊎ IsNoFile source e
 
 -- the error refuses the source of the request; a place has every text
 abbrev pub IsRefusedFor : Request → (source : List ℕ) → DeriveError → Type 0
-IsRefusedFor (declarations choice) source e = IsDepthError source e ⊎ IsNoFile source e
+IsRefusedFor declarations source e = HasNoDeclarations source e
+IsRefusedFor (serde_declarations config) source e = HasNoDeclarations source e
 IsRefusedFor renames source e = HasNoText source e
 IsRefusedFor (place path span) source e = ⊥
 
@@ -49,6 +67,7 @@ pub record HasSoundNames (source : List ℕ) : Type 0 where
 
 -- no condition of a refusal holds of the source of the request
 abbrev pub IsSoundFor : Request → (source : List ℕ) → Type 0
-IsSoundFor (declarations choice) source = IsSoundFile source
+IsSoundFor declarations source = IsSoundFile source
+IsSoundFor (serde_declarations config) source = IsSoundFile source
 IsSoundFor renames source = HasSoundNames source
 IsSoundFor (place path span) source = Unit {0}

@@ -5,6 +5,9 @@ pub mod Refusals
 pub mod Shown
 pub mod Words
 pub mod proved
+pub use Rattle.configuration.specs.Configuration
+pub use Rattle.configuration.specs.Form
+pub use Rattle.configuration.specs.Said
 pub use Rattle.diag.specs.Diagnostics
 pub use Rattle.diag.specs.Kind
 pub use Rattle.diag.specs.Refusal

@@ -7,33 +7,34 @@ use Rattle.reporting.specs.Owed.{Owes}
 use Rattle.reporting.specs.Program.{Program, IsRefusedRun, IsReportOf, IsToldTo}
 use Rattle.reporting.specs.declared.status.Status.{Status}
 use Rattle.preparing.specs.Answers.{IsAnswer}
-use Rattle.preparing.specs.Given.{Given, IsGiven}
+use Rattle.preparing.specs.Given.{Given, IsGiven, IsRefusedFile, AsksForInput}
 use Rattle.preparing.specs.Refusals.{IsRefusedSource}
-use Rattle.preparing.specs.Words.{Request, AskFor, AskForInput, NamePath}
+use Rattle.preparing.specs.Words.{Request, AskFor, NamePath}
 
 -- how to use the program
 abbrev pub usage : List ℕ
 usage =
-    codes "usage: schema_prepare declarations [--serde] | renames | place FILE START..END\n"
+    codes "usage: schema_prepare declarations [--serde [--config PATH]] | renames | place FILE START..END\n"
 
 -- The text answers what is given.
 pub record Answers (given : Given) (text : List ℕ) : Type 0 where
   pub is_text : IsText given.bytes
-  pub answer : IsAnswer given.request given.bytes text
+  pub answer : IsAnswer given.request given.config given.bytes text
 
--- a request is given with the bytes that it is about, of the input or of the file that it names
+-- a request is given with its configuration, which the file that it names may not say, and with the
+-- bytes that it is about, of the input or of the file that it names
 abbrev pub schema_prepare : Program
 schema_prepare = record {
   usage = usage;
   Request = Request;
   ask_for = AskFor;
   name_path = NamePath;
-  asks_for_input = λ begun. AskForInput begun.words;
+  asks_for_input = AsksForInput;
   Given = Given;
   is_given = IsGiven;
   answers = Answers;
   refuses = λ given e. IsRefusedSource given.request given.bytes e;
-  refuses_file = λ begun e. ⊥;
+  refuses_file = IsRefusedFile;
 }
 
 -- the run is told what it is given

@@ -2,6 +2,7 @@
 //! stands.
 #![tactic(auto)]
 
+mod aliases;
 mod answer;
 mod command;
 mod law;

@@ -1,18 +1,20 @@
-ghost use Rattle.std.specs.Prelude.{◌≡◌, ◌≢◌, ◌⊎◌, ℕ, List, codes};
+ghost use Rattle.std.specs.Prelude.{◌≡◌, ◌≢◌, ◌⊎◌, ℕ, List, IsTrue, codes};
 ghost use Rattle.std.specs.Io.KnownBytes.{Appends, Keeps, IsAtEnd};
 ghost use Rattle.diag.specs.declared.kind.Kind.{Kind as AnyKind};
 ghost use Rattle.streams.specs.Faults.{CountsFault};
 ghost use Rattle.streams.specs.Told.{AppendsPart};
+ghost use Rattle.configuration.specs.Said.{is_of_configuration};
 ghost use Rattle.files.specs.Held.{IsMissing};
 ghost use Rattle.reporting.specs.Beginning.{beginning_of};
 ghost use Rattle.reporting.specs.declared.status.Status.{Status as AnyStatus};
-ghost use Rattle.preparing.specs.Given.{Given as AnyGiven, IsGiven};
+ghost use Rattle.preparing.specs.Given.{Given as AnyGiven, IsGiven, AsksForInput, IsMisconfigured, IsMisconfiguredBy};
 ghost use Rattle.preparing.specs.Owed.{Answers, IsReported, IsTold, Owed, usage};
 ghost use Rattle.preparing.specs.Refusals.{IsSound};
-ghost use Rattle.preparing.specs.Words.{HaveForm, AskForInput, NamePath};
+ghost use Rattle.preparing.specs.Words.{HaveForm, NamePath};
 
 use crate::law::sound_is_not_refused;
 use crate::task::task_of;
+use configuration::refused_texts_have_faults;
 use files::Files;
 use reporting::{Status, Words, run_command};
 use std::alloc::Global;
@@ -20,7 +22,8 @@ use streams::{Sink, Source};
 
 /// Runs the program. With the word `declarations` it reads a whole file of Rust from the input, and writes to `out` the
 /// text of which only the declarations stand; with `declarations --serde` only those that serde and utoipa know, and those
-/// that these name. With `renames` it writes the rows that the names in the input's declarations need. With
+/// that these name. With `declarations --serde --config PATH` it first reads the configuration from the file at the path,
+/// and what the types of its aliases name is named by the aliases. With `renames` it writes the rows that the names in the input's declarations need. With
 /// `place PATH START..END` it shows where these two offsets stand in the file at the path. What it has to say beside goes to
 /// `err`, a line each: of a refusal the kind, the span in bytes and the message; of other words how to use them; of a fault
 /// of reading the input or the file that there was one.
@@ -47,11 +50,25 @@ pub fn run<S: Source, F: Files, O: Sink, E: Sink>(
         → Appends (E.written err.old) (E.written err.new) usage }
     ensures only_usage { ¬ (HaveForm words.now)
         → (result ≡ Status.Usage) ⊎ (result ≡ Status.WriteFault) }
-    // Nothing is read of what the words do not ask for.
+    // The configuration comes first, and is refused with kinds of its own. Without one nothing of
+    // the input is read, and where the words name no path, no file is.
+    ensures bad_config { (kind : AnyKind) → IsTrue (is_of_configuration kind)
+        → result ≡ Status.Refused kind → IsMisconfiguredBy kind
+        (beginning_of S.Source F.Files words.now input.old files.old) }
+    ensures only_bad_config { IsTrue (F.tells files.old)
+        → IsMisconfigured (beginning_of S.Source F.Files words.now input.old files.old)
+        → ((kind : AnyKind) × IsMisconfiguredBy kind
+        (beginning_of S.Source F.Files words.now input.old files.old)
+        × (result ≡ Status.Refused kind)) ⊎ (result ≡ Status.FileFault)
+        ⊎ (result ≡ Status.Memory) ⊎ (result ≡ Status.WriteFault) }
     ensures missing { (path : List ℕ) → NamePath words.now path
         → IsMissing (F.tells files.old) (F.held files.old path)
         → (result ≡ Status.FileFault) ⊎ (result ≡ Status.Memory) ⊎ (result ≡ Status.WriteFault) }
-    ensures unread { ¬ (AskForInput words.now) → input.new ≡ input.old }
+    ensures unread { ¬ (AsksForInput
+        (beginning_of S.Source F.Files words.now input.old files.old)) → input.new ≡ input.old }
+    ensures unread_config { ((kind : AnyKind) × IsTrue (is_of_configuration kind)
+        × (result ≡ Status.Refused kind)) ⊎ (result ≡ Status.FileFault)
+        → input.new ≡ input.old }
     ensures no_file { ((path : List ℕ) → ¬ (NamePath words.now path)) → files.new ≡ files.old }
     ensures tells_on { F.tells files.new ≡ F.tells files.old }
     ensures same { (path : List ℕ) → F.held files.new path ≡ F.held files.old path }
@@ -84,7 +101,8 @@ pub fn run<S: Source, F: Files, O: Sink, E: Sink>(
     ensures err_kept { (result ≡ Status.Done) ⊎ (result ≡ Status.Memory)
         → Keeps (E.written err.old) (E.written err.new) }
     // Faults have causes, and after `Done` the input that the words ask for has nothing left.
-    ensures read_fault { result ≡ Status.ReadFault → AskForInput words.now }
+    ensures read_fault { result ≡ Status.ReadFault → AsksForInput
+        (beginning_of S.Source F.Files words.now input.old files.old) }
     ensures read_count { result ≡ Status.ReadFault
         → CountsFault (S.faults input.old) (S.faults input.new) }
     ensures read_line { result ≡ Status.ReadFault
@@ -98,7 +116,9 @@ pub fn run<S: Source, F: Files, O: Sink, E: Sink>(
     ensures write_fault { result ≡ Status.WriteFault
         → CountsFault (O.faults out.old) (O.faults out.new)
         ⊎ CountsFault (E.faults err.old) (E.faults err.new) }
-    ensures end { result ≡ Status.Done → AskForInput words.now → IsAtEnd (S.left input.new) }
+    ensures end { result ≡ Status.Done → AsksForInput
+        (beginning_of S.Source F.Files words.now input.old files.old)
+        → IsAtEnd (S.left input.new) }
     ensures input_calm { result ≢ Status.ReadFault → result ≢ Status.WriteFault
         → S.faults input.new ≡ S.faults input.old }
     ensures files_calm { result ≢ Status.FileFault → result ≢ Status.WriteFault
@@ -107,5 +127,6 @@ pub fn run<S: Source, F: Files, O: Sink, E: Sink>(
     ensures err_calm { result ≢ Status.WriteFault → E.faults err.new ≡ E.faults err.old }
 {
     sound_is_not_refused();
+    refused_texts_have_faults();
     run_command(alloc, words, task_of(words), input, files, out, err)
 }

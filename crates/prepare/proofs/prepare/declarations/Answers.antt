@@ -20,7 +20,7 @@ returns-in-Ok-clause-prepared c =
     let standing = c.in-Ok.standing in
     let spans = c.in_ok-spans-in-Ok.spans in
     let cut = subst (λ v. IsCut source (trees_view v)) (sym c.as_slice.ensures) c.in_ok-trees.ensures.found in
-    let chosen = subst (λ v. AreChosen c.args.choice v spans) c.as_slice-in-Ok.ensures c.in_ok-spans-in-Ok.ensures in
+    let chosen = subst (λ v. AreChosen c.args.choice.now v spans) c.as_slice-in-Ok.ensures c.in_ok-spans-in-Ok.ensures in
     let text = c.in_ok-masked-in-Ok.ensures ∙ ap (λ ss. masked ss 0 (chars source)) c.as_slice-in-Ok-2.ensures in
     (standing, spans, is_file source c.as_slice.result.now standing cut c.in-Ok.ensures, chosen, text)
 
