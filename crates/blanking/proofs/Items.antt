@@ -18,7 +18,7 @@ use Rattle.prepare.specs.declared.choice.Choice.{Choice}
 use Rattle.prepare.specs.declared.item.Standing.{Standing}
 use Rattle.prepare.specs.Trees.{listed, word, sign_in, is_text, is_word, is_sign, is_round, is_square, is_outer_doc, is_inner_doc, is_curly, is_group, is_path_part, inside, span_of, extent, before}
 use Rattle.prepare.specs.Attributes.{square_at, bang_at, attribute_at, inner_at, after_all_from, after_all_within, after_attributes, after_inner, after_scope, after_visibility, is_for_tests}
-use Rattle.prepare.specs.Ends.{after_semicolon, is_end, angles, after_block, after_path, after_name, semicolon_at, after_group, behind_path, after_call}
+use Rattle.prepare.specs.Ends.{after_semicolon, begins_with_name, after_mut, after_line, is_end, angles, after_block, after_path, after_name, semicolon_at, after_group, behind_path, after_call}
 use Rattle.prepare.specs.Forms.{Form, declares, uses, holds, passes, Found, ending, named_or_none, declared_at, declaration_at, held_at, module_at, form_of, kind_at, form_at}
 use Rattle.prepare.specs.Items.{Item, item_of, item_from, item_at}
 use Rattle.prepare.specs.Items as item
@@ -114,6 +114,13 @@ semicolon_left [] rest e = not_none e
 semicolon_left (t ∷ ts) rest e = elim (either (is_sign (codes ";") t) e) [
   | inl h ↦ last_here (sign_last (codes ";") t h.0) h.1
   | inr h ↦ more_last (semicolon_left ts rest h.1)
+]
+
+line_left : LeavesLast after_line
+line_left [] rest e = not_none e
+line_left (t ∷ ts) rest e = elim (either (begins_with_name (after_mut ts)) e) [
+  | inl h ↦ more_last (semicolon_left ts rest h.1)
+  | inr h ↦ not_none h.1
 ]
 
 pub block_left : (is_behind_minus : Bool) (opened : ℕ) → LeavesLast (after_block is_behind_minus opened)
@@ -263,7 +270,7 @@ form_of_ends : (k : Kind) (ts : List Tree) (found : Found) → form_of k ts ≡ 
 form_of_ends kinds.Declaration ts found e = declaration_ends ts found e
 form_of_ends kinds.Use ts found e = found_ends uses ts (after_semicolon ts) found (semicolon_left ts) e
 form_of_ends kinds.Module ts found e = module_ends ts found e
-form_of_ends kinds.Line ts found e = found_ends passes ts (after_semicolon ts) found (λ rest f. last_follows (semicolon_left ts rest f)) e
+form_of_ends kinds.Line ts found e = found_ends passes ts (after_line ts) found (λ rest f. last_follows (line_left ts rest f)) e
 form_of_ends kinds.Block ts found e = found_ends passes ts (after_block false 0 ts) found (λ rest f. last_follows (block_left false 0 ts rest f)) e
 form_of_ends kinds.Call ts found e = found_ends passes ts (after_call ts) found (call_left ts) e
 

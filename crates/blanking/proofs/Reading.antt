@@ -15,7 +15,7 @@ use Rattle.prepare.specs.declared.item.Standing.{Standing}
 use Rattle.prepare.specs.Trees.{word, word_in, sign_in, doc_in, is_text, is_word, is_sign, is_round, is_square, is_outer_doc, is_outer_text, is_curly, extent, before}
 use Rattle.prepare.specs.Attributes.{square_at, attribute_at, after_attributes, after_scope, after_visibility, is_for_tests}
 use Rattle.prepare.specs.Kinds.{kind_of}
-use Rattle.prepare.specs.Ends.{after_semicolon, is_end, angles, after_block, semicolon_at, after_call}
+use Rattle.prepare.specs.Ends.{after_semicolon, after_line, is_end, angles, after_block, semicolon_at, after_call}
 use Rattle.prepare.specs.Forms.{Form, declares, uses, holds, passes, Found, first_word, kind_by, kind_at, ending, named_or_none, declared_at, declaration_at, held_at, module_at, use_at, form_of, form_at}
 use Rattle.prepare.specs.Items.{Item, declared_of, item_of, unless_for_tests, item_from, item_at}
 use Rattle.prepare.specs.Items as item
@@ -294,7 +294,7 @@ declares_kind : (k : Kind) (ts : List Tree) (name : Ident) (b : List Tree) (foun
 declares_kind kinds.Declaration ts name b found e f = refl
 declares_kind kinds.Use ts name b found e f = let form : uses ≡ declares name b = ending_form uses (after_semicolon ts) found e ∙ f in cc
 declares_kind kinds.Module ts name b found e f = absurd (subst NoneStands f (module_none ts found e))
-declares_kind kinds.Line ts name b found e f = absurd (subst NoneStands f (passing_none (after_semicolon ts) found e))
+declares_kind kinds.Line ts name b found e f = absurd (subst NoneStands f (passing_none (after_line ts) found e))
 declares_kind kinds.Block ts name b found e f = absurd (subst NoneStands f (passing_none (after_block false 0 ts) found e))
 declares_kind kinds.Call ts name b found e f = absurd (subst NoneStands f (passing_none (after_call ts) found e))
 
@@ -302,7 +302,7 @@ uses_kind : (k : Kind) (ts : List Tree) (found : Found) → form_of k ts ≡ Som
 uses_kind kinds.Declaration ts found e f = let form = declaration_form ts found e in let both : uses ≡ declares form.0 form.1 = sym f ∙ form.2 in cc
 uses_kind kinds.Use ts found e f = refl
 uses_kind kinds.Module ts found e f = absurd (subst NoneStands f (module_none ts found e))
-uses_kind kinds.Line ts found e f = absurd (subst NoneStands f (passing_none (after_semicolon ts) found e))
+uses_kind kinds.Line ts found e f = absurd (subst NoneStands f (passing_none (after_line ts) found e))
 uses_kind kinds.Block ts found e f = absurd (subst NoneStands f (passing_none (after_block false 0 ts) found e))
 uses_kind kinds.Call ts found e f = absurd (subst NoneStands f (passing_none (after_call ts) found e))
 

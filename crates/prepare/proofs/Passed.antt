@@ -10,7 +10,7 @@ use Rattle.prepare.specs.declared.kind.Kind.{Kind}
 use Rattle.prepare.specs.declared.kind.Kind.TheVariants as kinds
 use Rattle.prepare.specs.Trees.{listed, word, is_word, is_sign, is_round, is_curly, is_group, is_path_part, inside, before}
 use Rattle.prepare.specs.Attributes.{after_scope, after_visibility, after_attributes, is_for_tests}
-use Rattle.prepare.specs.Ends.{after_semicolon, is_end, angles, after_block, after_path, after_name, semicolon_at, after_group, behind_path, after_call}
+use Rattle.prepare.specs.Ends.{after_semicolon, begins_with_name, after_mut, after_line, is_end, angles, after_block, after_path, after_name, semicolon_at, after_group, behind_path, after_call}
 use Rattle.prepare.specs.Forms.{Form, declares, uses, holds, passes, Found, ending, named_or_none, declared_at, declaration_at, held_at, module_at, form_of, kind_at, form_at}
 use Rattle.prepare.specs.Items.{Item, stands, passed, item_of, unless_for_tests, item_from, item_at}
 use Rattle.prepare.specs.Items as item
@@ -21,6 +21,10 @@ use Rattle.prepare.proofs.Repeated.{attributes_behind}
 semicolon_past : GoesPast after_semicolon
 semicolon_past [] rest e = not_none e
 semicolon_past (t ∷ ts) rest e = elim (either (is_sign (codes ";") t) e) [ inl h ↦ first_past h | inr h ↦ past (weakly (semicolon_past ts rest h)) ]
+
+line_past : GoesPast after_line
+line_past [] rest e = not_none e
+line_past (t ∷ ts) rest e = elim (either (begins_with_name (after_mut ts)) e) [ inl h ↦ past (weakly (semicolon_past ts rest h)) | inr h ↦ not_none h ]
 
 block_past : (is_behind_minus : Bool) (open_ones : ℕ) → GoesPast (after_block is_behind_minus open_ones)
 unfolding after_block
@@ -148,7 +152,7 @@ form_of_within : (k : Kind) (ts : List Tree) (found : Found) → form_of k ts �
 form_of_within kinds.Declaration ts found e = declaration_within ts found e
 form_of_within kinds.Use ts found e = ending_within uses ts (after_semicolon ts) found uses_other (semicolon_past ts) e
 form_of_within kinds.Module ts found e = module_within ts found e
-form_of_within kinds.Line ts found e = ending_within passes ts (after_semicolon ts) found passes_other (semicolon_past ts) e
+form_of_within kinds.Line ts found e = ending_within passes ts (after_line ts) found passes_other (line_past ts) e
 form_of_within kinds.Block ts found e = ending_within passes ts (after_block false 0 ts) found passes_other (block_past false 0 ts) e
 form_of_within kinds.Call ts found e = ending_within passes ts (after_call ts) found passes_other (call_past ts) e
 

@@ -1,12 +1,31 @@
 -- Where items end (The Rust Reference, "Items", "Macro invocation"): what follows them, where they end.
-use Rattle.std.specs.Prelude.{ℕ, suc, ◌-◌, List, [], ◌∷◌, codes, Bool, not, cond, ◌&&◌, ◌||◌, ◌==◌, is_some, Option, Some, None}
+use Rattle.std.specs.Prelude.{ℕ, suc, ◌-◌, List, [], ◌∷◌, codes, Bool, false, not, cond, ◌&&◌, ◌||◌, ◌==◌, is_some, Option, Some, None}
 use Rattle.tokens.specs.Trees.{Tree}
-use Rattle.prepare.specs.Trees.{word, is_sign, is_curly, is_group, is_path_part}
+use Rattle.prepare.specs.Trees.{word, is_word, is_sign, is_curly, is_group, is_path_part}
 
 -- what follows the first `;`
 abbrev pub after_semicolon : List Tree → Option (List Tree)
 after_semicolon [] = None
 after_semicolon (t ∷ ts) = cond (is_sign (codes ";") t) (Some ts) (after_semicolon ts)
+
+-- what may follow the name of an item that goes to a semicolon
+abbrev pub is_behind_name : Tree → Bool
+is_behind_name t = is_sign (codes ":") t || is_sign (codes "=") t || is_sign (codes "<") t || is_sign (codes ";") t || is_word (codes "where") t
+
+abbrev pub begins_with_name : List Tree → Bool
+begins_with_name [] = false
+begins_with_name (t ∷ []) = false
+begins_with_name (t ∷ u ∷ ts) = is_some (word t) && is_behind_name u
+
+-- what follows a `mut` at the front
+abbrev pub after_mut : List Tree → List Tree
+after_mut [] = []
+after_mut (t ∷ ts) = cond (is_word (codes "mut") t) ts (t ∷ ts)
+
+-- what follows keyword "mut"? name any* ";", where a word behind the name would make it another item, or none
+abbrev pub after_line : List Tree → Option (List Tree)
+after_line [] = None
+after_line (keyword ∷ ts) = cond (begins_with_name (after_mut ts)) (after_semicolon ts) None
 
 -- an item that goes to a block ends with the tree, inside of as many `<`
 abbrev pub is_end : ℕ → Tree → Bool

@@ -12,7 +12,7 @@ use Rattle.prepare.specs.declared.kind.Kind.{Kind}
 use Rattle.prepare.specs.declared.kind.Kind.TheVariants as kinds
 use Rattle.prepare.specs.Trees.{word, is_curly, inside}
 use Rattle.prepare.specs.Kinds.{kind_of}
-use Rattle.prepare.specs.Ends.{after_semicolon, after_block, semicolon_at, after_call}
+use Rattle.prepare.specs.Ends.{after_semicolon, after_line, after_block, semicolon_at, after_call}
 
 -- a declaration, by its name and what follows that, a `use` line, a module, by what stands in its brackets, and any other item
 pub data Form : Type 0 where
@@ -91,7 +91,7 @@ abbrev pub form_of : Kind → List Tree → Option Found
 form_of kinds.Declaration ts = declaration_at ts
 form_of kinds.Use ts = use_at ts
 form_of kinds.Module ts = module_at ts
-form_of kinds.Line ts = passing (after_semicolon ts)
+form_of kinds.Line ts = passing (after_line ts)
 form_of kinds.Block ts = passing (after_block false 0 ts)
 form_of kinds.Call ts = passing (after_call ts)
 

@@ -25,4 +25,4 @@ kind_of first next =
     (cond (is_among first (codes "type" ∷ codes "static" ∷ [])) kinds.Line
     (cond (is_among first (codes "fn" ∷ codes "impl" ∷ codes "trait" ∷ codes "unsafe" ∷ codes "async" ∷ codes "extern" ∷ codes "macro" ∷ [])) kinds.Block
     (cond (is_among first (codes "const" ∷ [])) (const_kind next)
-    (cond (is_among first (codes "union" ∷ codes "auto" ∷ codes "safe" ∷ [])) (weak_kind next) kinds.Call))))))
+    (cond (is_among first (codes "union" ∷ codes "auto" ∷ codes "safe" ∷ codes "default" ∷ codes "gen" ∷ [])) (weak_kind next) kinds.Call))))))

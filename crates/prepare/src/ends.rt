@@ -2,9 +2,9 @@
 
 ghost use Rattle.std.specs.Prelude.{◌≡◌, ◌^◌, ◌<◌, ◌-◌, false, map, option_map};
 ghost use Rattle.tokens.specs.Trees.{tree_view};
-ghost use Rattle.prepare.specs.Ends.{after_semicolon, is_end, angles, after_block, after_path, after_name, semicolon_at, after_group, behind_path, after_call};
+ghost use Rattle.prepare.specs.Ends.{after_semicolon, is_behind_name, begins_with_name, after_mut, after_line, is_end, angles, after_block, after_path, after_name, semicolon_at, after_group, behind_path, after_call};
 
-use crate::trees::{is_curly, is_group, is_path_part, is_sign, word};
+use crate::trees::{is_curly, is_group, is_path_part, is_sign, is_word, word};
 use tokens::TokenTree;
 
 /// What follows the first `;`.
@@ -20,6 +20,47 @@ pub(crate) fn after_semicolon(trees: &[TokenTree]) -> Option<&[TokenTree]>
         rest = after;
     }
     None
+}
+
+/// Whether the tree may follow the name of an item that goes to a semicolon.
+fn is_behind_name(tree: &TokenTree) -> bool
+    ensures { result ≡ is_behind_name (tree_view tree.now) }
+{
+    is_sign(tree, ":")
+        || is_sign(tree, "=")
+        || is_sign(tree, "<")
+        || is_sign(tree, ";")
+        || is_word(tree, "where")
+}
+
+fn begins_with_name(trees: &[TokenTree]) -> bool
+    ensures { result ≡ begins_with_name (map tree_view trees.now) }
+{
+    match trees {
+        [name, next, ..] => word(name).is_some() && is_behind_name(next),
+        _ => false,
+    }
+}
+
+/// What follows the `mut` that the trees begin with, if they do.
+fn after_mut(trees: &[TokenTree]) -> &[TokenTree]
+    ensures { map tree_view result.now ≡ after_mut (map tree_view trees.now) }
+{
+    match trees {
+        [first, rest @ ..] if is_word(first, "mut") => rest,
+        _ => trees,
+    }
+}
+
+/// What follows the item that goes to a semicolon, from its keyword on.
+pub(crate) fn after_line(trees: &[TokenTree]) -> Option<&[TokenTree]>
+    ensures { option_map (λ rest. map tree_view rest.now) result
+        ≡ after_line (map tree_view trees.now) }
+{
+    match trees {
+        [_, rest @ ..] if begins_with_name(after_mut(rest)) => after_semicolon(rest),
+        _ => None,
+    }
 }
 
 /// Whether an item that goes to a block ends with the tree, inside of so many `<`.

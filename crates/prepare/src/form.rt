@@ -5,7 +5,7 @@ ghost use Rattle.tokens.specs.Trees.{tree_view};
 ghost use Rattle.words.specs.Words.{ident_of};
 ghost use Rattle.prepare.specs.Forms.{first_word, kind_at, found_view, named_at, declared_at, declaration_at, held_at, module_at, passing, use_at, form_at};
 
-use crate::ends::{after_block, after_call, after_semicolon, semicolon_at};
+use crate::ends::{after_block, after_call, after_line, after_semicolon, semicolon_at};
 use crate::kind::{Kind, kind_of};
 use crate::trees::{inside, is_curly, word};
 use tokens::{Token, TokenTree};
@@ -129,7 +129,7 @@ pub(crate) fn form_at(trees: &[TokenTree]) -> Option<(Form<'_>, &[TokenTree])>
         Kind::Declaration => declaration_at(trees),
         Kind::Use => use_at(trees),
         Kind::Module => module_at(trees),
-        Kind::Line => passing(after_semicolon(trees)),
+        Kind::Line => passing(after_line(trees)),
         Kind::Block => passing(after_block(trees)),
         Kind::Call => passing(after_call(trees)),
     }

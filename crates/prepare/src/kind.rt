@@ -60,7 +60,7 @@ pub(crate) fn kind_of(first: &str, next: Option<&str>) -> Kind
         "type" | "static" => Kind::Line,
         "fn" | "impl" | "trait" | "unsafe" | "async" | "extern" | "macro" => Kind::Block,
         "const" => const_kind(next),
-        "union" | "auto" | "safe" => weak_kind(next),
+        "union" | "auto" | "safe" | "default" | "gen" => weak_kind(next),
         _ => Kind::Call,
     }
 }
