@@ -6,6 +6,7 @@ pub mod LiteralLaws
 pub mod PieceLaws
 pub mod CutLaws
 pub mod NestLaws
+mod Lying
 pub mod LexLaws
 pub mod RawLaws
 pub mod Laws

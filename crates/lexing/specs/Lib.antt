@@ -1,4 +1,5 @@
 pub mod Cut
+pub mod Lying
 pub mod Nesting
 pub mod Pieces
 pub mod RawStrings

@@ -4,6 +4,7 @@ ghost use Rattle.std.specs.Prelude.{◌≡◌, ◌<◌, ℕ, List};
 ghost use Rattle.texts.specs.declared.span.Span.{Span};
 ghost use Rattle.tokens.specs.Trees.{Trees, depth};
 ghost use Rattle.lexing.specs.Cut.{IsCut, OpensTooDeep, most_open};
+ghost use Rattle.lexing.specs.Lying.{TreesLie};
 
 /// A source has at most one list of token trees.
 pub fn one_cut()
@@ -20,4 +21,9 @@ pub fn one_deep_bracket()
 pub fn deep_brackets_nest_deep()
     ensures { (source : List ℕ) (trees : Trees) (span : Span) → IsCut source trees
         → OpensTooDeep source span → most_open < depth trees }
+{}
+
+/// The token trees of a source, those in groups too, begin and end between two of its characters.
+pub fn trees_lie()
+    ensures { TreesLie }
 {}

@@ -24,7 +24,8 @@ use Rattle.attributes.specs.AttributeGrammar.{IsAttributes}
 use Rattle.attributes.specs.AttributeReading.{begins_attribute}
 use Rattle.attributes.proofs.Laws.{attributes_complete}
 use Rattle.syntax.specs.Items.{FieldItem, FieldItems, named, unnamed, unit, VariantItem, ParameterItem, struct_body, enum_body, HeadItem, DeclaredItem}
-use Rattle.syntax.specs.ItemWords.{is_comma, before_comma, from_comma, is_restriction}
+use Rattle.words.specs.Visibility.{is_restriction}
+use Rattle.syntax.specs.ItemWords.{is_comma, before_comma, from_comma}
 use Rattle.syntax.specs.ItemGrammar.{IsVisibility, private, public, restricted, IsNamedField, named_field, IsUnnamedField, unnamed_field, IsFields, named_fields, unnamed_fields, no_fields, IsStructBody, in_braces, in_parentheses, fieldless, IsDiscriminant, no_discriminant, discriminant, IsVariant, variant_item, IsUse, use_line, IsStruct, struct_item, IsEnumBody, variants_in_braces, IsEnum, enum_item, IsDeclaration, structure, enumeration, IsItems, nothing, used, declared, IsSource, inner_doc, inner_attribute, items}
 use Rattle.syntax.specs.Generics.{IsWhere, no_where, where_clause}
 use Rattle.syntax.specs.GenericReading.{Readers, generics_at, after_where}

@@ -20,7 +20,8 @@ use Rattle.attributes.specs.AttributeWords.{is_inner_doc}
 use Rattle.attributes.specs.AttributeGrammar.{IsAttributes}
 use Rattle.attributes.proofs.Laws.{attributes_sound, attributes_no_longer}
 use Rattle.syntax.specs.Items.{FieldItem, FieldItems, named, unnamed, VariantItem, ParameterItem, struct_body, enum_body, HeadItem, DeclaredItem}
-use Rattle.syntax.specs.ItemWords.{after_semicolon, before_comma, from_comma, is_end}
+use Rattle.words.specs.Visibility.{after_semicolon, is_end}
+use Rattle.syntax.specs.ItemWords.{before_comma, from_comma}
 use Rattle.syntax.specs.ItemGrammar.{IsVisibility, IsNamedField, IsUnnamedField, IsFields, unnamed_fields, IsVariant, use_line}
 use Rattle.syntax.specs.ItemDepth.{within_levels, OpensNamed, in_named, OpensUnnamed, in_unnamed, OpensFields, in_named_fields, in_unnamed_fields, OpensVariant, in_variant_fields, OpensGenerics, OpensWhere, in_predicates, OpensStructBody, in_first_clause, in_braced, in_tuple, in_last_clause, OpensStruct, in_struct_generics, in_struct_body, OpensEnumBody, in_enum_clause, in_variants, OpensEnum, in_enum_generics, in_enum_body, OpensDeclaration, in_struct, in_enum, OpensItems, in_declaration, behind_use, behind_declaration, OpensSource, behind_inner_doc, behind_inner_attribute, in_items}
 use Rattle.syntax.specs.Generics.{IsGenerics, IsWhere, no_where, where_clause}

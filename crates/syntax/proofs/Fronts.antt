@@ -14,7 +14,7 @@ use Rattle.attributes.specs.Attributes.{AttributeItem}
 use Rattle.attributes.specs.AttributeWords.{begins, is_inner_text, doc_attribute, as_outer_doc}
 use Rattle.attributes.specs.AttributeGrammar.{IsAttribute, outer_doc, in_brackets, IsAttributes, no_attributes, more_attributes}
 use Rattle.attributes.specs.AttributeReading.{begin_attributes}
-use Rattle.syntax.specs.ItemWords.{is_restriction}
+use Rattle.words.specs.Visibility.{is_restriction}
 use Rattle.syntax.specs.ItemGrammar.{IsVisibility, private, public, restricted}
 use Rattle.syntax.specs.ItemReading.{is_scope, ends_item, after_scope, after_pub, after_visibility, inner_at}
 use Rattle.words.proofs.Laws.{keyword-is}

@@ -19,7 +19,8 @@ use Rattle.attributes.specs.AttributeGrammar.{IsAttributes}
 use Rattle.attributes.specs.AttributeReading.{attributes_at}
 use Rattle.attributes.proofs.Laws.{attributes_sound, attributes_no_longer}
 use Rattle.syntax.specs.Items.{FieldItem, FieldItems, named, unnamed, unit, VariantItem, HeadItem, DeclaredItem}
-use Rattle.syntax.specs.ItemWords.{is_semicolon, after_semicolon, before_comma, from_comma, is_end}
+use Rattle.words.specs.Visibility.{is_semicolon, after_semicolon, is_end}
+use Rattle.syntax.specs.ItemWords.{before_comma, from_comma}
 use Rattle.syntax.specs.ItemGrammar.{IsVisibility, IsNamedField, named_field, IsUnnamedField, unnamed_field, IsFields, named_fields, unnamed_fields, no_fields, IsStructBody, in_braces, in_parentheses, fieldless, IsDiscriminant, no_discriminant, discriminant, IsVariant, variant_item, IsUse, use_line, IsEnumBody, variants_in_braces, struct_item, enum_item, IsDeclaration, structure, enumeration, IsItems, nothing, used, declared, IsSource, inner_doc, inner_attribute, items}
 use Rattle.syntax.specs.Generics.{IsWhere}
 use Rattle.syntax.specs.ItemReading.{after_visibility, field_of, named_field_at, unnamed_field_at, fields_in, fields_at, begins_group, without_fields, tuple_body_at, other_body_at, struct_body_at, value_or_none, discriminant_at, variant_of, variant_at, declared_of, struct_at, enum_body_at, enum_at, struct_or_enum, declaration_at, left_by, use_or_declaration, item_at, kept, after_inner_attribute, inner_at, inner_from, after_inner_within, after_inner, source_at}

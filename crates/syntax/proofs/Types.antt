@@ -13,7 +13,7 @@ use Rattle.type_grammar.specs.Grammar.{IsType, IsBounds, pathed, referred, wrapp
 use Rattle.type_grammar.specs.Opening.{OpensType, OpensTypeOf, OpensInBounds, most_levels}
 use Rattle.type_grammar.specs.Reading.{after_bounds, type_at, type_in, type_step, path_at, segments_in, segments_at, segment_at, round_at}
 use Rattle.type_grammar.proofs.Laws as laws
-use Rattle.syntax.specs.ItemWords.{is_restriction}
+use Rattle.words.specs.Visibility.{is_restriction}
 
 pub type_sound : (n : ℕ) (ws : List Word) (t : Written) (rest : List Word) → type_at n ws ≡ Ok (t, rest) → IsType ws t rest
 type_sound n ws t rest e = laws.type_sound n Any ws t rest e

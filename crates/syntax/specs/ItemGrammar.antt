@@ -16,7 +16,8 @@ use Rattle.attributes.specs.AttributeWords.{is_inner_text}
 use Rattle.attributes.specs.AttributeGrammar.{IsAttributes}
 use Rattle.syntax.specs.Items.{FieldItem, FieldItems, named, unnamed, unit, VariantItem, ParameterItem, struct_body, enum_body, DeclaredItem}
 use Rattle.syntax.specs.Generics.{IsGenerics, IsWhere}
-use Rattle.syntax.specs.ItemWords.{after_semicolon, before_comma, from_comma, is_end, is_restriction, spanning}
+use Rattle.words.specs.Visibility.{after_semicolon, is_end, is_restriction}
+use Rattle.syntax.specs.ItemWords.{before_comma, from_comma, spanning}
 
 -- vis? = ("pub" ( "(" ("crate" | "self" | "super") ")" | "(" "in" any* ")" )?)?
 pub data IsVisibility : List Word → List Word → Type 0 where

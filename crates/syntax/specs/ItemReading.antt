@@ -15,7 +15,8 @@ use Rattle.attributes.specs.AttributeWords.{is_inner_doc}
 use Rattle.attributes.specs.AttributeReading.{attributes_at}
 use Rattle.syntax.specs.Items.{FieldItem, FieldItems, named, unnamed, unit, VariantItem, ParameterItem, BodyItem, struct_body, enum_body, HeadItem, DeclaredItem}
 use Rattle.syntax.specs.GenericReading.{Readers, generics_at, after_where}
-use Rattle.syntax.specs.ItemWords.{is_comma, after_semicolon, before_comma, from_comma, is_end, is_restriction, spanning}
+use Rattle.words.specs.Visibility.{after_semicolon, is_end, is_restriction}
+use Rattle.syntax.specs.ItemWords.{is_comma, before_comma, from_comma, spanning}
 
 -- what follows vis?; behind `pub`, where an unnamed field may end, a group is its type
 abbrev pub is_scope : Word → Bool

@@ -10,14 +10,14 @@ ghost use Rattle.syntax.specs.ItemReading.{struct_at, enum_at, declaration_at, i
 
 use crate::generics::generics_at;
 use crate::item::{Body, Declaration, Head};
-use crate::scope::{after_semicolon, after_visibility, spanning};
+use crate::scope::{after_visibility, spanning};
 use crate::struct_body::struct_body_at;
 use crate::variants::enum_body_at;
 use attributes::attributes_at;
 use std::alloc::Global;
 use texts::List;
 use tokens::TokenTree;
-use words::{Keyword, Stop, ident_of, keyword_at, name_at, optional_keyword};
+use words::{Keyword, Stop, after_semicolon, ident_of, keyword_at, name_at, optional_keyword};
 
 /// The name, the generics and the fields of a struct.
 #[tactic(auto, unfolding(crate::specs::ItemReading::struct_at))]

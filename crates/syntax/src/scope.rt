@@ -1,65 +1,19 @@
-//! Visibilities, `use` lines and spans.
+//! Visibilities, commas and spans.
 
-ghost use Rattle.std.specs.Prelude.{◌≡◌, ◌<◌, ◌≤◌, length, IfSome};
-ghost use Rattle.std.specs.Option.{option_map};
+ghost use Rattle.std.specs.Prelude.{◌≡◌, ◌<◌, ◌≤◌, length};
 ghost use Rattle.tokens.specs.Trees.{tree_view};
 ghost use Rattle.words.specs.Words.{span_of, words_view, word_of};
-ghost use Rattle.syntax.specs.ItemWords.{is_semicolon, is_comma, after_semicolon, is_end, is_restriction, spanning};
+ghost use Rattle.syntax.specs.ItemWords.{is_comma, spanning};
 ghost use Rattle.syntax.specs.ItemReading.{is_scope, ends_item, after_scope, after_visibility};
 
 use texts::Span;
 use tokens::{Bracket, TokenTree};
-use words::{Keyword, Sign, Word, covering, optional_keyword, word_of};
-
-fn is_semicolon(tree: &TokenTree) -> bool
-    ensures { result ≡ is_semicolon (word_of (tree_view tree.now)) }
-{
-    matches!(word_of(tree), Word::Sign(Sign::Semicolon, _))
-}
+use words::{Keyword, Sign, Word, covering, is_restriction, optional_keyword, word_of};
 
 pub(crate) fn is_comma(tree: &TokenTree) -> bool
     ensures { result ≡ is_comma (word_of (tree_view tree.now)) }
 {
     matches!(word_of(tree), Word::Sign(Sign::Comma, _))
-}
-
-/// What follows the first `;`.
-pub(crate) fn after_semicolon(trees: &[TokenTree]) -> Option<&[TokenTree]>
-    ensures value { option_map (λ rest. words_view rest.now) result
-        ≡ after_semicolon (words_view trees.now) }
-    ensures shorter { IfSome result (λ rest. length rest.now < length trees.now) }
-{
-    let mut rest = trees;
-    'trees: while let [first, after @ ..] = rest {
-        if is_semicolon(first) {
-            return Some(after);
-        }
-        rest = after;
-    }
-    None
-}
-
-pub(crate) fn is_end(trees: &[TokenTree]) -> bool
-    ensures { result ≡ is_end (words_view trees.now) }
-{
-    match trees {
-        [] => true,
-        [_first, _rest @ ..] => false,
-    }
-}
-
-/// Whether a visibility may be restricted so.
-fn is_restriction(trees: &[TokenTree]) -> bool
-    ensures { result ≡ is_restriction (words_view trees.now) }
-{
-    match trees {
-        [first, rest @ ..] => match word_of(first) {
-            Word::Keyword(Keyword::Crate | Keyword::SelfValue | Keyword::Super, _) => is_end(rest),
-            Word::Keyword(Keyword::In, _) => after_semicolon(rest).is_none(),
-            _ => false,
-        },
-        [] => false,
-    }
 }
 
 fn is_scope(tree: &TokenTree) -> bool

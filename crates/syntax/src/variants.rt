@@ -15,14 +15,14 @@ ghost use Rattle.syntax.specs.ItemReading.{discriminant_at, variant_at, enum_bod
 
 use crate::fields::fields_at;
 use crate::item::Variant;
-use crate::scope::{is_comma, is_end, spanning};
+use crate::scope::{is_comma, spanning};
 use crate::where_clause::after_where;
 use attributes::attributes_at;
 use std::alloc::Global;
 use texts::List;
 use tokens::{Bracket, Group, TokenTree, copy_trees};
 use words::{
-    ReadItem, Sign, Stop, group_at, ident_of, list_inside, name_at, optional_sign, stop_at,
+    ReadItem, Sign, Stop, group_at, ident_of, is_end, list_inside, name_at, optional_sign, stop_at,
 };
 
 /// The first comma, and what follows it.

@@ -1,4 +1,5 @@
-//! Words: what a token tree is to the grammar, the readers of single words, and lists with commas between their items.
+//! Words: what a token tree is to the grammar, the readers of single words, lists with commas between their items, and what
+//! restricts a visibility.
 #![tactic(auto)]
 
 mod comma;
@@ -7,6 +8,7 @@ mod lists;
 mod readers;
 mod stopping;
 mod tree_word;
+mod visibility;
 mod vocabulary;
 
 pub use comma::after_comma;
@@ -17,4 +19,5 @@ pub use readers::{
 };
 pub use stopping::{Stop, covering, start_of, stop_at};
 pub use tree_word::{Word, ident_of, lifetime_of, word_of};
+pub use visibility::{after_semicolon, is_end, is_restriction};
 pub use vocabulary::{Keyword, Sign};
