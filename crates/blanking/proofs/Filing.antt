@@ -5,6 +5,7 @@ use Rattle.std.specs.Option.{option_map}
 use Rattle.std.specs.Str.{bytes_eq}
 use Rattle.std.proofs.lemmas.Bool.{or_cases, or_from, or_left}
 use Rattle.std.proofs.lemmas.List.Folds.{list_any-append}
+use Rattle.std.proofs.lemmas.Slice.Eq.{bytes_eq-Decides}
 use Rattle.texts.specs.declared.span.Span.{Span}
 use Rattle.tokens.specs.declared.token.Bracket.{Bracket}
 use Rattle.tokens.specs.declared.token.TokenKind.{TokenKind}
@@ -21,7 +22,7 @@ use Rattle.prepare.specs.Items as item
 use Rattle.prepare.specs.Standing.{AreItems, no_items, more_items, StandIn, itself, nothing, StandInside, for_tests, items}
 use Rattle.prepare.specs.Standing as standing
 use Rattle.prepare.specs.Choices.{AreSpansOf, no_spans, taken, left}
-use Rattle.prepare.proofs.Laws.{not_none, listed_trees, listed_same, or_same, bytes_same, inner_stop, attributes_stop}
+use Rattle.prepare.proofs.Laws.{not_none, listed_trees, listed_same, or_same, inner_stop, attributes_stop}
 use Rattle.blanking.specs.Kept.{kept_of, kept, AreThose, no_others, one_holds, one_fails}
 use Rattle.blanking.proofs.Order.{IsBetween, AreBetween, tree_long, between_long, earlier}
 use Rattle.blanking.proofs.Settling.{IsAmong, first, further, all_none, lies_true, lies_between}
@@ -300,8 +301,8 @@ not_outer mark other e h = ap (λ v. bytes_eq v (codes "///") || bytes_eq v (cod
 inner_not_outer : (text : Option (List ℕ)) → is_inner_text text ≡ true → is_outer_text text ≡ false
 inner_not_outer None h = refl
 inner_not_outer (Some text) h = elim (or_cases (begins (codes "//!") text) (begins (codes "/*!") text) h) [
-  | inl e ↦ not_outer (take 3 text) (codes "//!") (bytes_same (take 3 text) (codes "//!") e) refl
-  | inr e ↦ not_outer (take 3 text) (codes "/*!") (bytes_same (take 3 text) (codes "/*!") e) refl
+  | inl e ↦ not_outer (take 3 text) (codes "//!") ((bytes_eq-Decides (take 3 text) (codes "//!")).0 e) refl
+  | inr e ↦ not_outer (take 3 text) (codes "/*!") ((bytes_eq-Decides (take 3 text) (codes "/*!")).0 e) refl
 ]
 
 cond_none : {X : Type 0} (a b : Bool) (x y : Option X) → a ≡ false → b ≡ false → cond a x (cond b y None) ≡ None
@@ -344,7 +345,7 @@ hash_none (token t) u ts h q =
     no_word kind.Literal g = cc
 
     other_sign : (k : TokenKind) → is_text (codes "#") (sign_in k t.text) ≡ true → is_text (codes "::") (sign_in k t.text) ≡ false
-    other_sign kind.Punct g = ap (λ v. bytes_eq v (codes "::")) (bytes_same t.text (codes "#") g)
+    other_sign kind.Punct g = ap (λ v. bytes_eq v (codes "::")) ((bytes_eq-Decides t.text (codes "#")).0 g)
     other_sign kind.Ident g = cc
     other_sign kind.Doc g = cc
     other_sign kind.Lifetime g = cc

@@ -1,5 +1,5 @@
 -- The span of an item that stands goes from its first tree to its last.
-use Rattle.std.proofs.Common.{◌≡◌, ◌∙◌, ℕ, zero, suc, ◌-◌, max, List, [], ◌∷◌, ◌++◌, length, take, get_or, refl, ap, sym, subst, arith, append_assoc, length-append, ◌⊎◌, inl, inr, Bool, true, false, cond, ◌&&◌, ◌==◌, Option, Some, None, is_some}
+use Rattle.std.proofs.Common.{◌≡◌, ◌∙◌, ℕ, zero, suc, ◌-◌, max, List, [], ◌∷◌, ◌++◌, length, take, get_or, refl, ap, sym, subst, arith, append_assoc, length-append, ◌⊎◌, inl, inr, Bool, true, false, cond, ◌&&◌, ◌==◌, Option, Some, None, is_some, not}
 use Rattle.std.specs.Prelude.{codes}
 use Rattle.std.proofs.lemmas.Bool.{or_cases, and_parts}
 use Rattle.std.proofs.lemmas.List.{take_at}
@@ -9,24 +9,25 @@ use Rattle.tokens.specs.declared.token.TokenKind.{TokenKind}
 use Rattle.tokens.specs.declared.token.TokenKind.TheVariants as kind
 use Rattle.tokens.specs.declared.token.Bracket.{Bracket}
 use Rattle.tokens.specs.Trees.{Tree, token, group, Trees, end, trees_of}
-use Rattle.words.specs.Words.{word_of, cover}
-use Rattle.words.specs.Reading.{as_name}
+use Rattle.words.specs.Words.{cover}
 use Rattle.written_types.specs.declared.written.Ident.{Ident}
 use Rattle.prepare.specs.declared.kind.Kind.{Kind}
 use Rattle.prepare.specs.declared.kind.Kind.TheVariants as kinds
 use Rattle.prepare.specs.declared.choice.Choice.{Choice}
 use Rattle.prepare.specs.declared.item.Standing.{Standing}
-use Rattle.prepare.specs.Trees.{listed, word, sign_in, is_text, is_word, is_sign, is_round, is_square, is_outer_doc, is_inner_doc, is_curly, is_group, is_path_part, inside, span_of, extent, before}
-use Rattle.prepare.specs.Attributes.{square_at, bang_at, attribute_at, inner_at, after_all_from, after_all_within, after_attributes, after_inner, after_scope, after_visibility, is_for_tests}
-use Rattle.prepare.specs.Ends.{after_semicolon, begins_with_name, after_mut, after_line, is_end, angles, after_block, after_path, after_name, semicolon_at, after_group, behind_path, after_call}
-use Rattle.prepare.specs.Forms.{Form, declares, uses, holds, passes, Found, ending, named_or_none, declared_at, declaration_at, held_at, module_at, form_of, kind_at, form_at}
+use Rattle.prepare.specs.Trees.{listed, word, sign_in, is_text, is_word, is_sign, is_square, is_outer_doc, is_inner_doc, is_curly, is_group, is_path_part, inside, span_of, extent, before}
+use Rattle.prepare.specs.Attributes.{square_at, bang_at, attribute_at, inner_at, after_all_from, after_all_within, after_attributes, after_inner, is_scope, after_scope, after_visibility, is_for_tests}
+use Rattle.prepare.specs.declared.previous.Behind.{Behind}
+use Rattle.prepare.specs.declared.previous.Behind.TheVariants.{Other}
+use Rattle.prepare.specs.Ends.{is_declaration_word, is_call, behind, after_semicolon, begins_with_name, after_mut, after_line, is_end, angles, after_block, after_path, after_name, semicolon_at, after_group, behind_path, after_call}
+use Rattle.prepare.specs.Forms.{Form, declares, uses, holds, passes, Found, ending, ident, named_or_none, declared_at, declaration_at, held_at, module_at, form_of, kind_at, form_at}
 use Rattle.prepare.specs.Items.{Item, item_of, item_from, item_at}
 use Rattle.prepare.specs.Items as item
 use Rattle.prepare.specs.Standing.{AreItems, no_items, more_items, StandIn, itself, nothing, StandInside, for_tests, items}
 use Rattle.prepare.specs.Standing as standing
 use Rattle.prepare.specs.Choices.{AreSpansOf, no_spans, taken, left, AreChosen}
 use Rattle.prepare.proofs.Laws.{some_same, not_none, listed_trees}
-use Rattle.blanking.proofs.Placing.{IsLast, EndsAt, by_it, later_on, IsPlaced, here, behind}
+use Rattle.blanking.proofs.Placing.{IsLast, EndsAt, by_it, later_on, IsPlaced, here}
 use Rattle.blanking.proofs.Placing as placing
 use Rattle.blanking.proofs.Settling.{IsAmong, first, further}
 
@@ -100,10 +101,10 @@ curly_last : (t : Tree) → is_curly t ≡ true → IsLast t
 curly_last (token t) e = cc
 curly_last (group b ts s) e = tt
 
-end_last : (opened : ℕ) (t : Tree) → is_end opened t ≡ true → IsLast t
-end_last opened t e = elim (or_cases (is_sign (codes ";") t) ((opened == 0) && is_curly t) e) [
+end_last : (was : Behind) (opened : ℕ) (t : Tree) → is_end was opened t ≡ true → IsLast t
+end_last was opened t e = elim (or_cases (is_sign (codes ";") t) ((opened == 0) && (is_curly t && not (is_call was))) e) [
   | inl h ↦ sign_last (codes ";") t h
-  | inr h ↦ curly_last t (and_parts (opened == 0) (is_curly t) h).1
+  | inr h ↦ curly_last t (and_parts (is_curly t) (not (is_call was)) (and_parts (opened == 0) (is_curly t && not (is_call was)) h).1).0
 ]
 
 last_here : {t : Tree} {rest ts : List Tree} → IsLast t → Some ts ≡ Some rest → FollowsLast rest (t ∷ ts)
@@ -111,9 +112,12 @@ last_here {t = t} h e = ([], t, ap (λ v. t ∷ v) (some_same e), h)
 
 pub semicolon_left : LeavesLast after_semicolon
 semicolon_left [] rest e = not_none e
-semicolon_left (t ∷ ts) rest e = elim (either (is_sign (codes ";") t) e) [
-  | inl h ↦ last_here (sign_last (codes ";") t h.0) h.1
-  | inr h ↦ more_last (semicolon_left ts rest h.1)
+semicolon_left (t ∷ ts) rest e = elim (either (is_declaration_word t) e) [
+  | inl h ↦ not_none h.1
+  | inr g ↦ elim (either (is_sign (codes ";") t) g.1) [
+    | inl h ↦ last_here (sign_last (codes ";") t h.0) h.1
+    | inr h ↦ more_last (semicolon_left ts rest h.1)
+  ]
 ]
 
 line_left : LeavesLast after_line
@@ -123,12 +127,15 @@ line_left (t ∷ ts) rest e = elim (either (begins_with_name (after_mut ts)) e) 
   | inr h ↦ not_none h.1
 ]
 
-pub block_left : (is_behind_minus : Bool) (opened : ℕ) → LeavesLast (after_block is_behind_minus opened)
+pub block_left : (was : Behind) (opened : ℕ) → LeavesLast (after_block was opened)
 unfolding after_block
-block_left d n [] rest e = not_none e
-block_left d n (t ∷ ts) rest e = elim (either (is_end n t) e) [
-  | inl h ↦ last_here (end_last n t h.0) h.1
-  | inr h ↦ more_last (block_left (is_sign (codes "-") t) (angles d n t) ts rest h.1)
+block_left was n [] rest e = not_none e
+block_left was n (t ∷ ts) rest e = elim (either (is_declaration_word t) e) [
+  | inl h ↦ not_none h.1
+  | inr g ↦ elim (either (is_end was n t) g.1) [
+    | inl h ↦ last_here (end_last was n t h.0) h.1
+    | inr h ↦ more_last (block_left (behind was t) (angles was n t) ts rest h.1)
+  ]
 ]
 
 -- ---- the other readers
@@ -167,7 +174,7 @@ call_left (t ∷ ts) rest e = elim (either (is_path_part t) e) [
 
 pub scope_left : (ts : List Tree) → Follows (after_scope ts) ts
 scope_left [] = same refl
-scope_left (t ∷ ts) = follows_if (is_round t) (more (same refl)) (same refl)
+scope_left (t ∷ ts) = follows_if (is_scope t) (more (same refl)) (same refl)
 
 pub visibility_left : (ts : List Tree) → Follows (after_visibility ts) ts
 visibility_left [] = same refl
@@ -236,11 +243,11 @@ one_more t ts found h = then_form found.0 found.1 ts (t ∷ ts) h (more (same re
 
 named_ends : (name : Option Ident) (ts : List Tree) (found : Found) → named_or_none name ts ≡ Some found → FormEnds found.0 found.1 ts
 named_ends None ts found e = not_none e
-named_ends (Some name) ts found e = found_ends (declares name ts) ts (after_block false 0 ts) found (λ rest f. block_left false 0 ts rest f) e
+named_ends (Some name) ts found e = found_ends (declares name ts) ts (after_block Other 0 ts) found (λ rest f. block_left Other 0 ts rest f) e
 
 declared_ends : (ts : List Tree) (found : Found) → declared_at ts ≡ Some found → FormEnds found.0 found.1 ts
 declared_ends [] found e = not_none e
-declared_ends (t ∷ ts) found e = one_more t ts found (named_ends (as_name (word_of t)) ts found e)
+declared_ends (t ∷ ts) found e = one_more t ts found (named_ends (ident t) ts found e)
 
 declaration_ends : (ts : List Tree) (found : Found) → declaration_at ts ≡ Some found → FormEnds found.0 found.1 ts
 declaration_ends [] found e = not_none e
@@ -271,7 +278,7 @@ form_of_ends kinds.Declaration ts found e = declaration_ends ts found e
 form_of_ends kinds.Use ts found e = found_ends uses ts (after_semicolon ts) found (semicolon_left ts) e
 form_of_ends kinds.Module ts found e = module_ends ts found e
 form_of_ends kinds.Line ts found e = found_ends passes ts (after_line ts) found (λ rest f. last_follows (line_left ts rest f)) e
-form_of_ends kinds.Block ts found e = found_ends passes ts (after_block false 0 ts) found (λ rest f. last_follows (block_left false 0 ts rest f)) e
+form_of_ends kinds.Block ts found e = found_ends passes ts (after_block Other 0 ts) found (λ rest f. last_follows (block_left Other 0 ts rest f)) e
 form_of_ends kinds.Call ts found e = found_ends passes ts (after_call ts) found (call_left ts) e
 
 form_ends : (ts : List Tree) (found : Found) → form_at ts ≡ Some found → FormEnds found.0 found.1 ts
@@ -315,7 +322,7 @@ Place x ts = IsPlaced (max x.start) x (trees_of ts)
 
 behind_all : (x : Span) (pre rest : List Tree) → Place x rest → Place x (pre ++ rest)
 behind_all x [] rest h = h
-behind_all x (t ∷ ts) rest h = behind (behind_all x ts rest h)
+behind_all x (t ∷ ts) rest h = placing.behind (behind_all x ts rest h)
 
 place_follows : (x : Span) (rest ts : List Tree) → Follows rest ts → Place x rest → Place x ts
 place_follows x rest ts f h = subst (Place x) (sym f.1) (behind_all x f.0 rest h)

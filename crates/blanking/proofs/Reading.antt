@@ -6,17 +6,17 @@ use Rattle.std.proofs.lemmas.List.{take_at}
 use Rattle.tokens.specs.declared.token.TokenKind.{TokenKind}
 use Rattle.tokens.specs.declared.token.TokenKind.TheVariants as kind
 use Rattle.tokens.specs.Trees.{Tree, token, group}
-use Rattle.words.specs.Words.{word_of}
-use Rattle.words.specs.Reading.{as_name}
 use Rattle.written_types.specs.declared.written.Ident.{Ident}
 use Rattle.prepare.specs.declared.kind.Kind.{Kind}
 use Rattle.prepare.specs.declared.kind.Kind.TheVariants as kinds
 use Rattle.prepare.specs.declared.item.Standing.{Standing}
-use Rattle.prepare.specs.Trees.{word, word_in, sign_in, doc_in, is_text, is_word, is_sign, is_round, is_square, is_outer_doc, is_outer_text, is_curly, extent, before}
-use Rattle.prepare.specs.Attributes.{square_at, attribute_at, after_attributes, after_scope, after_visibility, is_for_tests}
+use Rattle.prepare.specs.Trees.{word, word_in, sign_in, doc_in, is_text, is_word, is_sign, is_square, is_outer_doc, is_outer_text, is_curly, extent, before}
+use Rattle.prepare.specs.Attributes.{square_at, attribute_at, after_attributes, is_scope, after_scope, after_visibility, is_for_tests}
 use Rattle.prepare.specs.Kinds.{kind_of}
-use Rattle.prepare.specs.Ends.{after_semicolon, after_line, is_end, angles, after_block, semicolon_at, after_call}
-use Rattle.prepare.specs.Forms.{Form, declares, uses, holds, passes, Found, first_word, kind_by, kind_at, ending, named_or_none, declared_at, declaration_at, held_at, module_at, use_at, form_of, form_at}
+use Rattle.prepare.specs.declared.previous.Behind.{Behind}
+use Rattle.prepare.specs.declared.previous.Behind.TheVariants.{Other}
+use Rattle.prepare.specs.Ends.{is_declaration_word, behind, after_semicolon, after_line, is_end, angles, after_block, semicolon_at, after_call}
+use Rattle.prepare.specs.Forms.{Form, declares, uses, holds, passes, Found, first_word, kind_by, kind_at, ending, ident, named_or_none, declared_at, declaration_at, held_at, module_at, use_at, form_of, form_at}
 use Rattle.prepare.specs.Items.{Item, declared_of, item_of, unless_for_tests, item_from, item_at}
 use Rattle.prepare.specs.Items as item
 use Rattle.prepare.proofs.Laws.{some_same, not_none, attributes_step, attributes_stop}
@@ -143,28 +143,37 @@ visibility_of w k rest keyword own e = by_word k (is_word (codes "pub") w) refl 
     by_word k false h e more = ap (λ v. cond v (after_scope (k ++ more)) (w ∷ k ++ more)) h ∙ ap (λ v. v ++ more) (same_front (w ∷ k) (keyword ∷ own) rest e)
     by_word [] true h e more = too_many keyword own rest (subst (λ u. Follows u rest) e (scope_left rest))
     by_word (u ∷ us) true h e more =
-        let same : cond (is_round u) us (u ∷ us) ≡ keyword ∷ own = same_front (cond (is_round u) us (u ∷ us)) (keyword ∷ own) rest (sym (cond_front (is_round u) us (u ∷ us) rest) ∙ e) in
-        ap (λ v. cond v (after_scope (u ∷ us ++ more)) (w ∷ u ∷ us ++ more)) h ∙ cond_front (is_round u) us (u ∷ us) more ∙ ap (λ v. v ++ more) same
+        let same : cond (is_scope u) us (u ∷ us) ≡ keyword ∷ own = same_front (cond (is_scope u) us (u ∷ us)) (keyword ∷ own) rest (sym (cond_front (is_scope u) us (u ∷ us) rest) ∙ e) in
+        ap (λ v. cond v (after_scope (u ∷ us ++ more)) (w ∷ u ∷ us ++ more)) h ∙ cond_front (is_scope u) us (u ∷ us) more ∙ ap (λ v. v ++ more) same
 
 -- ---- ends
 semicolon_of : (own rest : List Tree) → after_semicolon (own ++ rest) ≡ Some rest → (more : List Tree) → after_semicolon (own ++ more) ≡ Some more
 semicolon_of [] rest e more = last_short rest rest (semicolon_left rest rest e) (omega arith)
-semicolon_of (t ∷ ts) rest e more = elim (either (is_sign (codes ";") t) e) [
-  | inl h ↦
-      let none : ts ≡ [] = same_front ts [] rest (some_same h.1) in
-      ap (λ v. cond v (Some (ts ++ more)) (after_semicolon (ts ++ more))) h.0 ∙ ap (λ v. Some (v ++ more)) none
-  | inr h ↦ ap (λ v. cond v (Some (ts ++ more)) (after_semicolon (ts ++ more))) h.0 ∙ semicolon_of ts rest h.1 more
+semicolon_of (t ∷ ts) rest e more = elim (either (is_declaration_word t) e) [
+  | inl h ↦ not_none h.1
+  | inr g ↦ ap (λ v. cond v None (cond (is_sign (codes ";") t) (Some (ts ++ more)) (after_semicolon (ts ++ more)))) g.0 ∙ elim (either (is_sign (codes ";") t) g.1) [
+    | inl h ↦
+        let none : ts ≡ [] = same_front ts [] rest (some_same h.1) in
+        ap (λ v. cond v (Some (ts ++ more)) (after_semicolon (ts ++ more))) h.0 ∙ ap (λ v. Some (v ++ more)) none
+    | inr h ↦ ap (λ v. cond v (Some (ts ++ more)) (after_semicolon (ts ++ more))) h.0 ∙ semicolon_of ts rest h.1 more
+  ]
 ]
 
-block_of : (d : Bool) (n : ℕ) (own rest : List Tree) → after_block d n (own ++ rest) ≡ Some rest → (more : List Tree) → after_block d n (own ++ more) ≡ Some more
+block_of : (was : Behind) (n : ℕ) (own rest : List Tree) → after_block was n (own ++ rest) ≡ Some rest → (more : List Tree) → after_block was n (own ++ more) ≡ Some more
 unfolding after_block
-block_of d n [] rest e more = last_short rest rest (block_left d n rest rest e) (omega arith)
-block_of d n (t ∷ ts) rest e more = elim (either (is_end n t) e) [
-  | inl h ↦
-      let none : ts ≡ [] = same_front ts [] rest (some_same h.1) in
-      ap (λ v. cond v (Some (ts ++ more)) (after_block (is_sign (codes "-") t) (angles d n t) (ts ++ more))) h.0 ∙ ap (λ v. Some (v ++ more)) none
-  | inr h ↦ ap (λ v. cond v (Some (ts ++ more)) (after_block (is_sign (codes "-") t) (angles d n t) (ts ++ more))) h.0 ∙ block_of (is_sign (codes "-") t) (angles d n t) ts rest h.1 more
-]
+block_of was n [] rest e more = last_short rest rest (block_left was n rest rest e) (omega arith)
+block_of was n (t ∷ ts) rest e more =
+    let next = behind was t in
+    let open_ones = angles was n t in
+    elim (either (is_declaration_word t) e) [
+      | inl h ↦ not_none h.1
+      | inr g ↦ ap (λ v. cond v None (cond (is_end was n t) (Some (ts ++ more)) (after_block next open_ones (ts ++ more)))) g.0 ∙ elim (either (is_end was n t) g.1) [
+        | inl h ↦
+            let none : ts ≡ [] = same_front ts [] rest (some_same h.1) in
+            ap (λ v. cond v (Some (ts ++ more)) (after_block next open_ones (ts ++ more))) h.0 ∙ ap (λ v. Some (v ++ more)) none
+        | inr h ↦ ap (λ v. cond v (Some (ts ++ more)) (after_block next open_ones (ts ++ more))) h.0 ∙ block_of next open_ones ts rest h.1 more
+      ]
+    ]
 
 -- ---- kinds
 -- a kind that goes by its word
@@ -283,19 +292,19 @@ module_none (t ∷ u ∷ ts) found e = elim (either (is_some (word u)) e) [ inl 
 
 named_form : (name : Option Ident) (ts : List Tree) (found : Found) → named_or_none name ts ≡ Some found → (x : Ident) × (b : List Tree) × (found.0 ≡ declares x b)
 named_form None ts found e = not_none e
-named_form (Some x) ts found e = (x, ts, sym (ending_form (declares x ts) (after_block false 0 ts) found e))
+named_form (Some x) ts found e = (x, ts, sym (ending_form (declares x ts) (after_block Other 0 ts) found e))
 
 declaration_form : (ts : List Tree) (found : Found) → declaration_at ts ≡ Some found → (x : Ident) × (b : List Tree) × (found.0 ≡ declares x b)
 declaration_form [] found e = not_none e
 declaration_form (t ∷ []) found e = not_none e
-declaration_form (t ∷ u ∷ ts) found e = named_form (as_name (word_of u)) ts found e
+declaration_form (t ∷ u ∷ ts) found e = named_form (ident u) ts found e
 
 declares_kind : (k : Kind) (ts : List Tree) (name : Ident) (b : List Tree) (found : Found) → form_of k ts ≡ Some found → found.0 ≡ declares name b → k ≡ kinds.Declaration
 declares_kind kinds.Declaration ts name b found e f = refl
 declares_kind kinds.Use ts name b found e f = let form : uses ≡ declares name b = ending_form uses (after_semicolon ts) found e ∙ f in cc
 declares_kind kinds.Module ts name b found e f = absurd (subst NoneStands f (module_none ts found e))
 declares_kind kinds.Line ts name b found e f = absurd (subst NoneStands f (passing_none (after_line ts) found e))
-declares_kind kinds.Block ts name b found e f = absurd (subst NoneStands f (passing_none (after_block false 0 ts) found e))
+declares_kind kinds.Block ts name b found e f = absurd (subst NoneStands f (passing_none (after_block Other 0 ts) found e))
 declares_kind kinds.Call ts name b found e f = absurd (subst NoneStands f (passing_none (after_call ts) found e))
 
 uses_kind : (k : Kind) (ts : List Tree) (found : Found) → form_of k ts ≡ Some found → found.0 ≡ uses → k ≡ kinds.Use
@@ -303,7 +312,7 @@ uses_kind kinds.Declaration ts found e f = let form = declaration_form ts found 
 uses_kind kinds.Use ts found e f = refl
 uses_kind kinds.Module ts found e f = absurd (subst NoneStands f (module_none ts found e))
 uses_kind kinds.Line ts found e f = absurd (subst NoneStands f (passing_none (after_line ts) found e))
-uses_kind kinds.Block ts found e f = absurd (subst NoneStands f (passing_none (after_block false 0 ts) found e))
+uses_kind kinds.Block ts found e f = absurd (subst NoneStands f (passing_none (after_block Other 0 ts) found e))
 uses_kind kinds.Call ts found e f = absurd (subst NoneStands f (passing_none (after_call ts) found e))
 
 -- the end of a form
@@ -313,18 +322,18 @@ ending_rest form other (Some x) rest e = ap (λ v. Some v.1) (some_same e)
 
 -- a declaration, behind its keyword
 abbrev DeclaredBehind : List Tree → List Tree → Type 0
-DeclaredBehind ts rest = (t : Tree) × (b : List Tree) × (name : Ident) × (ts ≡ t ∷ b ++ rest) × (as_name (word_of t) ≡ Some name) × (after_block false 0 (b ++ rest) ≡ Some rest)
+DeclaredBehind ts rest = (t : Tree) × (b : List Tree) × (name : Ident) × (ts ≡ t ∷ b ++ rest) × (ident t ≡ Some name) × (after_block Other 0 (b ++ rest) ≡ Some rest)
 
 declared_behind : (ts rest : List Tree) (form : Form) → declared_at ts ≡ Some (form, rest) → DeclaredBehind ts rest
 declared_behind [] rest form e = not_none e
-declared_behind (t ∷ ts) rest form e = of_name (as_name (word_of t)) refl e
+declared_behind (t ∷ ts) rest form e = of_name (ident t) refl e
   where
-    of_name : (found : Option Ident) → as_name (word_of t) ≡ found → named_or_none found ts ≡ Some (form, rest) → DeclaredBehind (t ∷ ts) rest
+    of_name : (found : Option Ident) → ident t ≡ found → named_or_none found ts ≡ Some (form, rest) → DeclaredBehind (t ∷ ts) rest
     of_name None n f = not_none f
     of_name (Some name) n f =
-        let block = ending_rest (declares name ts) form (after_block false 0 ts) rest f in
-        let left = last_follows (block_left false 0 ts rest block) in
-        (t, left.0, name, ap (λ v. t ∷ v) left.1, n, ap (after_block false 0) (sym left.1) ∙ block)
+        let block = ending_rest (declares name ts) form (after_block Other 0 ts) rest f in
+        let left = last_follows (block_left Other 0 ts rest block) in
+        (t, left.0, name, ap (λ v. t ∷ v) left.1, n, ap (after_block Other 0) (sym left.1) ∙ block)
 
 declared_any : (own rest : List Tree) (form : Form) → form_at (after_visibility (after_attributes (own ++ rest))) ≡ Some (form, rest) → (name : Ident) (b : List Tree) → form ≡ declares name b → ReadsAny own
 unfolding form_at
@@ -336,7 +345,7 @@ declared_any own rest form e name b is =
     of_keyword word_first.0 word_first.1 word_first.2 word_first.3 word_first.4 word_first.5 (sym (ap declaration_at word_first.3) ∙ declaration)
   where
     of_behind : (keyword : Tree) (w : List ℕ) → word keyword ≡ Some w → (t : Tree) (bs : List Tree) (x : Ident) → after_visibility (after_attributes (own ++ rest)) ≡ keyword ∷ t ∷ bs ++ rest → kind_of w (word t) ≡ kinds.Declaration
-        → as_name (word_of t) ≡ Some x → after_block false 0 (bs ++ rest) ≡ Some rest → ReadsAny own
+        → ident t ≡ Some x → after_block Other 0 (bs ++ rest) ≡ Some rest → ReadsAny own
     of_behind keyword w h t bs x k d n block =
         let read = keyword_of own rest keyword (t ∷ bs) w h k in
         let value = item.stands (record { declared = Some (declared_of x read.attributes (keyword ∷ []) bs); span = extent own }) in
@@ -344,7 +353,7 @@ declared_any own rest form e name b is =
         ap (λ v. form_of (kind_by v (word t)) (keyword ∷ t ∷ bs ++ more)) h
         ∙ ap (λ v. form_of v (keyword ∷ t ∷ bs ++ more)) d
         ∙ ap (λ v. named_or_none v (bs ++ more)) n
-        ∙ ap (ending (declares x (bs ++ more))) (block_of false 0 bs rest block more) in
+        ∙ ap (ending (declares x (bs ++ more))) (block_of Other 0 bs rest block more) in
         let attributes : (more : List Tree) → before (own ++ more) (read.start ++ more) ≡ read.attributes = λ more. ap (λ v. before (v ++ more) (read.start ++ more)) read.own_is ∙ before_part read.attributes read.start more in
         item_any own keyword (t ∷ bs) read (λ more. declares x (bs ++ more)) value forms
         (λ more.
@@ -374,7 +383,10 @@ uses_any own rest form e is =
     of_keyword : (keyword : Tree) (us : List Tree) (w : List ℕ) → after_visibility (after_attributes (own ++ rest)) ≡ keyword ∷ us → word keyword ≡ Some w → kind_of w (first_word us) ≡ kinds.Use → use_at (keyword ∷ us) ≡ Some (form, rest) → ReadsAny own
     of_keyword keyword us w k h d f =
         let other = word_no_sign (codes ";") keyword w h in
-        let line : after_semicolon us ≡ Some rest = sym (ap (λ v. cond v (Some us) (after_semicolon us)) other) ∙ ending_rest uses form (after_semicolon (keyword ∷ us)) rest f in
+        let semicolon : after_semicolon (keyword ∷ us) ≡ Some rest = ending_rest uses form (after_semicolon (keyword ∷ us)) rest f in
+        let no_declaration : is_declaration_word keyword ≡ false = elim (either (is_declaration_word keyword) semicolon) [ inl g ↦ not_none g.1 | inr g ↦ g.0 ] in
+        let line : after_semicolon us ≡ Some rest =
+        sym (ap (λ v. cond v (Some us) (after_semicolon us)) other) ∙ sym (ap (λ b. cond b None (cond (is_sign (codes ";") keyword) (Some us) (after_semicolon us))) no_declaration) ∙ semicolon in
         let left = semicolon_left us rest line in
         let behind = left.0 ++ left.1 ∷ [] in
         let whole : us ≡ behind ++ rest = left.2 ∙ sym (append_assoc left.0 (left.1 ∷ []) rest) in
@@ -384,6 +396,7 @@ uses_any own rest form e is =
         ap (λ v. form_of (kind_by v (first_word (behind ++ more))) (keyword ∷ behind ++ more)) h
         ∙ ap (λ v. form_of (kind_of w v) (keyword ∷ behind ++ more)) (first_same left.0 left.1 more rest ∙ sym (ap first_word whole))
         ∙ ap (λ v. form_of v (keyword ∷ behind ++ more)) d
+        ∙ ap (λ b. ending uses (cond b None (cond (is_sign (codes ";") keyword) (Some (behind ++ more)) (after_semicolon (behind ++ more))))) no_declaration
         ∙ ap (λ v. ending uses (cond v (Some (behind ++ more)) (after_semicolon (behind ++ more)))) other
         ∙ ap (ending uses) (semicolon_of behind rest (sym (ap after_semicolon whole) ∙ line) more) in
         item_any own keyword behind read (λ more. uses) value forms (λ more. ap (λ v. item.stands (record { declared = None; span = extent v })) (before_all own more))

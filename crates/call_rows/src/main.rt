@@ -12,6 +12,7 @@ mod single_words;
 mod term_rows;
 mod trees;
 mod whole;
+mod whole_files;
 mod written;
 
 use anyhow::bail;
@@ -42,6 +43,7 @@ fn told(alloc: Global, row: &Row) -> anyhow::Result<String> {
         "type_text" => arguments::text(alloc, given),
         "numbers" => arguments::numbers(alloc),
         "instances" => composed::of_source(alloc, given),
+        "files" => whole_files::document(alloc, given),
         "terms" | "parts" | "place" => term_rows::of_source(alloc, row.call.as_str(), given),
         other => bail!("no call {other}"),
     }

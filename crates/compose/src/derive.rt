@@ -71,7 +71,7 @@ fn components_within(
     Ok(Derived { components, types })
 }
 
-/// The components of the declarations.
+/// The components of the declarations. Each field in braces has a name, as it has in declarations that are read.
 ///
 /// A refusal is as for `terms`; else it is as for `instances`.
 pub fn derive_declarations(

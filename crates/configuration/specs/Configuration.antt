@@ -1,5 +1,5 @@
 -- What deriving may take, which instances get components, what names become by rename rules, and what aliases stand for.
-use Rattle.std.specs.Prelude.{ℕ, List, []}
+use Rattle.std.specs.Prelude.{ℕ, List, [], ◌++◌}
 use Rattle.diag.specs.declared.rename_row.RenameRow.{RenameRow}
 use Rattle.written_types.specs.Written.{Written}
 use Rattle.configuration.specs.declared.collect.SchemaCollect.{SchemaCollect}
@@ -22,3 +22,7 @@ pub record Configuration : Type 0 where
 -- what holds where nothing is configured
 abbrev pub empty_configuration : Configuration
 empty_configuration = record { limit = 1000; copies = 10000; collect = NonInlined; renames = []; aliases = [] }
+
+-- with rows behind its own
+abbrev pub with_rows : Configuration → List RenameRow → Configuration
+with_rows c rows = record c { renames = c.renames ++ rows }

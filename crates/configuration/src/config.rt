@@ -1,11 +1,11 @@
-ghost use Rattle.std.specs.Prelude.{◌≡◌, ◌≤◌, ◌⊎◌, ◌↔◌, ℕ, List, map, IsTrue, IfOk, IfSome, MatchOption, codes};
+ghost use Rattle.std.specs.Prelude.{◌≡◌, ◌≤◌, ◌⊎◌, ◌↔◌, ℕ, List, [], ◌∷◌, map, IsTrue, IfOk, IfSome, OnOk, OnErr, MatchOption, codes};
 ghost use Rattle.std.specs.BTreeMap.{get_by_text};
 ghost use Rattle.diag.specs.Refusal.{Refuses, IsErrorFor};
 ghost use Rattle.serde_json.specs.Find.{get};
 ghost use Rattle.serde_json.specs.View.{view as view_of};
 ghost use Rattle.texts.specs.Names.{place_in};
 ghost use Rattle.written_types.specs.Written.{written_view};
-ghost use Rattle.configuration.specs.Configuration.{empty_configuration, Configuration};
+ghost use Rattle.configuration.specs.Configuration.{empty_configuration, with_rows, Configuration};
 ghost use Rattle.configuration.specs.Aliases.{alias_names, alias_types, bare};
 ghost use Rattle.configuration.specs.Form.{KeepsEmpty, HoldsTexts, SaysOthers, HasForm, IsConfiguration, IsConfigurationText, IsBadConfig, IsAliasDepth, IsRefusedConfiguration, IsRefusedText};
 
@@ -15,7 +15,7 @@ use crate::members::{
     collect_at, holds_texts_at, is_empty_list_at, is_empty_object_at, is_object_of, whole_at,
 };
 use crate::renames::renames_at;
-use diag::{DeriveError, Kind, RenameTable};
+use diag::{DeriveError, Kind, RenameRow, RenameTable};
 use serde_json::Value;
 use std::alloc::{AllocError, Global};
 use std::collections::BTreeMap;
@@ -132,6 +132,15 @@ impl Config {
                 }
             }
         }
+    }
+
+    /// Puts a row behind those of the configuration. It counts where none of these is for the same name. A refused call
+    /// changes nothing.
+    pub fn push_row(&mut self, row: RenameRow) -> Result<(), AllocError>
+        ensures ok { OnOk result (self.new ≡ with_rows self.old (row ∷ [])) }
+        ensures err { OnErr result (self.new ≡ self.old) }
+    {
+        self.renames.push(row)
     }
 
     /// The most instances that may be reachable.

@@ -16,3 +16,4 @@ pub mod Apart
 pub mod BodyLaws
 pub mod Rowless
 pub mod Meant
+pub mod Judging

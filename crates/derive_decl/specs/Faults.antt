@@ -1,8 +1,8 @@
 -- Why a declaration has no schema: an attribute that nothing is derived from, a generic parameter given twice, serde's items that contradict each other, name a content and no tag, or name a rename rule that there is not, a tag that cannot stand where it should, a name that has no row or that two fields or variants have, a type that stands for nothing or is too large, a form of unnamed fields without a field.
-use Rattle.std.specs.Prelude.{◌≡◌, ◌⊎◌, ℕ, List, [], Option, Some, None, Ok, codes}
+use Rattle.std.specs.Prelude.{◌≡◌, ◌≢◌, ◌⊎◌, ℕ, List, [], Option, Some, None, Ok, codes, slice_get}
 use Rattle.diag.specs.Refusal.{IsRefusal, IsSyntaxRefusal, RefusesNone}
 use Rattle.diag.specs.declared.error.DeriveError.{DeriveError}
-use Rattle.diag.specs.declared.kind.Kind.TheVariants.{Arity, SerdeTag}
+use Rattle.diag.specs.declared.kind.Kind.TheVariants.{Arity, DuplicateName, SerdeTag}
 use Rattle.diag.specs.declared.rename_rule.RenameRule.{RenameRule}
 use Rattle.diag.specs.declared.rename_row.RenameRow.{RenameRow}
 use Rattle.diag.specs.declared.rename_row.RenamePlace.TheVariants.{Field, Variant}
@@ -16,7 +16,7 @@ use Rattle.serde_rules.specs.declared.enum_repr.SerdeEnumRepr.TheVariants.{Unfin
 use Rattle.serde_rules.specs.Container.{representation, rename_rule, IsContainerRefusal}
 use Rattle.syntax.specs.Items.{FieldItem, FieldItems, named, unnamed, unit, VariantItem, ParameterItem, BodyItem, struct_body, enum_body, DeclaredItem}
 use Rattle.resolving.specs.Resolved.{Fault, IsFault, IsRefusedFor}
-use Rattle.scopes.specs.Names.{IsGivenTwice}
+use Rattle.scopes.specs.Names.{IsGivenTwice, duplicate_message, place_among}
 use Rattle.shapes.specs.Declarations.{FormOf}
 use Rattle.shapes.specs.declared.tagging.Tagging.{Tagging}
 use Rattle.shapes.specs.declared.tagging.Tagging.TheVariants.{External, Internal, Adjacent, Untagged}
@@ -156,3 +156,12 @@ IsFaultyItem around d e = AreFaultyParameters d.generics e ⊎ IsFaultyDeclarati
 -- the error refuses one of the declarations
 abbrev pub AreFaultyItems : Configuration → List DeclaredItem → DeriveError → Type 0
 AreFaultyItems c ds e = Somewhere (λ d. IsFaultyItem (around_of c ds d.ident.text d.generics) d e) ds
+
+-- the error refuses the declaration, which stands at the place among these: one of its name stands before it, or else it is at fault itself
+abbrev pub IsFaultyIn : Configuration → List DeclaredItem → ℕ → DeclaredItem → DeriveError → Type 0
+IsFaultyIn c ds at d e =
+    ((place_among ds d.ident.text ≢ Some at) × IsRefusal DuplicateName d.ident.span (duplicate_message d.ident.text) e)
+    ⊎ ((place_among ds d.ident.text ≡ Some at) × IsFaultyItem (around_of c ds d.ident.text d.generics) d e)
+
+abbrev pub IsFaultyAt : Configuration → List DeclaredItem → ℕ → DeriveError → Type 0
+IsFaultyAt c ds at e = (d : DeclaredItem) × (slice_get ds at ≡ Some d) × IsFaultyIn c ds at d e

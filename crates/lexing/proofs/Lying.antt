@@ -1,11 +1,10 @@
 -- Trees lie where the pieces lie that they are made of.
-use Rattle.std.proofs.Common.{◌≡◌, ℕ, List, ◌∷◌, sym, subst}
-use Rattle.std.specs.Str.{IsUtf8, IsCharBoundary}
+use Rattle.std.proofs.Common.{ℕ, List, sym, subst}
+use Rattle.std.specs.Str.{IsCharBoundary}
 use Rattle.tokens.specs.Trees.{Trees}
 use Rattle.lexing.specs.declared.piece.Piece.{Piece}
 use Rattle.lexing.specs.Nesting.{IsTrees, none, blank, lone, grouped}
 use Rattle.lexing.specs.Reading.{LieIn}
-use Rattle.lexing.specs.Cut.{IsCut}
 use Rattle.lexing.specs.Lying.{AreIn, TreesLie}
 use Rattle.lexing.proofs.NestLaws.{lie_after}
 use Rattle.lexing.proofs.CutLaws.{pieces_lie}

@@ -11,7 +11,7 @@ mod scan;
 mod text;
 mod word;
 
-pub use law::{deep_brackets_nest_deep, one_cut, one_deep_bracket};
+pub use law::{deep_brackets_nest_deep, one_cut, one_deep_bracket, trees_lie};
 pub use lexer::lex;
 pub use nest::MAX_DEPTH;
 pub use tokens::{Bracket, Cursor, Group, Token, TokenKind, TokenTree, copy_trees};

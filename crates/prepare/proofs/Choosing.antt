@@ -1,14 +1,13 @@
 -- The spans of what is chosen, one after another.
-use Rattle.std.proofs.Common.{◌≡◌, ◌∙◌, ◌≤◌, ◌<◌, ◌-◌, ℕ, length, get_or, take, drop, arith, ap₂, map, List, [], ◌∷◌, ◌++◌, refl, ap, sym, subst, append_assoc, ◌⊎◌, inl, inr, Bool, true, false, not, ◌||◌, Option, Some, None, is_some, is_none}
+use Rattle.std.proofs.Common.{◌≡◌, ◌∙◌, ◌≤◌, ◌<◌, ◌-◌, ℕ, length, get_or, take, drop, arith, ap₂, List, [], ◌∷◌, ◌++◌, refl, ap, sym, subst, append_assoc, ◌⊎◌, inl, inr, Bool, true, false, not, ◌||◌, Option, Some, None, is_some, is_none}
 use Rattle.std.specs.List.{cons_option}
 use Rattle.std.proofs.lemmas.List.{append-nil}
 use Rattle.std.proofs.lemmas.Bool.{or_cases}
 use Rattle.texts.specs.declared.span.Span.{Span}
-use Rattle.prepare.specs.declared.item.Alias.{Alias}
-use Rattle.prepare.specs.declared.item.Declared.{Declared}
+use Rattle.reaching.specs.declared.node.Node.{Node}
+use Rattle.reaching.specs.Reached.{IsNodeIn, AreUnreached}
 use Rattle.prepare.specs.declared.item.Standing.{Standing}
-use Rattle.prepare.specs.Wanted.{declarations_in, declared_by, all_declared, IsDeclaredIn, NamesByName, AreUnwanted, is_chosen}
-use Rattle.prepare.specs.Choices.{IsChosenBySerde, AreSpansOf, no_spans, taken, left}
+use Rattle.prepare.specs.Choices.{declarations_in, all_declared, is_chosen, IsChosenBySerde, AreSpansOf, no_spans, taken, left}
 
 -- the spans so far, and those of the rest, are those of all
 pub record SpansSoFar (Holds : Standing → Type 0) (all rest : List Standing) (spans : List Span) : Type 0 where
@@ -25,22 +24,22 @@ module _ (Holds : Standing → Type 0) where
   spans_left all rest s spans h other = record { more = λ others m. h.more others (left other m) }
 
 -- what is left of all
-abbrev pub IsPart : List Standing → List Declared → Type 0
-IsPart rest all = (d : Declared) → IsDeclaredIn (declarations_in rest) d → IsDeclaredIn all d
+abbrev pub IsPart : List Standing → List Node → Type 0
+IsPart rest all = (d : Node) → IsNodeIn (declarations_in rest) d → IsNodeIn all d
 
-in_front : (cs ds : List Declared) (d : Declared) → IsDeclaredIn cs d → IsDeclaredIn (cs ++ ds) d
+in_front : (cs ds : List Node) (d : Node) → IsNodeIn cs d → IsNodeIn (cs ++ ds) d
 in_front [] ds d h = elim h [ ]
 in_front (c ∷ cs) ds d (inl e) = inl e
 in_front (c ∷ cs) ds d (inr h) = inr (in_front cs ds d h)
 
-pub part_of_all : (aliases : List Alias) (standing : List Standing) → IsPart standing (all_declared aliases standing)
-part_of_all aliases standing d h = in_front (declarations_in standing) (map declared_by aliases) d h
+pub part_of_all : (aliases : List Node) (standing : List Standing) → IsPart standing (all_declared aliases standing)
+part_of_all aliases standing d h = in_front (declarations_in standing) aliases d h
 
-first_in : (o : Option Declared) (ds : List Declared) (d : Declared) → o ≡ Some d → IsDeclaredIn (cons_option o ds) d
+first_in : (o : Option Node) (ds : List Node) (d : Node) → o ≡ Some d → IsNodeIn (cons_option o ds) d
 first_in None ds d e = cc
 first_in (Some c) ds d e = inl (cc)
 
-others_in : (o : Option Declared) (ds : List Declared) (d : Declared) → IsDeclaredIn ds d → IsDeclaredIn (cons_option o ds) d
+others_in : (o : Option Node) (ds : List Node) (d : Node) → IsNodeIn ds d → IsNodeIn (cons_option o ds) d
 others_in None ds d h = h
 others_in (Some c) ds d h = inr h
 
@@ -58,9 +57,9 @@ pub not_some : {A : Type 0} (o : Option A) → not (is_some o) ≡ is_none o
 not_some None = refl
 not_some (Some x) = refl
 
-chosen_by : (all : List Declared) (by_name : NamesByName) (o : Option Declared) → AreUnwanted all by_name → ((d : Declared) → o ≡ Some d → IsDeclaredIn all d) → is_chosen by_name o ≡ true → IsChosenBySerde all o
+chosen_by : {X : Type 0} (all : List Node) (by_name : List ℕ → Option X) (o : Option Node) → AreUnreached all by_name → ((d : Node) → o ≡ Some d → IsNodeIn all d) → is_chosen by_name o ≡ true → IsChosenBySerde all o
 chosen_by all by_name None u in_it e = tt
-chosen_by all by_name (Some d) u in_it e = elim (or_cases d.is_deriving (is_none (by_name d.name)) e) [
+chosen_by all by_name (Some d) u in_it e = elim (or_cases d.is_first (is_none (by_name d.name)) e) [
   | inl h ↦ inl h
   | inr h ↦ inr ((u d (in_it d refl)).0 (none_is (by_name d.name) h))
 ]
@@ -70,26 +69,26 @@ or_false true b e h = cc
 or_false false b e (inl h) = cc
 or_false false b e (inr h) = cc
 
-left_by : (all : List Declared) (by_name : NamesByName) (o : Option Declared) → AreUnwanted all by_name → ((d : Declared) → o ≡ Some d → IsDeclaredIn all d) → is_chosen by_name o ≡ false → IsChosenBySerde all o → ⊥
+left_by : {X : Type 0} (all : List Node) (by_name : List ℕ → Option X) (o : Option Node) → AreUnreached all by_name → ((d : Node) → o ≡ Some d → IsNodeIn all d) → is_chosen by_name o ≡ false → IsChosenBySerde all o → ⊥
 left_by all by_name None u in_it e h = cc
-left_by all by_name (Some d) u in_it e (inl h) = or_false d.is_deriving (is_none (by_name d.name)) e (inl h)
-left_by all by_name (Some d) u in_it e (inr h) = or_false d.is_deriving (is_none (by_name d.name)) e (inr (is_no_one (by_name d.name) ((u d (in_it d refl)).1 h)))
+left_by all by_name (Some d) u in_it e (inl h) = or_false d.is_first (is_none (by_name d.name)) e (inl h)
+left_by all by_name (Some d) u in_it e (inr h) = or_false d.is_first (is_none (by_name d.name)) e (inr (is_no_one (by_name d.name) ((u d (in_it d refl)).1 h)))
 
-module _ (all : List Declared) (rest : List Standing) (s : Standing) (by_name : NamesByName) (unwanted : AreUnwanted all by_name) (part : IsPart (s ∷ rest) all) where
-  first_part : (d : Declared) → s.declared ≡ Some d → IsDeclaredIn all d
+module _ {X : Type 0} (all : List Node) (rest : List Standing) (s : Standing) (by_name : List ℕ → Option X) (unreached : AreUnreached all by_name) (part : IsPart (s ∷ rest) all) where
+  first_part : (d : Node) → s.declared ≡ Some d → IsNodeIn all d
   first_part d e = part d (first_in s.declared (declarations_in rest) d e)
 
   pub is_chosen_one : is_chosen by_name s.declared ≡ true → IsChosenBySerde all s.declared
-  is_chosen_one e = chosen_by all by_name s.declared unwanted first_part e
+  is_chosen_one e = chosen_by all by_name s.declared unreached first_part e
 
   pub is_left_one : is_chosen by_name s.declared ≡ false → IsChosenBySerde all s.declared → ⊥
-  is_left_one e = left_by all by_name s.declared unwanted first_part e
+  is_left_one e = left_by all by_name s.declared unreached first_part e
 
   pub part_on : IsPart rest all
   part_on d h = part d (others_in s.declared (declarations_in rest) d h)
 
 -- whether a declaration is chosen that does not derive one of the traits
-pub chosen_else : (by_name : NamesByName) (o : Option Declared) (d : Declared) (name : List ℕ) (has : Bool) → o ≡ Some d → d.is_deriving ≡ false → name ≡ d.name → has ≡ is_some (by_name name) → not has ≡ is_chosen by_name o
+pub chosen_else : {X : Type 0} (by_name : List ℕ → Option X) (o : Option Node) (d : Node) (name : List ℕ) (has : Bool) → o ≡ Some d → d.is_first ≡ false → name ≡ d.name → has ≡ is_some (by_name name) → not has ≡ is_chosen by_name o
 chosen_else by_name o d name has is other named e =
     ap not e ∙ not_some (by_name name) ∙ ap (λ n. is_none (by_name n)) named ∙ sym (ap (λ b. b || is_none (by_name d.name)) other) ∙ sym (ap (is_chosen by_name) is)
 

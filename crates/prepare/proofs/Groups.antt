@@ -5,6 +5,8 @@ use Rattle.tokens.specs.declared.token.Group.{Group}
 use Rattle.tokens.specs.declared.token.TokenTree.{TokenTree}
 use Rattle.tokens.specs.declared.token.TokenTree.TheVariants as tree
 use Rattle.tokens.specs.Trees.{Tree, trees_of, tree_view, trees_view}
+use Rattle.words.specs.Words.{word_of, words_of, words_view}
+use Rattle.words.specs.Visibility.{is_restriction}
 use Rattle.lexing.proofs.Laws.{view_group}
 use Rattle.prepare.specs.Trees.{listed, inside, before}
 use Rattle.prepare.specs.Names.{names_in, names_of, all_names}
@@ -29,3 +31,10 @@ names_view ts = sym (names_listed (map tree_view ts))
 pub before_view : (ts rest : List TokenTree) → map tree_view (take (length ts - length rest) ts) ≡ before (map tree_view ts) (map tree_view rest)
 before_view ts rest =
     sym (take-map tree_view (length ts - length rest) ts) ∙ ap₂ (λ n m. take (n - m) (map tree_view ts)) (sym (length-map ts tree_view)) (sym (length-map rest tree_view))
+
+words_listed : (ts : List Tree) → words_of (trees_of ts) ≡ map word_of ts
+words_listed [] = refl
+words_listed (t ∷ ts) = ap (λ v. word_of t ∷ v) (words_listed ts)
+
+pub restriction_view : (ts : List TokenTree) → is_restriction (words_view ts) ≡ is_restriction (map word_of (map tree_view ts))
+restriction_view ts = ap is_restriction (words_listed (map tree_view ts))

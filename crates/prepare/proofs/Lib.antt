@@ -1,15 +1,13 @@
 mod Answered
 mod Behind
 mod Choosing
-mod Entries
 mod Groups
-mod Lines
+mod Feeds
+mod Lying
 mod Masking
 mod One
 mod Parts
 mod Passed
 mod Repeated
 mod Stands
-mod Wanting
-mod Within
 pub mod Laws

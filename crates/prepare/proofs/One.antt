@@ -4,11 +4,13 @@ use Rattle.std.specs.Str.{chars}
 use Rattle.texts.specs.declared.span.Span.{Span}
 use Rattle.tokens.specs.Trees.{Tree}
 use Rattle.prepare.specs.declared.choice.Choice.{Choice}
+use Rattle.prepare.specs.declared.file_items.FileItem.{FileItem}
 use Rattle.prepare.specs.declared.item.Standing.{Standing}
 use Rattle.prepare.specs.Trees.{listed}
 use Rattle.prepare.specs.Items.{Item, item_at}
 use Rattle.prepare.specs.Standing.{AreItems, no_items, more_items, StandIn, itself, inside, nothing, StandInside, for_tests, items}
 use Rattle.prepare.specs.Choices.{IsChosen, AreSpansOf, no_spans, taken, left}
+use Rattle.prepare.specs.FileItems.{items_in, AreItemsOf}
 use Rattle.prepare.specs.Masked.{masked}
 use Rattle.prepare.specs.Prepared.{IsFile, IsPrepared}
 use Rattle.prepare.proofs.Answered.{OneCut}
@@ -55,3 +57,6 @@ one_text unique choice source text other p q =
     let same = one_file unique source p.0 q.0 p.2 q.2 in
     let spans = same_spans (subst (λ v. AreSpansOf (IsChosen choice v) v p.1) same p.3) q.3 in
     p.4 ∙ ap (λ v. masked v 0 (chars source)) spans ∙ sym q.4
+
+pub one_list : OneCut → (file : ℕ) (source : List ℕ) (items others : List FileItem) → AreItemsOf file source items → AreItemsOf file source others → items ≡ others
+one_list unique file source xs ys f g = f.2 ∙ ap (items_in file source) (one_file unique source f.0 g.0 f.1 g.1) ∙ sym g.2

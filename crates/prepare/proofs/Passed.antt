@@ -1,18 +1,18 @@
 -- What follows an item is past it, and a module holds less than it stands in.
-use Rattle.std.proofs.Common.{◌≡◌, ℕ, ◌<◌, List, [], ◌∷◌, refl, ap, subst, arith, inl, inr, Bool, true, false, cond, Option, None, Some, is_some}
+use Rattle.std.proofs.Common.{◌≡◌, ℕ, ◌<◌, List, [], ◌∷◌, refl, ap, sym, subst, arith, inl, inr, Bool, true, false, cond, Option, None, Some, is_some}
 use Rattle.std.specs.Prelude.{codes}
 use Rattle.tokens.specs.Trees.{Tree, token, group, Trees, end, ◌▸◌, trees_of, depth, depth_of}
-use Rattle.words.specs.Words.{word_of}
-use Rattle.words.specs.Reading.{as_name}
 use Rattle.written_types.specs.declared.written.Ident.{Ident}
 use Rattle.texts.proofs.Laws.{mapped}
 use Rattle.prepare.specs.declared.kind.Kind.{Kind}
 use Rattle.prepare.specs.declared.kind.Kind.TheVariants as kinds
-use Rattle.prepare.specs.Trees.{listed, word, is_word, is_sign, is_round, is_curly, is_group, is_path_part, inside, before}
-use Rattle.prepare.specs.Attributes.{after_scope, after_visibility, after_attributes, is_for_tests}
-use Rattle.prepare.specs.Ends.{after_semicolon, begins_with_name, after_mut, after_line, is_end, angles, after_block, after_path, after_name, semicolon_at, after_group, behind_path, after_call}
-use Rattle.prepare.specs.Forms.{Form, declares, uses, holds, passes, Found, ending, named_or_none, declared_at, declaration_at, held_at, module_at, form_of, kind_at, form_at}
-use Rattle.prepare.specs.Items.{Item, stands, passed, item_of, unless_for_tests, item_from, item_at}
+use Rattle.prepare.specs.Trees.{listed, word, is_word, is_sign, is_curly, is_group, is_path_part, inside, before}
+use Rattle.prepare.specs.Attributes.{is_scope, after_scope, after_visibility, after_attributes, is_for_tests}
+use Rattle.prepare.specs.declared.previous.Behind.{Behind}
+use Rattle.prepare.specs.declared.previous.Behind.TheVariants.{Other}
+use Rattle.prepare.specs.Ends.{is_declaration_word, behind, after_semicolon, begins_with_name, after_mut, after_line, is_end, angles, after_block, after_path, after_name, semicolon_at, after_group, behind_path, after_call}
+use Rattle.prepare.specs.Forms.{Form, declares, uses, holds, passes, Found, ending, ident, named_or_none, declared_at, declaration_at, held_at, module_at, form_of, kind_at, form_at}
+use Rattle.prepare.specs.Items.{Item, passed, item_of, unless_for_tests, item_from, item_at}
 use Rattle.prepare.specs.Items as item
 use Rattle.prepare.proofs.Behind.{IsBehind, same, later, IsPast, past, weakly, then_behind, past_behind, depth_behind, GoesPast, some_same, either, not_none, first_past}
 use Rattle.prepare.proofs.Repeated.{attributes_behind}
@@ -20,18 +20,21 @@ use Rattle.prepare.proofs.Repeated.{attributes_behind}
 -- ---- ends
 semicolon_past : GoesPast after_semicolon
 semicolon_past [] rest e = not_none e
-semicolon_past (t ∷ ts) rest e = elim (either (is_sign (codes ";") t) e) [ inl h ↦ first_past h | inr h ↦ past (weakly (semicolon_past ts rest h)) ]
+semicolon_past (t ∷ ts) rest e = elim (either (is_declaration_word t) e) [
+  | inl h ↦ not_none h
+  | inr g ↦ elim (either (is_sign (codes ";") t) g) [ inl h ↦ first_past h | inr h ↦ past (weakly (semicolon_past ts rest h)) ]
+]
 
 line_past : GoesPast after_line
 line_past [] rest e = not_none e
 line_past (t ∷ ts) rest e = elim (either (begins_with_name (after_mut ts)) e) [ inl h ↦ past (weakly (semicolon_past ts rest h)) | inr h ↦ not_none h ]
 
-block_past : (is_behind_minus : Bool) (open_ones : ℕ) → GoesPast (after_block is_behind_minus open_ones)
+block_past : (was : Behind) (open_ones : ℕ) → GoesPast (after_block was open_ones)
 unfolding after_block
-block_past d n [] rest e = not_none e
-block_past d n (t ∷ ts) rest e = elim (either (is_end n t) e) [
-  | inl h ↦ first_past h
-  | inr h ↦ past (weakly (block_past (is_sign (codes "-") t) (angles d n t) ts rest h))
+block_past was n [] rest e = not_none e
+block_past was n (t ∷ ts) rest e = elim (either (is_declaration_word t) e) [
+  | inl h ↦ not_none h
+  | inr g ↦ elim (either (is_end was n t) g) [ inl h ↦ first_past h | inr h ↦ past (weakly (block_past (behind was t) (angles was n t) ts rest h)) ]
 ]
 
 behind_if : (b : Bool) {x y ts : List Tree} → IsBehind x ts → IsBehind y ts → IsBehind (cond b x y) ts
@@ -73,7 +76,7 @@ call_past (t ∷ ts) rest e = elim (either (is_path_part t) e) [
 
 scope_behind : (ts : List Tree) → IsBehind (after_scope ts) ts
 scope_behind [] = same
-scope_behind (t ∷ ts) = behind_if (is_round t) (later same) same
+scope_behind (t ∷ ts) = behind_if (is_scope t) (later same) same
 
 visibility_behind : (ts : List Tree) → IsBehind (after_visibility ts) ts
 visibility_behind [] = same
@@ -81,10 +84,20 @@ visibility_behind (t ∷ ts) = behind_if (is_word (codes "pub") t) (later (scope
 
 -- ---- forms
 
--- what holds of what was found: it is past a tree, and a module holds less
+-- the tree is one of these
+pub data IsIn (t : Tree) : List Tree → Type 0 where
+  here : {ts : List Tree} → IsIn t (t ∷ ts)
+  further : {u : Tree} {ts : List Tree} → IsIn t ts → IsIn t (u ∷ ts)
+
+in_behind : {t : Tree} {rest ts : List Tree} → IsBehind rest ts → IsIn t rest → IsIn t ts
+in_behind same i = i
+in_behind (later b) i = further (in_behind b i)
+
+-- what holds of what was found: it is past a tree, and a module holds less, which is what stands in one of the trees
 record IsWithin (ts : List Tree) (found : Found) : Type 0 where
   past : IsPast found.1 ts
   less : (held : List Tree) → found.0 ≡ holds held → depth (trees_of held) < depth (trees_of ts)
+  of : (held : List Tree) → found.0 ≡ holds held → (t : Tree) × IsIn t ts × (held ≡ inside t)
 
 no_module : (form : Form) → Type 0
 no_module form = (held : List Tree) → form ≡ holds held → ⊥
@@ -94,7 +107,7 @@ unfolding no_module
 ending_within form ts None found other goes e = not_none e
 ending_within form ts (Some rest) found other goes e =
     let is : (form, rest) ≡ found = some_same e in
-    subst (IsWithin ts) is (record { past = goes rest refl; less = λ held h. absurd (other held h) })
+    subst (IsWithin ts) is (record { past = goes rest refl; less = λ held h. absurd (other held h); of = λ held h. absurd (other held h) })
 
 passes_other : no_module passes
 unfolding no_module
@@ -110,7 +123,7 @@ declares_other name ts held e = cc
 
 -- past one tree more
 one_more : {t : Tree} {ts : List Tree} {found : Found} → IsWithin ts found → IsWithin (t ∷ ts) found
-one_more {t = t} {ts = ts} h = record { past = past (weakly h.past); less = λ held e. omega (arith, h.less held e) }
+one_more {t = t} {ts = ts} h = record { past = past (weakly h.past); less = λ held e. omega (arith, h.less held e); of = λ held e. let o = h.of held e in (o.0, further o.1, o.2) }
 
 pub listed_trees : (ts : Trees) → trees_of (listed ts) ≡ ts
 listed_trees end = refl
@@ -122,11 +135,11 @@ inside_less (group b ts s) e = let h = ap depth (listed_trees ts) in omega arith
 
 named_within : (name : Option Ident) (ts : List Tree) (found : Found) → named_or_none name ts ≡ Some found → IsWithin ts found
 named_within None ts found e = not_none e
-named_within (Some name) ts found e = ending_within (declares name ts) ts (after_block false 0 ts) found (declares_other name ts) (block_past false 0 ts) e
+named_within (Some name) ts found e = ending_within (declares name ts) ts (after_block Other 0 ts) found (declares_other name ts) (block_past Other 0 ts) e
 
 declared_within : (ts : List Tree) (found : Found) → declared_at ts ≡ Some found → IsWithin ts found
 declared_within [] found e = not_none e
-declared_within (t ∷ ts) found e = one_more (named_within (as_name (word_of t)) ts found e)
+declared_within (t ∷ ts) found e = one_more (named_within (ident t) ts found e)
 
 declaration_within : (ts : List Tree) (found : Found) → declaration_at ts ≡ Some found → IsWithin ts found
 declaration_within [] found e = not_none e
@@ -136,7 +149,11 @@ held_by : (t : Tree) (ts : List Tree) (found : Found) (b : Bool) → is_curly t 
 held_by t ts found true c h =
     let is : (holds (inside t), ts) ≡ found = some_same h in
     let small = inside_less t c in
-    subst (IsWithin (t ∷ ts)) is (record { past = past same; less = λ held g. let inner : inside t ≡ held = cc in subst (λ v. depth (trees_of v) < depth (trees_of (t ∷ ts))) inner (omega arith) })
+    subst (IsWithin (t ∷ ts)) is (record {
+      past = past same;
+      less = λ held g. let inner : inside t ≡ held = cc in subst (λ v. depth (trees_of v) < depth (trees_of (t ∷ ts))) inner (omega arith);
+      of = λ held g. let inner : inside t ≡ held = cc in (t, here, sym inner);
+    })
 held_by t ts found false c h = ending_within passes (t ∷ ts) (semicolon_at (t ∷ ts)) found passes_other (one_past (t ∷ ts)) h
 
 held_within : (ts : List Tree) (found : Found) → held_at ts ≡ Some found → IsWithin ts found
@@ -153,7 +170,7 @@ form_of_within kinds.Declaration ts found e = declaration_within ts found e
 form_of_within kinds.Use ts found e = ending_within uses ts (after_semicolon ts) found uses_other (semicolon_past ts) e
 form_of_within kinds.Module ts found e = module_within ts found e
 form_of_within kinds.Line ts found e = ending_within passes ts (after_line ts) found passes_other (line_past ts) e
-form_of_within kinds.Block ts found e = ending_within passes ts (after_block false 0 ts) found passes_other (block_past false 0 ts) e
+form_of_within kinds.Block ts found e = ending_within passes ts (after_block Other 0 ts) found passes_other (block_past Other 0 ts) e
 form_of_within kinds.Call ts found e = ending_within passes ts (after_call ts) found passes_other (call_past ts) e
 
 form_within : (ts : List Tree) (found : Found) → form_at ts ≡ Some found → IsWithin ts found
@@ -168,9 +185,9 @@ form_held ts start keyword uses rest held e = cc
 form_held ts start keyword (holds inner) rest held e = cc
 form_held ts start keyword passes rest held e = cc
 
-item_held : (b : Bool) (i : Item) (held : List Tree) → cond b passed i ≡ item.holds held → i ≡ item.holds held
-item_held true i held e = cc
-item_held false i held e = e
+held_itself : (b : Bool) (i : Item) (held : List Tree) → cond b passed i ≡ item.holds held → i ≡ item.holds held
+held_itself true i held e = cc
+held_itself false i held e = e
 
 keyword_behind : (ts : List Tree) → IsBehind (after_visibility (after_attributes ts)) ts
 keyword_behind ts = then_behind (visibility_behind (after_attributes ts)) (attributes_behind ts)
@@ -185,6 +202,16 @@ item_past ts i rest e =
     let is : m.0.1 ≡ rest = ap (λ p. p.1) m.2 in
     subst (λ v. IsPast v ts) is (past_behind h.past (keyword_behind ts))
 
+pub item_held : (ts held rest : List Tree) → item_at ts ≡ Some (item.holds held, rest) → (t : Tree) × IsIn t ts × (held ≡ inside t)
+unfolding item_at
+item_held ts held rest e =
+    let start = after_attributes ts in
+    let keyword = after_visibility start in
+    let m = mapped (item_from ts start keyword) (form_at keyword) _ e in
+    let is : unless_for_tests (before ts start) (item_of ts start keyword m.0.0 m.0.1) ≡ item.holds held = ap (λ p. p.0) m.2 in
+    let o = (form_within keyword m.0 m.1).of held (form_held ts start keyword m.0.0 m.0.1 held (held_itself (is_for_tests (before ts start)) (item_of ts start keyword m.0.0 m.0.1) held is)) in
+    (o.0, in_behind (keyword_behind ts) o.1, o.2)
+
 pub item_less : (ts held rest : List Tree) → item_at ts ≡ Some (item.holds held, rest) → depth (trees_of held) < depth (trees_of ts)
 unfolding item_at
 item_less ts held rest e =
@@ -193,7 +220,7 @@ item_less ts held rest e =
     let m = mapped (item_from ts start keyword) (form_at keyword) _ e in
     let h = form_within keyword m.0 m.1 in
     let is : unless_for_tests (before ts start) (item_of ts start keyword m.0.0 m.0.1) ≡ item.holds held = ap (λ p. p.0) m.2 in
-    let f = form_held ts start keyword m.0.0 m.0.1 held (item_held (is_for_tests (before ts start)) (item_of ts start keyword m.0.0 m.0.1) held is) in
+    let f = form_held ts start keyword m.0.0 m.0.1 held (held_itself (is_for_tests (before ts start)) (item_of ts start keyword m.0.0 m.0.1) held is) in
     let less = h.less held f in
     let more = depth_behind (keyword_behind ts) in
     omega arith

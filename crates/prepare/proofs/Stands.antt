@@ -2,6 +2,7 @@
 use Rattle.std.proofs.Common.{◌≡◌, ℕ, ◌<◌, ◌≤◌, ◌+◌, ◌*◌, List, [], ◌∷◌, ◌++◌, length, map, ◌==◌, refl, sym, subst, arith, append_assoc, true, false, None, Some, Result, Ok, Err}
 use Rattle.std.proofs.lemmas.List.{append-nil}
 use Rattle.std.proofs.lemmas.Bool.{eqb-true}
+use Rattle.texts.specs.declared.span.Span.{Span}
 use Rattle.tokens.specs.declared.token.TokenTree.{TokenTree}
 use Rattle.tokens.specs.Trees.{Tree, tree_view, trees_of, depth}
 use Rattle.prepare.specs.declared.item.Standing.{Standing}
@@ -9,18 +10,20 @@ use Rattle.prepare.specs.Trees.{before}
 use Rattle.prepare.specs.Attributes.{after_inner, is_for_tests}
 use Rattle.prepare.specs.declared.item.Stop.{Stop}
 use Rattle.prepare.specs.declared.item.Stop.TheVariants as stop
-use Rattle.prepare.specs.Items.{Item, item_at, Reads}
+use Rattle.prepare.specs.Items.{Item, item_at, stop_of, ReadsItem}
 use Rattle.prepare.specs.Items as item
-use Rattle.prepare.specs.Standing.{AreItems, no_items, more_items, StandIn, inside, StandInside, for_tests, items, Finds}
+use Rattle.prepare.specs.Standing.{AreItems, no_items, more_items, StandIn, inside, StandInside, for_tests, items, StopAt, here, in_item, StopIn, in_module, StopInside, in_items, Finds}
+use Rattle.prepare.specs.Standing as standing
 use Rattle.prepare.proofs.Passed.{item_past, item_less}
 
 -- what is known of the items before the rest: this stands of them, and of all of the trees nothing else can
 pub record SoFar (all rest : List Tree) (found : List Standing) : Type 0 where
   pub before : (others : List Standing) → AreItems rest others → AreItems all (found ++ others)
   pub behind : (ss : List Standing) → AreItems all ss → (others : List Standing) × AreItems rest others
+  pub stops : (span : Span) → StopAt rest span → StopAt all span
 
 pub at_start : (ts : List Tree) → SoFar ts ts []
-at_start ts = record { before = λ others h. h; behind = λ ss h. (ss, h) }
+at_start ts = record { before = λ others h. h; behind = λ ss h. (ss, h); stops = λ span h. h }
 
 pub at_end : (ts : List Tree) (found : List Standing) → SoFar ts [] found → AreItems ts found
 at_end ts found h = subst (AreItems ts) (append-nil found) (h.before [] no_items)
@@ -36,6 +39,7 @@ pub goes_on : (all rest after : List Tree) (i : Item) (found of_item : List Stan
 goes_on all rest after i found of_item h e s = record {
   before = λ others more. subst (AreItems all) (sym (append_assoc found of_item others)) (h.before (of_item ++ others) (more_items e s more));
   behind = λ ss r. let left = h.behind ss r in let first = first_of left.1 e in (first.1, first.3);
+  stops = λ span stop. h.stops span (standing.behind e s stop);
 }
 
 unread : (rest : List Tree) (others : List Standing) → (rest ≡ [] → ⊥) → item_at rest ≡ None → AreItems rest others → ⊥
@@ -80,20 +84,20 @@ pub none_left : (ts : List TokenTree) → (length ts == 0) ≡ true → map tree
 none_left [] e = refl
 none_left (t ∷ ts) e = absurd (let h = eqb-true (length (t ∷ ts)) 0 e in omega arith)
 
-pub item_stops : {X : Type 0} (view : X → Item × List Tree) (all rest : List Tree) (found : List Standing) (e : Stop) → SoFar all rest found → (rest ≡ [] → ⊥) → Reads view (Err e) (item_at rest) → Finds (AreItems all) (Err e)
-item_stops view all rest found stop.Memory h some r = tt
-item_stops view all rest found (stop.At span) h some r = no_item all rest found h some r
+pub item_stops : (all rest : List Tree) (found : List Standing) (e : Stop) → SoFar all rest found → (rest ≡ [] → ⊥) → ReadsItem (Err e) rest → Finds (AreItems all) (StopAt all) (Err e)
+item_stops all rest found stop.Memory h some r = tt
+item_stops all rest found (stop.At span) h some r = (no_item all rest found h some r.0, subst (StopAt all) (sym r.1) (h.stops (stop_of rest) (here r.0 some)))
 
-pub standing_stops : (all rest after : List Tree) (i : Item) (found : List Standing) (e : Stop) → SoFar all rest found → item_at rest ≡ Some (i, after) → Finds (StandIn i) (Err e) → Finds (AreItems all) (Err e)
+pub standing_stops : (all rest after : List Tree) (i : Item) (found : List Standing) (e : Stop) → SoFar all rest found → item_at rest ≡ Some (i, after) → Finds (StandIn i) (StopIn i) (Err e) → Finds (AreItems all) (StopAt all) (Err e)
 standing_stops all rest after i found stop.Memory h is r = tt
-standing_stops all rest after i found (stop.At span) h is r = no_standing all rest after i found h is r
+standing_stops all rest after i found (stop.At span) h is r = (no_standing all rest after i found h is r.0, h.stops span (in_item is r.1))
 
-pub held_finds : (ts : List Tree) (r : Result (List Standing) Stop) → Finds (StandInside ts) r → Finds (StandIn (item.holds ts)) r
+pub held_finds : (ts : List Tree) (r : Result (List Standing) Stop) → Finds (StandInside ts) (StopInside ts) r → Finds (StandIn (item.holds ts)) (StopIn (item.holds ts)) r
 held_finds ts (Ok ss) h = inside h
 held_finds ts (Err stop.Memory) h = tt
-held_finds ts (Err (stop.At span)) h = held_none ts h
+held_finds ts (Err (stop.At span)) h = (held_none ts h.0, in_module h.1)
 
-pub inside_finds : (ts : List Tree) (r : Result (List Standing) Stop) → is_for_tests (before ts (after_inner ts)) ≡ false → Finds (AreItems (after_inner ts)) r → Finds (StandInside ts) r
+pub inside_finds : (ts : List Tree) (r : Result (List Standing) Stop) → is_for_tests (before ts (after_inner ts)) ≡ false → Finds (AreItems (after_inner ts)) (StopAt (after_inner ts)) r → Finds (StandInside ts) (StopInside ts) r
 inside_finds ts (Ok ss) f h = items f h
 inside_finds ts (Err stop.Memory) f h = tt
-inside_finds ts (Err (stop.At span)) f h = inside_none ts f h
+inside_finds ts (Err (stop.At span)) f h = (inside_none ts f h.0, in_items f h.1)

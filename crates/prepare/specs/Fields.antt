@@ -1,11 +1,13 @@
 -- The names in the types of a declaration's fields (The Rust Reference, "Structs", "Enumerations"; serde, "Field attributes",
 -- "Variant attributes").
-use Rattle.std.specs.Prelude.{ℕ, List, [], ◌∷◌, drop, codes, Bool, false, cond, ◌&&◌, ◌||◌, ◌==◌}
+use Rattle.std.specs.Prelude.{ℕ, List, [], ◌∷◌, drop, codes, Bool, true, false, cond, ◌&&◌, ◌||◌, ◌==◌}
 use Rattle.std.specs.List.{flat_map, list_any}
 use Rattle.tokens.specs.Trees.{Tree}
 use Rattle.prepare.specs.Trees.{is_word, is_sign, is_round, is_square, is_curly, inside, before}
 use Rattle.prepare.specs.Attributes.{after_attributes, after_visibility}
-use Rattle.prepare.specs.Ends.{angles}
+use Rattle.prepare.specs.declared.previous.Behind.{Behind}
+use Rattle.prepare.specs.declared.previous.Behind.TheVariants.{Other}
+use Rattle.prepare.specs.Ends.{behind, angles}
 use Rattle.prepare.specs.Names.{all_names}
 
 -- ---- parts
@@ -18,18 +20,22 @@ abbrev pub in_front : Tree → List (List Tree) → List (List Tree)
 in_front t [] = (t ∷ []) ∷ []
 in_front t (part ∷ others) = (t ∷ part) ∷ others
 
--- what stands between the commas outside of `<` and `>`, and behind the last of them only where something does
-abbrev pub parts_from : Bool → ℕ → List Tree → List (List Tree)
-parts_from is_behind_minus opened [] = []
-parts_from is_behind_minus opened (t ∷ ts) = cond (is_comma opened t) ([] ∷ parts_from false 0 ts) (in_front t (parts_from (is_sign (codes "-") t) (angles is_behind_minus opened t) ts))
+-- how many `<` are open after a tree among types; a discriminant opens none, since `<<` shifts
+abbrev pub opened_after : (in_types : Bool) → Behind → ℕ → Tree → ℕ
+opened_after in_types was opened t = cond in_types (angles was opened t) 0
 
-unfoldable pub parts : List Tree → List (List Tree)
-parts ts = parts_from false 0 ts
+-- what stands between the commas, in types those outside of `<` and `>`, and behind the last of them only where something does
+abbrev pub parts_from : (in_types : Bool) → Behind → ℕ → List Tree → List (List Tree)
+parts_from in_types was opened [] = []
+parts_from in_types was opened (t ∷ ts) = cond (is_comma opened t) ([] ∷ parts_from in_types Other 0 ts) (in_front t (parts_from in_types (behind was t) (opened_after in_types was opened t) ts))
+
+unfoldable pub parts : (in_types : Bool) → List Tree → List (List Tree)
+parts in_types ts = parts_from in_types Other 0 ts
 
 -- the trees from the first such comma on
-abbrev pub from_comma : Bool → ℕ → List Tree → List Tree
-from_comma is_behind_minus opened [] = []
-from_comma is_behind_minus opened (t ∷ ts) = cond (is_comma opened t) (t ∷ ts) (from_comma (is_sign (codes "-") t) (angles is_behind_minus opened t) ts)
+abbrev pub from_comma : (in_types : Bool) → Behind → ℕ → List Tree → List Tree
+from_comma in_types was opened [] = []
+from_comma in_types was opened (t ∷ ts) = cond (is_comma opened t) (t ∷ ts) (from_comma in_types (behind was t) (opened_after in_types was opened t) ts)
 
 -- ---- skipped
 
@@ -63,7 +69,7 @@ unnamed_names part = all_names (after_visibility (after_attributes part))
 
 -- a group of fields: in curly brackets they have names, in round ones they have none
 abbrev pub field_names : Tree → List (List ℕ)
-field_names t = cond (is_curly t) (flat_map named_names (parts (inside t))) (cond (is_round t) (flat_map unnamed_names (parts (inside t))) [])
+field_names t = cond (is_curly t) (flat_map named_names (parts true (inside t))) (cond (is_round t) (flat_map unnamed_names (parts true (inside t))) [])
 
 -- name fields?
 abbrev pub content_names : List Tree → List (List ℕ)
@@ -78,7 +84,7 @@ variant_names part =
 
 -- a group of variants
 abbrev pub variants_names : Tree → List (List ℕ)
-variants_names t = cond (is_curly t) (flat_map variant_names (parts (inside t))) []
+variants_names t = cond (is_curly t) (flat_map variant_names (parts false (inside t))) []
 
 -- the names in a declaration, from its keyword on, by what stands behind its name
 abbrev pub declared_names : (keyword behind : List Tree) → List (List ℕ)

@@ -1,15 +1,17 @@
 -- What items are, behind their attributes and visibilities, and what follows them (The Rust Reference, "Items", "Modules").
-use Rattle.std.specs.Prelude.{ℕ, List, [], ◌∷◌, map, false, cond, is_some, Option, Some, None}
+use Rattle.std.specs.Prelude.{ℕ, List, [], ◌∷◌, map, codes, Bool, cond, is_some, Option, Some, None}
 use Rattle.std.specs.Borrow.{Bor}
 use Rattle.tokens.specs.declared.token.TokenTree.{TokenTree}
-use Rattle.tokens.specs.Trees.{Tree, tree_view}
+use Rattle.tokens.specs.declared.token.Token.{Token}
+use Rattle.tokens.specs.Trees.{Tree, token, group, tree_view}
 use Rattle.written_types.specs.declared.written.Ident.{Ident}
-use Rattle.words.specs.Words.{ident_of, word_of}
-use Rattle.words.specs.Reading.{as_name}
+use Rattle.words.specs.Words.{Word, ident_of, is_among, word_of}
+use Rattle.words.specs.Words as words
 use Rattle.prepare.specs.declared.form.Form as program
 use Rattle.prepare.specs.declared.form.Form.TheVariants as forms
 use Rattle.prepare.specs.declared.kind.Kind.{Kind}
 use Rattle.prepare.specs.declared.kind.Kind.TheVariants as kinds
+use Rattle.prepare.specs.declared.previous.Behind.TheVariants.{Other}
 use Rattle.prepare.specs.Trees.{word, is_curly, inside}
 use Rattle.prepare.specs.Kinds.{kind_of}
 use Rattle.prepare.specs.Ends.{after_semicolon, after_line, after_block, semicolon_at, after_call}
@@ -58,9 +60,23 @@ ending form (Some rest) = Some (form, rest)
 abbrev pub passing : Option (List Tree) → Option Found
 passing rest = ending passes rest
 
+-- a keyword of editions after that of 2015, in which it is a name
+abbrev pub is_later_keyword : List ℕ → Bool
+is_later_keyword text = is_among text (codes "async" ∷ codes "await" ∷ codes "dyn" ∷ codes "try" ∷ [])
+
+-- the name that a tree is in one of the editions
+abbrev pub ident_by : Word → Token → Option Ident
+ident_by (words.name x) t = Some (ident_of t)
+ident_by (words.keyword k x) t = cond (is_later_keyword t.text) (Some (ident_of t)) None
+ident_by _ t = None
+
+abbrev pub ident : Tree → Option Ident
+ident (token t) = ident_by (word_of (token t)) t
+ident (group b ts s) = None
+
 -- keyword name to-block
 abbrev pub named_at : Ident → List Tree → Option Found
-named_at name ts = ending (declares name ts) (after_block false 0 ts)
+named_at name ts = ending (declares name ts) (after_block Other 0 ts)
 
 abbrev pub named_or_none : Option Ident → List Tree → Option Found
 named_or_none None ts = None
@@ -68,7 +84,7 @@ named_or_none (Some name) ts = named_at name ts
 
 abbrev pub declared_at : List Tree → Option Found
 declared_at [] = None
-declared_at (t ∷ ts) = named_or_none (as_name (word_of t)) ts
+declared_at (t ∷ ts) = named_or_none (ident t) ts
 
 abbrev pub declaration_at : List Tree → Option Found
 declaration_at [] = None
@@ -92,7 +108,7 @@ form_of kinds.Declaration ts = declaration_at ts
 form_of kinds.Use ts = use_at ts
 form_of kinds.Module ts = module_at ts
 form_of kinds.Line ts = passing (after_line ts)
-form_of kinds.Block ts = passing (after_block false 0 ts)
+form_of kinds.Block ts = passing (after_block Other 0 ts)
 form_of kinds.Call ts = passing (after_call ts)
 
 unfoldable pub form_at : List Tree → Option Found

@@ -1,10 +1,13 @@
 -- Items with their attributes (The Rust Reference, "Items", "Conditional compilation").
-use Rattle.std.specs.Prelude.{◌≡◌, List, map, cond, option_map, Option, Some, None, Result, Ok, Err}
+use Rattle.std.specs.Prelude.{◌≡◌, List, [], ◌∷◌, map, cond, option_map, Option, Some, None, Result, Ok, Err}
 use Rattle.std.specs.Borrow.{Bor}
 use Rattle.tokens.specs.declared.token.TokenTree.{TokenTree}
 use Rattle.tokens.specs.Trees.{Tree, tree_view}
+use Rattle.texts.specs.Span.{no_span}
+use Rattle.texts.specs.declared.span.Span.{Span}
+use Rattle.words.specs.Words.{word_of, start_of}
 use Rattle.written_types.specs.declared.written.Ident.{Ident}
-use Rattle.prepare.specs.declared.item.Declared.{Declared}
+use Rattle.reaching.specs.declared.node.Node.{Node}
 use Rattle.prepare.specs.declared.item.Standing.{Standing}
 use Rattle.prepare.specs.declared.item.Stop.{Stop}
 use Rattle.prepare.specs.declared.item.Stop.TheVariants as stop
@@ -32,20 +35,10 @@ item_view items.Passed = passed
 abbrev pub read_view : program.Item × Bor (List TokenTree) → Item × List Tree
 read_view p = (item_view p.0, map tree_view p.1.now)
 
--- a function stopped where nothing can be read, unless memory ran out
-abbrev pub IsAt : Stop → Type 0
-IsAt stop.Memory = ⊥
-IsAt (stop.At span) = Unit {0}
-
--- what a function returned, seen by view, is what can be read
-abbrev pub Reads : {X Y : Type 0} → (X → Y) → Result X Stop → Option Y → Type 0
-Reads view (Ok x) read = read ≡ Some (view x)
-Reads view (Err stop.Memory) read = Unit {0}
-Reads view (Err (stop.At span)) read = read ≡ None
-
--- the declaration of the name, by its attributes, by what stands from its keyword on, and by what stands behind its name
-abbrev pub declared_of : Ident → (attributes keyword behind : List Tree) → Declared
-declared_of name attributes keyword behind = record { name = name.text; is_deriving = are_deriving attributes; names = declared_names keyword behind }
+-- the declaration of the name, by its attributes, by what stands from its keyword on, and by what stands behind its name; it
+-- is first where it derives one of the traits
+abbrev pub declared_of : Ident → (attributes keyword behind : List Tree) → Node
+declared_of name attributes keyword behind = record { name = name.text; is_first = are_deriving attributes; names = declared_names keyword behind }
 
 -- The item of the form among these trees, from its start, behind its attributes, and from its keyword on; it ends before the rest.
 abbrev pub item_of : (ts start keyword : List Tree) → Form → List Tree → Item
@@ -67,3 +60,18 @@ item_at ts =
     let start = after_attributes ts in
     let keyword = after_visibility start in
     option_map (item_from ts start keyword) (form_at keyword)
+
+-- where no item begins: at the first tree behind its attributes, or else at the first of all
+abbrev pub stop_at : (ts start : List Tree) → Span
+stop_at ts (t ∷ start) = start_of (word_of t)
+stop_at (t ∷ ts) [] = start_of (word_of t)
+stop_at [] [] = no_span
+
+abbrev pub stop_of : List Tree → Span
+stop_of ts = stop_at ts (after_attributes ts)
+
+-- what a function returned is the item at the front, or there is none, unless memory ran out
+abbrev pub ReadsItem : Result (program.Item × Bor (List TokenTree)) Stop → List Tree → Type 0
+ReadsItem (Ok x) ts = item_at ts ≡ Some (read_view x)
+ReadsItem (Err stop.Memory) ts = Unit {0}
+ReadsItem (Err (stop.At span)) ts = (item_at ts ≡ None) × (span ≡ stop_of ts)

@@ -2,14 +2,15 @@ pub mod Attributes
 pub mod Choices
 pub mod Ends
 pub mod Fields
+pub mod FileItems
+pub mod FileTexts
 pub mod Forms
 pub mod Items
 pub mod Kinds
 pub mod Masked
 pub mod Names
-pub mod Positions
 pub mod Prepared
+pub mod Returns
 pub mod Standing
 pub mod Traits
 pub mod Trees
-pub mod Wanted

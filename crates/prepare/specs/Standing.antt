@@ -1,12 +1,13 @@
 -- What stands of a file.
-use Rattle.std.specs.Prelude.{◌≡◌, List, [], ◌∷◌, ◌++◌, true, false, Some, Result, Ok, Err}
+use Rattle.std.specs.Prelude.{◌≡◌, List, [], ◌∷◌, ◌++◌, true, false, Some, None, Result, Ok, Err}
+use Rattle.texts.specs.declared.span.Span.{Span}
 use Rattle.tokens.specs.Trees.{Tree}
 use Rattle.prepare.specs.declared.item.Standing.{Standing}
 use Rattle.prepare.specs.declared.item.Stop.{Stop}
 use Rattle.prepare.specs.declared.item.Stop.TheVariants as stop
 use Rattle.prepare.specs.Trees.{before}
 use Rattle.prepare.specs.Attributes.{after_inner, is_for_tests}
-use Rattle.prepare.specs.Items.{Item, stands, holds, passed, item_at}
+use Rattle.prepare.specs.Items.{Item, stands, holds, passed, item_at, stop_of}
 
 mutual
   -- all of the trees are items, of which this stands
@@ -25,8 +26,22 @@ mutual
     for_tests : {ts : List Tree} → is_for_tests (before ts (after_inner ts)) ≡ true → StandInside ts []
     items : {ts : List Tree} {ss : List Standing} → is_for_tests (before ts (after_inner ts)) ≡ false → AreItems (after_inner ts) ss → StandInside ts ss
 
--- what a function found, or there is nothing to be found, unless memory ran out
-abbrev pub Finds : {X : Type 0} → (X → Type 0) → Result X Stop → Type 0
-Finds Is (Ok x) = Is x
-Finds Is (Err stop.Memory) = Unit {0}
-Finds {X = X} Is (Err (stop.At span)) = (x : X) → ¬ (Is x)
+mutual
+  -- the trees are not all items, and the first that is none begins at the span
+  pub data StopAt : List Tree → Span → Type 0 where
+    here : {ts : List Tree} → item_at ts ≡ None → (ts ≡ [] → ⊥) → StopAt ts (stop_of ts)
+    in_item : {ts rest : List Tree} {item : Item} {span : Span} → item_at ts ≡ Some (item, rest) → StopIn item span → StopAt ts span
+    behind : {ts rest : List Tree} {item : Item} {of_item : List Standing} {span : Span} → item_at ts ≡ Some (item, rest) → StandIn item of_item → StopAt rest span → StopAt ts span
+
+  -- nor are those of an item, and those of a file or in the brackets of a module
+  pub data StopIn : Item → Span → Type 0 where
+    in_module : {ts : List Tree} {span : Span} → StopInside ts span → StopIn (holds ts) span
+
+  pub data StopInside : List Tree → Span → Type 0 where
+    in_items : {ts : List Tree} {span : Span} → is_for_tests (before ts (after_inner ts)) ≡ false → StopAt (after_inner ts) span → StopInside ts span
+
+-- what a function found, or there is nothing to be found and it stopped there, unless memory ran out
+abbrev pub Finds : {X : Type 0} → (X → Type 0) → (Span → Type 0) → Result X Stop → Type 0
+Finds Is Stops (Ok x) = Is x
+Finds Is Stops (Err stop.Memory) = Unit {0}
+Finds {X = X} Is Stops (Err (stop.At span)) = ((x : X) → ¬ (Is x)) × Stops span

@@ -1,14 +1,14 @@
 //! Which of what stands is chosen.
 
-ghost use Rattle.std.specs.Prelude.{◌≡◌, ◌↔◌, ℕ, List, IsTrue, IfOk};
+ghost use Rattle.std.specs.Prelude.{◌≡◌, ◌↔◌, ◌++◌, ℕ, List, IsTrue, IfOk, OnOk};
 ghost use Rattle.std.specs.BTreeMap.{get_by_text};
 ghost use Rattle.prepare.specs.declared.choice.Choice.TheVariants.{All, Serde};
 ghost use Rattle.prepare.specs.declared.item.Standing.{Standing};
-ghost use Rattle.prepare.specs.Wanted.{is_chosen};
-ghost use Rattle.prepare.specs.Choices.{IsChosen, AreChosen};
+ghost use Rattle.reaching.specs.Reached.{nodes_of, AreUnreached};
+ghost use Rattle.prepare.specs.Choices.{declarations_in, all_declared, is_chosen, IsChosen, AreChosen};
 
-use crate::item::{Alias, Standing};
-use crate::wanted::{NamesByName, unwanted_names};
+use crate::item::Standing;
+use reaching::{NamesByName, Node, NodeRef, unreached_names};
 use std::alloc::{AllocError, Global};
 use texts::{List, Span};
 
@@ -17,17 +17,63 @@ use texts::{List, Span};
 pub enum Choice {
     /// All of them.
     All,
-    /// Those that derive `Serialize`, `Deserialize` or `ToSchema`, those that these name, and so on. Where an alias is named,
-    /// what its type names is named as well; where a declaration has its name too, that is named beside.
-    Serde(List<Alias>),
+    /// Those that derive `Serialize`, `Deserialize` or `ToSchema`, those that these name, and so on. With them go aliases,
+    /// nodes that are not first: where an alias is named, what its type names is named as well; where a declaration has its
+    /// name too, that is named beside.
+    Serde(List<Node>),
 }
 
-/// Whether what stands is chosen, where the map has the names that are not wanted.
-fn is_chosen(unwanted: &NamesByName, standing: &Standing) -> bool
-    ensures { result ≡ is_chosen (get_by_text unwanted.now) standing.now.declared }
+/// Adds the declarations that stand.
+fn push_declarations<'n>(
+    nodes: &mut List<NodeRef<'n>>,
+    standing: &'n [Standing],
+) -> Result<(), AllocError>
+    ensures { OnOk result (nodes_of nodes.new
+        ≡ nodes_of nodes.old ++ declarations_in standing.now) }
+{
+    let mut rest = standing;
+    'standing: while let [first, after @ ..] = rest {
+        if let Some(declared) = &first.declared {
+            nodes.push(declared.borrowed())?;
+        }
+        rest = after;
+    }
+    Ok(())
+}
+
+/// Adds the aliases.
+fn push_aliases<'n>(nodes: &mut List<NodeRef<'n>>, aliases: &'n [Node]) -> Result<(), AllocError>
+    ensures { OnOk result (nodes_of nodes.new ≡ nodes_of nodes.old ++ aliases.now) }
+{
+    let mut rest = aliases;
+    'aliases: while let [first, after @ ..] = rest {
+        nodes.push(first.borrowed())?;
+        rest = after;
+    }
+    Ok(())
+}
+
+/// The names of the declarations and the aliases that are not reached.
+fn unreached_of<'n>(
+    alloc: Global,
+    standing: &'n [Standing],
+    aliases: &'n [Node],
+) -> Result<NamesByName<'n>, AllocError>
+    ensures { IfOk result (λ unreached. AreUnreached (all_declared aliases.now standing.now)
+        (get_by_text unreached)) }
+{
+    let mut nodes = List::new(alloc);
+    push_declarations(&mut nodes, standing)?;
+    push_aliases(&mut nodes, aliases)?;
+    unreached_names(alloc, nodes.as_slice())
+}
+
+/// Whether what stands is chosen, where the map has the names that are not reached.
+fn is_chosen(unreached: &NamesByName<'_>, standing: &Standing) -> bool
+    ensures { result ≡ is_chosen (get_by_text unreached.now) standing.now.declared }
 {
     match &standing.declared {
-        Some(declared) => { declared.is_deriving || !unwanted.contains_key(declared.name.as_str()) }
+        Some(declared) => { declared.is_first || !unreached.contains_key(declared.name.as_str()) }
         None => true,
     }
 }
@@ -49,15 +95,15 @@ fn all_spans(alloc: Global, standing: &[Standing]) -> Result<List<Span>, AllocEr
 fn serde_spans(
     alloc: Global,
     standing: &[Standing],
-    aliases: &List<Alias>,
+    aliases: &List<Node>,
 ) -> Result<List<Span>, AllocError>
     ensures { IfOk result (AreChosen (Serde aliases.now) standing.now) }
 {
-    let unwanted = unwanted_names(alloc, standing, aliases.as_slice())?;
+    let unreached = unreached_of(alloc, standing, aliases.as_slice())?;
     let mut spans = List::new(alloc);
     let mut rest = standing;
     'standing: while let [first, after @ ..] = rest {
-        if is_chosen(&unwanted, first) {
+        if is_chosen(&unreached, first) {
             spans.push(first.span)?;
         }
         rest = after;

@@ -1,19 +1,31 @@
 //! Where items end.
 
-ghost use Rattle.std.specs.Prelude.{◌≡◌, ◌^◌, ◌<◌, ◌-◌, false, map, option_map};
+ghost use Rattle.std.specs.Prelude.{◌≡◌, ◌^◌, ◌<◌, ◌-◌, map, option_map};
 ghost use Rattle.tokens.specs.Trees.{tree_view};
-ghost use Rattle.prepare.specs.Ends.{after_semicolon, is_behind_name, begins_with_name, after_mut, after_line, is_end, angles, after_block, after_path, after_name, semicolon_at, after_group, behind_path, after_call};
+ghost use Rattle.prepare.specs.declared.previous.Behind.TheVariants.{Other};
+ghost use Rattle.prepare.specs.Ends.{is_declaration_word, after_semicolon, is_behind_name, begins_with_name, after_mut, after_line, is_end, angles, after_block, after_path, after_name, semicolon_at, after_group, behind_path, after_call};
 
+use crate::previous::Behind;
 use crate::trees::{is_curly, is_group, is_path_part, is_sign, is_word, word};
 use tokens::TokenTree;
 
-/// What follows the first `;`.
+/// Whether the tree is the keyword of a declaration or of a module.
+fn is_declaration_word(tree: &TokenTree) -> bool
+    ensures { result ≡ is_declaration_word (tree_view tree.now) }
+{
+    is_word(tree, "struct") || is_word(tree, "enum") || is_word(tree, "mod")
+}
+
+/// What follows the first `;`, where no declaration stands before it.
 pub(crate) fn after_semicolon(trees: &[TokenTree]) -> Option<&[TokenTree]>
     ensures { option_map (λ rest. map tree_view rest.now) result
         ≡ after_semicolon (map tree_view trees.now) }
 {
     let mut rest = trees;
     'trees: while let [first, after @ ..] = rest {
+        if is_declaration_word(first) {
+            return None;
+        }
         if is_sign(first, ";") {
             return Some(after);
         }
@@ -63,42 +75,46 @@ pub(crate) fn after_line(trees: &[TokenTree]) -> Option<&[TokenTree]>
     }
 }
 
-/// Whether an item that goes to a block ends with the tree, inside of so many `<`.
-fn is_end(tree: &TokenTree, opened: usize) -> bool
-    ensures { result ≡ is_end opened (tree_view tree.now) }
+/// Whether an item that goes to a block ends with the tree, which stands behind that, inside of so many `<`.
+fn is_end(tree: &TokenTree, was: Behind, opened: usize) -> bool
+    ensures { result ≡ is_end was opened (tree_view tree.now) }
 {
-    is_sign(tree, ";") || (opened == 0 && is_curly(tree))
+    is_sign(tree, ";") || (opened == 0 && is_curly(tree) && !was.is_call())
 }
 
-/// How many `<` are open after the tree, which perhaps stands behind a `-`.
-pub(crate) fn angles(tree: &TokenTree, is_behind_minus: bool, opened: usize) -> usize
+/// How many `<` are open after the tree, which stands behind that.
+pub(crate) fn angles(tree: &TokenTree, was: Behind, opened: usize) -> usize
     requires { opened < 2 ^ 64 - 1 }
-    ensures { result ≡ angles is_behind_minus opened (tree_view tree.now) }
+    ensures { result ≡ angles was opened (tree_view tree.now) }
 {
     if is_sign(tree, "<") {
         opened + 1
-    } else if is_sign(tree, ">") && !is_behind_minus {
+    } else if is_sign(tree, ">") && !was.is_minus() {
         opened.saturating_sub(1)
     } else {
         opened
     }
 }
 
-/// What follows the first `;`, or the first group in curly brackets outside of `<` and `>`.
+/// What follows the first `;`, or the first group in curly brackets outside of `<` and `>`, where no declaration stands
+/// before it.
 #[tactic(auto, unfolding(crate::specs::Ends::after_block))]
 pub(crate) fn after_block(trees: &[TokenTree]) -> Option<&[TokenTree]>
     ensures { option_map (λ rest. map tree_view rest.now) result
-        ≡ after_block false 0 (map tree_view trees.now) }
+        ≡ after_block Other 0 (map tree_view trees.now) }
 {
     let mut opened: usize = 0;
-    let mut is_behind_minus = false;
+    let mut was = Behind::Other;
     let mut rest = trees;
     'trees: while let [first, after @ ..] = rest {
-        if is_end(first, opened) {
+        if is_declaration_word(first) {
+            return None;
+        }
+        if is_end(first, was, opened) {
             return Some(after);
         }
-        opened = angles(first, is_behind_minus, opened);
-        is_behind_minus = is_sign(first, "-");
+        opened = angles(first, was, opened);
+        was = was.past(first);
         rest = after;
     }
     None

@@ -1,13 +1,15 @@
 //! The names in the types of a declaration's fields.
 
-ghost use Rattle.std.specs.Prelude.{◌≡◌, ◌++◌, map, false, IfOk, OnOk};
+ghost use Rattle.std.specs.Prelude.{◌≡◌, ◌^◌, ◌<◌, ◌-◌, ◌++◌, map, true, IfOk, OnOk};
 ghost use Rattle.std.specs.List.{flat_map, list_any};
 ghost use Rattle.tokens.specs.Trees.{tree_view};
-ghost use Rattle.prepare.specs.Fields.{is_comma, from_comma, parts, is_skip, are_serde_skip, is_serde_skip, are_skipping, named_names, unnamed_names, field_names, content_names, variant_names, variants_names, declared_names};
+ghost use Rattle.prepare.specs.declared.previous.Behind.TheVariants.{Other};
+ghost use Rattle.prepare.specs.Fields.{is_comma, opened_after, from_comma, parts, is_skip, are_serde_skip, is_serde_skip, are_skipping, named_names, unnamed_names, field_names, content_names, variant_names, variants_names, declared_names};
 
 use crate::attributes::{after_attributes, after_visibility};
 use crate::ends::angles;
 use crate::names::push_all_names;
+use crate::previous::Behind;
 use crate::trees::{before, inside, is_curly, is_round, is_sign, is_square, is_word};
 use std::alloc::{AllocError, Global};
 use texts::{List, Text};
@@ -20,34 +22,51 @@ fn is_comma(tree: &TokenTree, opened: usize) -> bool
     opened == 0 && is_sign(tree, ",")
 }
 
-/// The trees from the first `,` outside of `<` and `>` on.
-fn from_comma(trees: &[TokenTree]) -> &[TokenTree]
-    ensures { map tree_view result.now ≡ from_comma false 0 (map tree_view trees.now) }
+/// How many `<` are open after the tree, which stands behind that, among types; else none.
+fn opened_after(in_types: bool, tree: &TokenTree, was: Behind, opened: usize) -> usize
+    requires { opened < 2 ^ 64 - 1 }
+    ensures { result ≡ opened_after in_types was opened (tree_view tree.now) }
+{
+    if in_types {
+        angles(tree, was, opened)
+    } else {
+        0
+    }
+}
+
+/// The trees from the first `,` on, in types from the first outside of `<` and `>`.
+fn from_comma(in_types: bool, trees: &[TokenTree]) -> &[TokenTree]
+    ensures { map tree_view result.now ≡ from_comma in_types Other 0 (map tree_view trees.now) }
 {
     let mut opened: usize = 0;
-    let mut is_behind_minus = false;
+    let mut was = Behind::Other;
     let mut rest = trees;
     'trees: while let [first, after @ ..] = rest {
         if is_comma(first, opened) {
             return rest;
         }
-        opened = angles(first, is_behind_minus, opened);
-        is_behind_minus = is_sign(first, "-");
+        opened = opened_after(in_types, first, was, opened);
+        was = was.past(first);
         rest = after;
     }
     rest
 }
 
-/// What stands between the commas outside of `<` and `>`, and behind the last of them only where something does.
+/// What stands between the commas, in types those outside of `<` and `>`, and behind the last of them only where something
+/// does.
 #[tactic(auto, unfolding(crate::specs::Fields::parts))]
-fn parts(alloc: Global, trees: &[TokenTree]) -> Result<Vec<&[TokenTree]>, AllocError>
+fn parts(
+    alloc: Global,
+    in_types: bool,
+    trees: &[TokenTree],
+) -> Result<Vec<&[TokenTree]>, AllocError>
     ensures { IfOk result (λ found. map (λ part. map tree_view part.now) found.items
-        ≡ parts (map tree_view trees.now)) }
+        ≡ parts in_types (map tree_view trees.now)) }
 {
     let mut found = Vec::new(alloc);
     let mut rest = trees;
     'parts: while !rest.is_empty() {
-        let comma = from_comma(rest);
+        let comma = from_comma(in_types, rest);
         found.push(before(rest, comma))?;
         rest = match comma {
             [_, behind @ ..] => behind,
@@ -139,9 +158,9 @@ fn push_all_named(
     trees: &[TokenTree],
 ) -> Result<(), AllocError>
     ensures { OnOk result (names.new
-        ≡ names.old ++ flat_map named_names (parts (map tree_view trees.now))) }
+        ≡ names.old ++ flat_map named_names (parts true (map tree_view trees.now))) }
 {
-    for part in parts(alloc, trees)?.as_slice() {
+    for part in parts(alloc, true, trees)?.as_slice() {
         push_named(alloc, names, part)?;
     }
     Ok(())
@@ -154,9 +173,9 @@ fn push_all_unnamed(
     trees: &[TokenTree],
 ) -> Result<(), AllocError>
     ensures { OnOk result (names.new
-        ≡ names.old ++ flat_map unnamed_names (parts (map tree_view trees.now))) }
+        ≡ names.old ++ flat_map unnamed_names (parts true (map tree_view trees.now))) }
 {
-    for part in parts(alloc, trees)?.as_slice() {
+    for part in parts(alloc, true, trees)?.as_slice() {
         push_unnamed(alloc, names, part)?;
     }
     Ok(())
@@ -194,7 +213,7 @@ fn push_variants(alloc: Global, names: &mut List<Text>, tree: &TokenTree) -> Res
     ensures { OnOk result (names.new ≡ names.old ++ variants_names (tree_view tree.now)) }
 {
     if is_curly(tree) {
-        for part in parts(alloc, inside(tree))?.as_slice() {
+        for part in parts(alloc, false, inside(tree))?.as_slice() {
             push_variant(alloc, names, part)?;
         }
     }

@@ -3,7 +3,7 @@
 ghost use Rattle.std.specs.Prelude.{◌≡◌, map, option_map};
 ghost use Rattle.tokens.specs.Trees.{tree_view};
 ghost use Rattle.words.specs.Words.{ident_of};
-ghost use Rattle.prepare.specs.Forms.{first_word, kind_at, found_view, named_at, declared_at, declaration_at, held_at, module_at, passing, use_at, form_at};
+ghost use Rattle.prepare.specs.Forms.{first_word, kind_at, found_view, is_later_keyword, ident, named_at, declared_at, declaration_at, held_at, module_at, passing, use_at, form_at};
 
 use crate::ends::{after_block, after_call, after_line, after_semicolon, semicolon_at};
 use crate::kind::{Kind, kind_of};
@@ -56,14 +56,35 @@ fn named_at<'t>(name: &'t Token, trees: &'t [TokenTree]) -> Option<(Form<'t>, &'
     }
 }
 
+/// Whether the text is a keyword of editions after that of 2015, in which it is a name.
+fn is_later_keyword(text: &str) -> bool
+    ensures { result ≡ is_later_keyword text.now }
+{
+    matches!(text, "async" | "await" | "dyn" | "try")
+}
+
+/// The name that the tree is in one of the editions.
+fn ident(tree: &TokenTree) -> Option<&Token>
+    ensures { option_map (λ token. ident_of token.now) result ≡ ident (tree_view tree.now) }
+{
+    match tree {
+        TokenTree::Token(token) => match word_of(tree) {
+            Word::Name(_) => Some(token),
+            Word::Keyword(_, _) if is_later_keyword(token.text.as_str()) => Some(token),
+            _ => None,
+        },
+        TokenTree::Group(_) => None,
+    }
+}
+
 /// The declaration, from its name on.
 fn declared_at(trees: &[TokenTree]) -> Option<(Form<'_>, &[TokenTree])>
     ensures { option_map found_view result ≡ declared_at (map tree_view trees.now) }
 {
     match trees {
-        [first, rest @ ..] => match word_of(first) {
-            Word::Name(name) => named_at(name, rest),
-            _ => None,
+        [first, rest @ ..] => match ident(first) {
+            Some(name) => named_at(name, rest),
+            None => None,
         },
         [] => None,
     }

@@ -1,28 +1,14 @@
+use reaching::Node;
 use std::alloc::AllocError;
-use texts::{List, Span, Text};
+use texts::Span;
 use tokens::TokenTree;
 
-/// A declaration of a struct or an enum: its name, whether it derives one of the traits by which declarations are chosen,
-/// and the names in the types of its fields, but for those that serde skips.
-#[derive(Debug, Drop)]
-pub struct Declared {
-    pub name: Text,
-    pub is_deriving: bool,
-    pub names: List<Text>,
-}
-
-/// An alias: a name, and the names in the type that it stands for.
-#[derive(Debug, Drop)]
-pub struct Alias {
-    pub name: Text,
-    pub names: List<Text>,
-}
-
-/// What stands of a file: a declaration, or without one a `use` line. The span goes from the first attribute or doc comment
-/// to the end.
+/// What stands of a file: a declaration of a struct or an enum, or without one a `use` line. A declaration is a node: it is
+/// first where it derives one of the traits by which declarations are chosen, and it names the identifiers in the types of its
+/// fields, but for those that serde skips. The span goes from the first attribute or doc comment to the end.
 #[derive(Debug, Drop)]
 pub struct Standing {
-    pub declared: Option<Declared>,
+    pub declared: Option<Node>,
     pub span: Span,
 }
 

@@ -1,40 +1,18 @@
 //! From the text of a file to the text of its declarations.
 
-ghost use Rattle.std.specs.Prelude.{◌≡◌, ◌≤◌, ◌⊎◌, length, IfOk};
+ghost use Rattle.std.specs.Prelude.{◌≡◌, ◌⊎◌, length, IfOk};
 ghost use Rattle.diag.specs.Refusal.{Refuses};
 ghost use Rattle.texts.specs.declared.span.Span.{Span};
 ghost use Rattle.lexing.specs.Cut.{IsDepthError, OpensTooDeep};
 ghost use Rattle.prepare.specs.Masked.{IsBlanked};
-ghost use Rattle.prepare.specs.Prepared.{IsPrepared, IsNoFile, IsRefusalOf};
+ghost use Rattle.prepare.specs.Prepared.{IsPrepared, IsNoFile};
 
 use crate::choice::{Choice, chosen_spans};
-use crate::item::Stop;
+use crate::file::standing_in;
 use crate::marks::masked;
-use crate::standing::stand_inside;
 use diag::DeriveError;
-use lexing::{deep_brackets_nest_deep, lex, one_cut};
 use std::alloc::Global;
-use texts::{Span, Text};
-
-/// The span, as far as it lies in a text of that many bytes.
-fn within(span: Span, bytes: usize) -> Span
-    ensures { result.end ≤ bytes }
-{
-    Span {
-        start: span.start.min(bytes),
-        end: span.end.min(bytes),
-    }
-}
-
-/// The error for reading that stopped in a text of that many bytes.
-fn refusal(alloc: Global, stop: Stop, bytes: usize) -> DeriveError
-    ensures { IsRefusalOf stop bytes result }
-{
-    match stop {
-        Stop::Memory => DeriveError::Memory,
-        Stop::At(span) => DeriveError::syntax(alloc, within(span, bytes)),
-    }
-}
+use texts::Text;
 
 /// The text of the source's declarations and `use` lines, with all else as spaces and line breaks, so that each byte that
 /// stands is where it was.
@@ -49,15 +27,7 @@ pub fn declarations(alloc: Global, source: &str, choice: &Choice) -> Result<Text
     ensures shallow { IfOk result (λ _. (span : Span) → ¬ (OpensTooDeep source.now span)) }
     ensures refused { Refuses result (λ e. IsDepthError source.now e ⊎ IsNoFile source.now e) }
 {
-    let trees = lex(alloc, source)?;
-    // The source has no other trees, so what is no file of these is none at all.
-    one_cut();
-    deep_brackets_nest_deep();
-    match stand_inside(alloc, trees.as_slice()) {
-        Ok(standing) => {
-            let spans = chosen_spans(alloc, standing.as_slice(), choice)?;
-            Ok(masked(alloc, source, spans.as_slice())?)
-        }
-        Err(stop) => Err(refusal(alloc, stop, source.len())),
-    }
+    let standing = standing_in(alloc, source)?;
+    let spans = chosen_spans(alloc, standing.as_slice(), choice)?;
+    Ok(masked(alloc, source, spans.as_slice())?)
 }

@@ -3,11 +3,11 @@
 ghost use Rattle.std.specs.Prelude.{◌≡◌, map};
 ghost use Rattle.tokens.specs.Trees.{tree_view};
 ghost use Rattle.prepare.specs.Items.{item_view};
-ghost use Rattle.prepare.specs.Standing.{AreItems, StandIn, StandInside, Finds};
+ghost use Rattle.prepare.specs.Standing.{AreItems, StandIn, StandInside, StopAt, StopIn, StopInside, Finds};
 
 use crate::attributes::{after_inner, is_for_tests};
 use crate::item::{Item, Standing, Stop};
-use crate::items::item_at;
+use crate::single::item_at;
 use crate::trees::before;
 use std::alloc::Global;
 use texts::List;
@@ -16,7 +16,7 @@ use tokens::TokenTree;
 /// What stands of the item.
 #[cycle(standing)]
 fn stand_in(alloc: Global, item: Item<'_>) -> Result<List<Standing>, Stop>
-    ensures { Finds (StandIn (item_view item.entry)) result }
+    ensures { Finds (StandIn (item_view item.entry)) (StopIn (item_view item.entry)) result }
 {
     match item {
         Item::Stands(standing) => {
@@ -32,7 +32,7 @@ fn stand_in(alloc: Global, item: Item<'_>) -> Result<List<Standing>, Stop>
 /// What stands of the trees, which are items.
 #[cycle(standing)]
 fn are_items(alloc: Global, trees: &[TokenTree]) -> Result<List<Standing>, Stop>
-    ensures { Finds (AreItems (map tree_view trees.now)) result }
+    ensures { Finds (AreItems (map tree_view trees.now)) (StopAt (map tree_view trees.now)) result }
 {
     let mut standing = List::new(alloc);
     let mut rest = trees;
@@ -47,7 +47,7 @@ fn are_items(alloc: Global, trees: &[TokenTree]) -> Result<List<Standing>, Stop>
 /// What stands of the trees, which are a file, or what stands in the brackets of a module.
 #[cycle(standing)]
 pub(crate) fn stand_inside(alloc: Global, trees: &[TokenTree]) -> Result<List<Standing>, Stop>
-    ensures { Finds (StandInside (map tree_view trees.now)) result }
+    ensures { Finds (StandInside (map tree_view trees.now)) (StopInside (map tree_view trees.now)) result }
 {
     let rest = after_inner(trees);
     if is_for_tests(before(trees, rest)) {

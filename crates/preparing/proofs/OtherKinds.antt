@@ -80,7 +80,7 @@ module _ (own : Kind) (of_configuration : IsTrue (is_of_configuration own)) (ds 
 
   unchosen : (source : List ℕ) → HasNoDeclarations source (Refused ds) → ⊥
   unchosen source (inl (span, is, opens)) = other TooDeep _ _ refl is
-  unchosen source (inr (span, is, within, none)) = other Syntax _ _ refl is
+  unchosen source (inr (span, is, within, none, at)) = other Syntax _ _ refl is
 
   refused : (request : Request) (source : List ℕ) → IsRefusedFor request source (Refused ds) → ⊥
   refused declarations source h = unchosen source h

@@ -1,5 +1,5 @@
 -- What answers a request about a text, and what refuses it.
-use Rattle.std.specs.Prelude.{◌≡◌, ◌⊎◌, ℕ, List, map}
+use Rattle.std.specs.Prelude.{◌≡◌, ◌⊎◌, ℕ, List, map, false}
 use Rattle.diag.specs.Refusal.{RefusesNone}
 use Rattle.diag.specs.declared.error.DeriveError.{DeriveError}
 use Rattle.texts.specs.declared.span.Span.{Span}
@@ -11,10 +11,10 @@ use Rattle.syntax.specs.Items.{DeclaredItem}
 use Rattle.syntax.specs.Source.{Reads, NestsTooDeep}
 use Rattle.prepare.specs.declared.choice.Choice.{Choice}
 use Rattle.prepare.specs.declared.choice.Choice.TheVariants.{All, Serde}
-use Rattle.prepare.specs.declared.item.Alias.{Alias}
 use Rattle.prepare.specs.declared.item.Standing.{Standing}
 use Rattle.prepare.specs.Masked.{IsBlanked}
 use Rattle.prepare.specs.Prepared.{IsFile, IsPrepared, IsNoFile}
+use Rattle.reaching.specs.declared.node.Node.{Node}
 use Rattle.renaming.specs.Refusals.{HaveNoRows}
 use Rattle.renaming.specs.Whole.{AreWritten, HasNoText}
 use Rattle.preparing.specs.Shown.{shown}
@@ -27,11 +27,11 @@ pub record IsChosen (choice : Choice) (source text : List ℕ) : Type 0 where
   pub blanked : IsBlanked source text
   pub shallow : (span : Span) → ¬ OpensTooDeep source span
 
--- an alias names what stands last in the paths of its type
-abbrev pub alias_of : configured.Alias → Alias
-alias_of alias = record { name = alias.name; names = last_names alias.of }
+-- an alias names what stands last in the paths of its type, and is not first
+abbrev pub alias_of : configured.Alias → Node
+alias_of alias = record { name = alias.name; is_first = false; names = last_names alias.of }
 
-abbrev pub aliases_of : Configuration → List Alias
+abbrev pub aliases_of : Configuration → List Node
 aliases_of c = map alias_of c.aliases
 
 -- the text answers the request about the source by the configuration

@@ -16,7 +16,6 @@ pub use Rattle.files.specs.Held
 pub use Rattle.files.specs.Memory as FileMemory
 pub use Rattle.lexing.specs.Cut
 pub use Rattle.prepare.specs.Masked
-pub use Rattle.prepare.specs.Positions
 pub use Rattle.prepare.specs.Prepared
 pub use Rattle.renaming.specs.Refusals as RowRefusals
 pub use Rattle.renaming.specs.Whole
@@ -33,4 +32,5 @@ pub use Rattle.streams.specs.Memory
 pub use Rattle.streams.specs.Told
 pub use Rattle.syntax.specs.Items
 pub use Rattle.syntax.specs.Source
+pub use Rattle.telling.specs.Positions
 pub use Rattle.texts.specs.Span

@@ -3,7 +3,7 @@ use Rattle.std.specs.Prelude.{◌-◌, ◌++◌, ◌==◌, ℕ, List, length, ma
 use Rattle.std.specs.List.{repeat}
 use Rattle.std.specs.Fmt.{decimal}
 use Rattle.texts.specs.declared.span.Span.{Span}
-use Rattle.prepare.specs.Positions.{line_of, column_of, text_of}
+use Rattle.telling.specs.Positions.{line_of, column_of, text_of}
 
 -- how many characters of its first line are marked: those of the span, or where it goes on behind
 -- that line, those up to the line's end; at least one

@@ -4,20 +4,21 @@ ghost use Rattle.std.specs.Prelude.{◌≡◌, IfOk};
 ghost use Rattle.preparing.specs.Answers.{aliases_of};
 
 use configuration::{Config, last_names};
-use prepare::Alias;
+use reaching::Node;
 use std::alloc::{AllocError, Global};
 use texts::List;
 
-/// The aliases of the configuration, each with the names in its type.
-pub(crate) fn aliases_of(alloc: Global, config: &Config) -> Result<List<Alias>, AllocError>
+/// The aliases of the configuration, each a node that names what its type names, and is not first.
+pub(crate) fn aliases_of(alloc: Global, config: &Config) -> Result<List<Node>, AllocError>
     ensures { IfOk result (λ aliases. aliases ≡ aliases_of config.now) }
 {
     let names = config.alias_names();
     let types = config.alias_types();
     let mut aliases = List::new(alloc);
     for at in 0..names.len() {
-        aliases.push(Alias {
+        aliases.push(Node {
             name: names[at].copy(alloc)?,
+            is_first: false,
             names: last_names(alloc, &types[at])?,
         })?;
     }

@@ -3,8 +3,8 @@
 ghost use Rattle.std.specs.Prelude.{◌≡◌, ◌-◌, ◌==◌, length, max, cond, chars, IfOk};
 ghost use Rattle.preparing.specs.Shown.{shown};
 
-use prepare::{Position, place};
 use std::alloc::{AllocError, Global};
+use telling::{Position, place};
 use texts::{Span, Text};
 
 /// How many characters the text has.

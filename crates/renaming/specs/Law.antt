@@ -1,5 +1,5 @@
 -- Rows of names serve: no name misses its row with them, and each does without.
-use Rattle.std.specs.Prelude.{◌≡◌, List, [], false, Some}
+use Rattle.std.specs.Prelude.{◌≡◌, List, [], ◌++◌, false, Some}
 use Rattle.std.specs.List.{AllByRecursion}
 use Rattle.diag.specs.Refusal.{IsRefusal, RefusesNone}
 use Rattle.diag.specs.declared.error.DeriveError.{DeriveError}
@@ -30,6 +30,10 @@ MissNoRow ds rows = RefusesNone (AreRowlessItems rows ds)
 -- The law: with the rows of its names no name misses its row.
 abbrev pub RowsSuffice : Type 0
 RowsSuffice = (ds : List DeclaredItem) (rows : List RenameRow) → AreRowsOf (asked_of ds) rows → MissNoRow ds rows
+
+-- The law: nor with these rows behind others, such as those of a configuration.
+abbrev pub RowsSufficeBehind : Type 0
+RowsSufficeBehind = (ds : List DeclaredItem) (front rows : List RenameRow) → AreRowsOf (asked_of ds) rows → MissNoRow ds (front ++ rows)
 
 -- without rows the name misses its row
 abbrev pub IsWanted : DeclaredItem → Asked → Type 0

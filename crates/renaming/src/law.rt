@@ -1,6 +1,6 @@
 //! Laws of rows and names.
 
-ghost use Rattle.renaming.specs.Law.{RowsServe, RowsSuffice, RowsAreWanted};
+ghost use Rattle.renaming.specs.Law.{RowsServe, RowsSuffice, RowsSufficeBehind, RowsAreWanted};
 
 use diag::rules_have_own_names;
 
@@ -15,6 +15,13 @@ pub fn rows_serve()
 /// derivation is refused for a missing row exactly where one does.
 pub fn rows_suffice()
     ensures { RowsSuffice }
+{
+    rules_have_own_names();
+}
+
+/// Nor does one with these rows behind others, such as those of a configuration.
+pub fn rows_suffice_behind()
+    ensures { RowsSufficeBehind }
 {
     rules_have_own_names();
 }

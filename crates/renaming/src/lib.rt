@@ -16,7 +16,7 @@ mod whole;
 pub use ask::asked_names;
 pub use by_rule::renamed;
 pub use document::rows_text;
-pub use law::{rows_are_wanted, rows_serve, rows_suffice};
+pub use law::{rows_are_wanted, rows_serve, rows_suffice, rows_suffice_behind};
 pub use row_key::RowKey;
 pub use rows::{rows_of, rows_of_names};
 pub use serde_names::Asked;

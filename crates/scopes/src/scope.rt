@@ -63,7 +63,7 @@ impl<'a> Places<'a> {
     }
 
     /// The place of the first declaration of the identifier's name.
-    fn place_of(&self, ident: &Ident) -> Option<usize>
+    pub fn place_of(&self, ident: &Ident) -> Option<usize>
         ensures { result
             ≡ place_among (declarations_view self.now.declarations.now) ident.now.text }
     {

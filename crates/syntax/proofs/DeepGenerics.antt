@@ -19,7 +19,7 @@ use Rattle.attributes.specs.AttributeReading.{attributes_at}
 use Rattle.attributes.proofs.Laws.{attributes_sound, attributes_shallow}
 use Rattle.syntax.specs.Items.{ParameterItem, type_parameter, const_parameter}
 use Rattle.syntax.specs.Generics.{IsParameter, IsPredicate}
-use Rattle.syntax.specs.GenericReading.{Readers, after_lifetimes, lifetimes_or_none, outlived_or_not, after_outlived, bounded_or_not, after_bounded, const_or_type, lifetime_or_other, bare_parameter_at, parameter_at, generics_or_none, generics_at, after_bounded_type, predicate_at, predicates_or_none, after_where}
+use Rattle.syntax.specs.GenericReading.{after_lifetimes, lifetimes_or_none, outlived_or_not, after_outlived, bounded_or_not, after_bounded, const_or_type, lifetime_or_other, bare_parameter_at, parameter_at, generics_or_none, generics_at, after_bounded_type, predicate_at, predicates_or_none, after_where}
 use Rattle.syntax.specs.GenericReading as reading
 use Rattle.syntax.specs.ItemDepth.{most_in_bounds, within_levels, OpensBounds, OpensParameter, in_type_bounds, in_const_type, OpensGenerics, in_parameters, OpensPredicate, in_lifetime_bounds, in_bounded_type, in_predicate_bounds, OpensWhere, in_predicates}
 use Rattle.syntax.proofs.Types.{type_sound, type_complete, type_begins, type_agrees, opens_begins, bounds_sound, bounds_agree}

@@ -1,7 +1,6 @@
 use Rattle.std.proofs.Common.{length}
 use Rattle.prepare.specs.declared.choice.Choice.TheVariants.{Serde}
-use Rattle.prepare.specs.Choices.{IsChosen}
-use Rattle.prepare.specs.Wanted.{all_declared}
+use Rattle.prepare.specs.Choices.{all_declared, IsChosen}
 use Rattle.prepare.proofs.Choosing.{SpansSoFar, IsPart}
 use Rattle.prepare.proofs.choice.serde_spans.Given as goal
 

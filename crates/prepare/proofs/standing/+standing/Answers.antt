@@ -4,8 +4,8 @@ use Rattle.std.proofs.lemmas.Result.{err_from_is_err_and}
 use Rattle.tokens.specs.Trees.{tree_view, trees_view, trees_of, depth}
 use Rattle.prepare.specs.Trees.{before}
 use Rattle.prepare.specs.Attributes.{after_inner, is_for_tests}
-use Rattle.prepare.specs.Items.{item_view, read_view}
-use Rattle.prepare.specs.Standing.{AreItems, StandIn, itself, nothing, for_tests, Finds}
+use Rattle.prepare.specs.Items.{item_view}
+use Rattle.prepare.specs.Standing.{AreItems, StandIn, itself, nothing, for_tests, StopAt, StopIn, Finds}
 use Rattle.prepare.proofs.Behind.{weakly, length_past, depth_behind}
 use Rattle.prepare.proofs.Passed.{item_past}
 use Rattle.prepare.proofs.Repeated.{inner_behind}
@@ -17,7 +17,7 @@ are_items-returns-in_err-item t c =
     let p = err_from_is_err_and c.from_residual.result c.from_residual.ensures.1 in
     let some = some_left c.items.rest.now (sym c.is_empty.ensures ∙ c.items-test.true) in
     rw (p.1, p.2)
-    (item_stops read_view (map tree_view c.args.trees.now) (map tree_view c.items.rest.now) c.items.standing c.in_err-item.field-0.0 c.items.invariant.0 some c.in_err-item.ensures)
+    (item_stops (map tree_view c.args.trees.now) (map tree_view c.items.rest.now) c.items.standing c.in_err-item.field-0.0 c.items.invariant.0 some c.in_err-item.ensures)
 
 pub are_items-stand_in-requires : goal.are_items-stand_in-requires
 are_items-stand_in-requires t c =
@@ -58,7 +58,7 @@ stand_in-returns-in_ok-push-in-Stands t c =
     rw one (subst (λ i. StandIn (item_view i) (c.in-Stands.standing ∷ [])) (sym c.in-Stands.is) itself)
 
 pub stand_in-returns-in-Holds : goal.stand_in-returns-in-Holds
-stand_in-returns-in-Holds t c = subst (λ i. Finds (StandIn (item_view i)) c.stand_inside.result) (sym c.in-Holds.is) (held_finds (map tree_view c.in-Holds.trees.now) c.stand_inside.result c.stand_inside.ensures)
+stand_in-returns-in-Holds t c = subst (λ i. Finds (StandIn (item_view i)) (StopIn (item_view i)) c.stand_inside.result) (sym c.in-Holds.is) (held_finds (map tree_view c.in-Holds.trees.now) c.stand_inside.result c.stand_inside.ensures)
 
 pub stand_in-returns-in-Passed : goal.stand_in-returns-in-Passed
 stand_in-returns-in-Passed t c = rw c.new.ensures (subst (λ i. StandIn (item_view i) []) (sym c.in-Passed.is) nothing)
@@ -79,4 +79,4 @@ pub stand_inside-returns : goal.stand_inside-returns
 stand_inside-returns t c =
     let ts = map tree_view c.args.trees.now in
     let others : is_for_tests (before ts (after_inner ts)) ≡ false = ap is_for_tests (sym (c.before-2.ensures ∙ ap (before ts) c.after_inner-rest.ensures)) ∙ sym c.is_for_tests.ensures ∙ c.if-is_for_tests.false in
-    inside_finds ts c.are_items.result others (subst (λ v. Finds (AreItems v) c.are_items.result) c.after_inner-rest.ensures c.are_items.ensures)
+    inside_finds ts c.are_items.result others (subst (λ v. Finds (AreItems v) (StopAt v) c.are_items.result) c.after_inner-rest.ensures c.are_items.ensures)

@@ -15,7 +15,7 @@ OneReading = (source : List ℕ) (ds es : List DeclaredItem) → Reads source ds
 -- a file that is sound is not refused
 sound_file : (source : List ℕ) (e : DeriveError) → IsSoundFile source → HasNoDeclarations source e → ⊥
 sound_file source e sound (inl (span, is, opens)) = sound.shallow span opens
-sound_file source e sound (inr (span, is, within, none)) = none sound.standing sound.file
+sound_file source e sound (inr (span, is, within, none, at)) = none sound.standing sound.file
 
 -- a text that is sound is not refused
 sound_text : OneReading → (request : Request) (source : List ℕ) (e : DeriveError) → IsSoundFor request source → IsRefusedFor request source e → ⊥

@@ -1,0 +1,64 @@
+-- Stages of a derivation of files.
+use Rattle.std.proofs.Common.{◌≡◌, ◌∙◌, ◌⊎◌, ◌↔◌, ◌≢◌, inl, inr, refl, sym, subst, arith, ℕ, List, [], length, replicate, Bool, true, false, IsTrue, length-append}
+use Rattle.std.proofs.lemmas.List.{length-replicate}
+use Rattle.diag.specs.declared.diagnostics.DiangosticsInner.{DiangosticsInner}
+use Rattle.diag.specs.declared.error.DeriveError.{DeriveError}
+use Rattle.diag.specs.declared.error.DeriveError.TheVariants.{Refused, Memory}
+use Rattle.configuration.specs.Configuration.{Configuration}
+use Rattle.syntax.specs.Items.{DeclaredItem}
+use Rattle.prepare.specs.declared.file_items.FileItem.{FileItem}
+use Rattle.telling.specs.declared.told.Told.{Told}
+use Rattle.gathering.specs.Files.{FileOf}
+use Rattle.gathering.specs.Reading.{AreRead, nothing_read, is_read, is_refused}
+use Rattle.gathering.specs.declared.selection.Selection.{Selection}
+use Rattle.file_derivation.specs.Outcomes.{AreDerivedFrom, AreTold, IsOutcome, IfDerived, IfRefused, IsDerivation, IfToldIs}
+use Rattle.file_derivation.specs.declared.derive.Outcome.{Outcome}
+use Rattle.file_derivation.specs.declared.derive.Outcome.TheVariants as outcomes
+use Rattle.file_derivation.specs.declared.derive.Refusal.{Refusal}
+use Rattle.file_derivation.specs.declared.derive.Refusal.TheVariants as refusals
+
+-- what holds of an error that refuses holds of its refusal
+pub refused_so : (P : DeriveError → Type 0) (e : DeriveError) (d own : List DiangosticsInner) → e ≡ Refused d → own ≡ d → (e ≡ Memory) ⊎ P e → P (Refused own)
+refused_so P e d own is same (inl memory) = let one : Memory ≡ Refused d = sym memory ∙ is in cc
+refused_so P e d own is same (inr cause) = subst (λ v. P (Refused v)) (sym same) (subst P is cause)
+
+-- ---- what is told
+
+pub told_if : {P Q : List Told → Type 0} (r : Refusal) → ((told : List Told) → P told → Q told) → IfToldIs P r → IfToldIs Q r
+told_if refusals.Memory h is = tt
+told_if (refusals.Told told) h is = h told is
+
+pub read_for : {names others : List (List ℕ)} {items chosen from : List FileItem} {ds : List DeclaredItem} {faults told : List Told} → names ≡ others → items ≡ chosen → faults ≡ told → AreRead names items from ds faults → AreRead others chosen from ds told
+read_for {names = names} {others = others} {items = items} {chosen = chosen} {from = from} {ds = ds} {faults = faults} {told = told} e f g are =
+    subst (λ (v : List (List ℕ)). AreRead v chosen from ds told) e (subst (λ (v : List FileItem). AreRead names v from ds told) f (subst (AreRead names items from ds) g are))
+
+pub some_told : {faults : List Told} (b : Bool) → IsTrue b ↔ (faults ≡ []) → b ≡ false → faults ≢ []
+some_told true h e is = cc
+some_told false h e is = let found = h.1 is in cc
+
+pub none_told : {faults : List Told} (b : Bool) → IsTrue b ↔ (faults ≡ []) → b ≡ true → faults ≡ []
+none_told true h e = h.0 refl
+none_told false h e = cc
+
+pub derived_of : (s : Selection) (c : Configuration) (files : List FileOf) (outcome : Outcome) → IsOutcome s c files outcome → IfDerived (AreDerivedFrom s c files) outcome
+derived_of s c files (outcomes.Derived d) is = is
+derived_of s c files (outcomes.Refused told) is = tt
+
+pub refused_of : (s : Selection) (c : Configuration) (files : List FileOf) (outcome : Outcome) → IsOutcome s c files outcome → IfRefused (AreTold s c files) outcome
+refused_of s c files (outcomes.Derived d) is = tt
+refused_of s c files (outcomes.Refused told) is = is
+
+pub derivation_of : (s : Selection) (c : Configuration) (files : List FileOf) (outcome : Outcome) → IsOutcome s c files outcome → ((told : List Told) → AreTold s c files told → ⊥) → IsDerivation outcome
+derivation_of s c files (outcomes.Derived d) is h = tt
+derivation_of s c files (outcomes.Refused told) is h = h told is
+
+-- as many declarations as those that they are read from
+pub as_many : {names : List (List ℕ)} {items from : List FileItem} {ds : List DeclaredItem} {faults : List Told} → AreRead names items from ds faults → length from ≡ length ds
+as_many nothing_read = refl
+as_many (is_read {i = i} {from = from} {es = es} {ds = ds} r more) =
+    let mine = length-append (replicate (length es) i) from in
+    let own = length-replicate (length es) i in
+    let all = length-append es ds in
+    let rest = as_many more in
+    omega (arith, mine, own, all, rest)
+as_many (is_refused r more) = as_many more

@@ -1,0 +1,10 @@
+//! From the files of a crate to components, or to what is told of their faults.
+#![tactic(auto)]
+
+mod derive;
+mod faults;
+mod law;
+mod rows;
+
+pub use derive::{Outcome, derive_files, derive_gathered};
+pub use law::sound_are_not_told;

@@ -1,0 +1,67 @@
+-- What stands in files, and why one has no declarations.
+use Rattle.std.specs.Prelude.{◌≡◌, ◌<◌, ◌≤◌, ◌⊎◌, ℕ, suc, List, [], ◌∷◌, ◌++◌, length, map, take}
+use Rattle.std.specs.Str.{IsUtf8, IsValidUpTo}
+use Rattle.diag.specs.declared.diagnostics.DiangosticsInner.{DiangosticsInner}
+use Rattle.diag.specs.declared.error.DeriveError.TheVariants.{Refused}
+use Rattle.lexing.specs.Cut.{IsDepthError, OpensTooDeep}
+use Rattle.prepare.specs.FileItems.{AreItemsOf}
+use Rattle.prepare.specs.FileTexts.{text_of_file}
+use Rattle.prepare.specs.Prepared.{IsNoFile}
+use Rattle.prepare.specs.declared.file_items.FileItem.{FileItem}
+use Rattle.telling.specs.declared.told.Told.{Told}
+use Rattle.texts.specs.declared.span.Span.{Span}
+use Rattle.gathering.specs.Telling.{whole, told_by, told_longer, told_broken}
+use Rattle.gathering.specs.declared.gathered.Gathered.{Gathered}
+use Rattle.gathering.specs.declared.gathered.Stop.{Stop}
+use Rattle.gathering.specs.declared.gathered.Stop.TheVariants as stop
+use Rattle.gathering.specs.declared.source.Source as program
+
+-- a file: its name, and its bytes
+pub record FileOf : Type 0 where
+  pub name : List ℕ
+  pub bytes : List ℕ
+
+abbrev pub file_of : program.Source → FileOf
+file_of source = record { name = source.name.now; bytes = source.bytes.now }
+
+-- the most bytes of a file
+abbrev pub most_bytes : ℕ
+most_bytes = 16777216
+
+-- These are the declarations of the bytes, which are those of the file of this number.
+pub record HasItems (file : ℕ) (bytes : List ℕ) (items : List FileItem) : Type 0 where
+  pub short : length bytes ≤ most_bytes
+  pub utf8 : IsUtf8 bytes
+  pub items_are : AreItemsOf file (text_of_file bytes) items
+  pub shallow : (span : Span) → ¬ (OpensTooDeep (text_of_file bytes) span)
+
+-- the span is empty, and stands at the end of the text
+abbrev pub IsEndOf : List ℕ → Span → Type 0
+IsEndOf text span = (span.start ≡ length text) × (span.end ≡ length text)
+
+-- The file has no declarations, and this is told: it is too long, or else no UTF-8 from the end of this front on, or else its text is no file of Rust.
+pub data IsToldOfFile (f : FileOf) : Told → Type 0 where
+  too_long : most_bytes < length f.bytes → IsToldOfFile f (told_longer f.name)
+  no_text : {front : ℕ} (end : Span) → length f.bytes ≤ most_bytes → ¬ (IsUtf8 f.bytes) → IsValidUpTo f.bytes front → IsEndOf (text_of_file (take front f.bytes)) end
+      → IsToldOfFile f (told_broken f.name (text_of_file (take front f.bytes)) end)
+  no_file : {d : List DiangosticsInner} → length f.bytes ≤ most_bytes → IsUtf8 f.bytes → IsDepthError (text_of_file f.bytes) (Refused d) ⊎ IsNoFile (text_of_file f.bytes) (Refused d)
+      → IsToldOfFile f (told_by f.name whole (text_of_file f.bytes) d)
+
+-- the bytes are those of a file that may be read, and this is its text
+abbrev pub IsTextOfFile : List ℕ → List ℕ → Type 0
+IsTextOfFile bytes text = (length bytes ≤ most_bytes) × IsUtf8 bytes × (text ≡ text_of_file bytes)
+
+-- what a function told is this, unless memory ran out
+abbrev pub IfTold : (Told → Type 0) → Stop → Type 0
+IfTold IsTold stop.Memory = Unit {0}
+IfTold IsTold (stop.Told told) = IsTold told
+
+-- Of the files, of which the first has this number, each has its declarations, or is told of, in order.
+pub data AreGathered : ℕ → List FileOf → List FileItem → List Told → Type 0 where
+  no_files : {n : ℕ} → AreGathered n [] [] []
+  has_items : {n : ℕ} {f : FileOf} {files : List FileOf} {own items : List FileItem} {faults : List Told} → HasItems n f.bytes own → AreGathered (suc n) files items faults → AreGathered n (f ∷ files) (own ++ items) faults
+  is_told : {n : ℕ} {f : FileOf} {files : List FileOf} {items : List FileItem} {told : Told} {faults : List Told} → IsToldOfFile f told → AreGathered (suc n) files items faults → AreGathered n (f ∷ files) items (told ∷ faults)
+
+-- the files have been taken, from the first on
+abbrev pub Gathers : List FileOf → Gathered → Type 0
+Gathers files g = (g.names ≡ map (λ f. f.name) files) × AreGathered 0 files g.items g.faults

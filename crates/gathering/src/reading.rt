@@ -1,0 +1,100 @@
+//! Selected declarations, each read from its own text.
+
+ghost use Rattle.std.specs.Prelude.{◌≡◌, ◌++◌, ◌⊎◌, map, length, get_or, [], IfOk, OnOk, replicate};
+ghost use Rattle.diag.specs.Refusal.{Refuses, RefusesNone};
+ghost use Rattle.renaming.specs.Refusals.{HaveNoRows};
+ghost use Rattle.syntax.specs.Items.{declarations_view};
+ghost use Rattle.syntax.specs.Named.{AreNamed};
+ghost use Rattle.gathering.specs.Reading.{IsReadAs, IsRefusedText, file_name, told_of, AreRead};
+
+use crate::fault::told_by;
+use diag::{DeriveError, Diagnostics};
+use prepare::FileItem;
+use renaming::rows_of;
+use std::alloc::{AllocError, Global};
+use syntax::{Declarations, parse_declarations, read_fields_are_named};
+use telling::Told;
+use texts::{List, Text};
+
+/// What is read of declarations of files.
+#[derive(Drop)]
+pub struct Reading<'i> {
+    pub declarations: Declarations,
+    /// Of each declaration that from whose text it is read.
+    pub from: List<&'i FileItem>,
+    /// What is told of the others.
+    pub faults: List<Told>,
+}
+
+/// What the text declares, where the names in it have rows.
+fn read_text(alloc: Global, text: &str) -> Result<Declarations, DeriveError>
+    ensures read { IfOk result (λ ds. IsReadAs text.now (declarations_view ds)) }
+    ensures refused { Refuses result (IsRefusedText text.now) }
+{
+    let declarations = parse_declarations(alloc, text)?;
+    let _rows = rows_of(alloc, &declarations)?;
+    Ok(declarations)
+}
+
+/// The name of the file of the number; of none that there is, the empty name.
+pub fn file_name(names: &[Text], file: usize) -> &str
+    ensures { result.now ≡ file_name names.now file }
+{
+    match names.get(file) {
+        Some(name) => name.as_str(),
+        None => "",
+    }
+}
+
+/// Adds the item so many times.
+fn push_times<'i>(
+    from: &mut List<&'i FileItem>,
+    item: &'i FileItem,
+    times: usize,
+) -> Result<(), AllocError>
+    ensures { OnOk result (map (λ i. i.now) from.new
+        ≡ map (λ i. i.now) from.old ++ replicate times item.now) }
+{
+    let mut left = times;
+    'items: while left > 0 {
+        from.push(item)?;
+        left -= 1;
+    }
+    Ok(())
+}
+
+/// The declarations, each read from its own text, and what is told of those whose text is refused: it has no reading, or
+/// nests too deep, or a name in it is given by a rule by which serde makes none.
+pub fn read_items<'i>(
+    alloc: Global,
+    names: &[Text],
+    items: &[&'i FileItem],
+) -> Result<Reading<'i>, AllocError>
+    ensures read { IfOk result (λ r. AreRead names.now (map (λ i. i.now) items.now)
+        (map (λ i. i.now) r.from) (declarations_view r.declarations) r.faults) }
+    ensures named { IfOk result (λ r. AreNamed (declarations_view r.declarations)) }
+    ensures rows { IfOk result (λ r. RefusesNone (HaveNoRows (declarations_view r.declarations))) }
+{
+    read_fields_are_named();
+    let mut read = List::new(alloc);
+    let mut from = List::new(alloc);
+    let mut faults = List::new(alloc);
+    for item in items {
+        match read_text(alloc, item.text.as_str()) {
+            Ok(declarations) => {
+                push_times(&mut from, item, declarations.items.len())?;
+                read.append(declarations.items)?;
+            }
+            Err(DeriveError::Refused(refusal)) => {
+                let name = file_name(names, item.file);
+                faults.push(told_by(alloc, name, &item.place, item.text.as_str(), &refusal)?)?;
+            }
+            Err(DeriveError::Memory) => return Err(AllocError),
+        }
+    }
+    Ok(Reading {
+        declarations: Declarations { items: read },
+        from,
+        faults,
+    })
+}

@@ -1,5 +1,0 @@
-use Rattle.prepare.proofs.Lines.{IsAt}
-use Rattle.prepare.proofs.position.place.Given as goal
-
-abbrev pub invariant-loop-at : goal.invariant-loop-at
-invariant-loop-at l = IsAt l.bytes l.text l.at l.line l.column l.start

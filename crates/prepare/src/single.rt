@@ -1,0 +1,105 @@
+//! Single items, with their attributes.
+
+ghost use Rattle.std.specs.Prelude.{◌≡◌, length, map, IfOk};
+ghost use Rattle.tokens.specs.Trees.{tree_view};
+ghost use Rattle.words.specs.Words.{ident_of};
+ghost use Rattle.prepare.specs.declared.item.Stop.TheVariants.{At};
+ghost use Rattle.prepare.specs.Forms.{form_view};
+ghost use Rattle.prepare.specs.Items.{declared_of, item_view, read_view, item_of, item_at, stop_at, ReadsItem};
+
+use crate::attributes::{after_attributes, after_visibility, is_for_tests};
+use crate::fields::push_declared;
+use crate::form::{Form, form_at};
+use crate::item::{Item, Standing, Stop};
+use crate::traits::are_deriving;
+use crate::trees::{before, extent};
+use reaching::Node;
+use std::alloc::{AllocError, Global};
+use texts::{List, Span};
+use tokens::{Token, TokenTree};
+use words::{ident_of, start_of};
+
+/// The declaration of the name, by its attributes, by what stands from its keyword on, and by what stands behind its name.
+fn declared_of(
+    alloc: Global,
+    name: &Token,
+    attributes: &[TokenTree],
+    keyword: &[TokenTree],
+    behind: &[TokenTree],
+) -> Result<Node, AllocError>
+    ensures { IfOk result
+        (λ declared. declared
+        ≡ declared_of (ident_of name.now) (map tree_view attributes.now) (map tree_view keyword.now)
+        (map tree_view behind.now)) }
+{
+    let is_first = are_deriving(alloc, attributes)?;
+    let mut names = List::new(alloc);
+    push_declared(alloc, &mut names, keyword, behind)?;
+    let ident = ident_of(alloc, name)?;
+    Ok(Node {
+        name: ident.text,
+        is_first,
+        names,
+    })
+}
+
+/// What is done with the item of the form, which is not for tests and ends before the rest.
+fn item_of<'t>(
+    alloc: Global,
+    trees: &'t [TokenTree],
+    start: &'t [TokenTree],
+    keyword: &'t [TokenTree],
+    form: Form<'t>,
+    rest: &'t [TokenTree],
+) -> Result<Item<'t>, AllocError>
+    ensures { IfOk result (λ item. item_view item
+        ≡ item_of (map tree_view trees.now) (map tree_view start.now) (map tree_view keyword.now)
+        (form_view form.entry) (map tree_view rest.now)) }
+{
+    let span = extent(before(trees, rest));
+    match form {
+        Form::Declares(name, behind) => {
+            let attributes = before(trees, start);
+            let declared = declared_of(alloc, name, attributes, keyword, before(behind, rest))?;
+            Ok(Item::Stands(Standing {
+                declared: Some(declared),
+                span,
+            }))
+        }
+        Form::Uses => Ok(Item::Stands(Standing {
+            declared: None,
+            span,
+        })),
+        Form::Holds(trees) => Ok(Item::Holds(trees)),
+        Form::Passes => Ok(Item::Passed),
+    }
+}
+
+/// Where no item begins: at the first of the trees behind its attributes, or else at the first of all.
+fn stop_at(trees: &[TokenTree], start: &[TokenTree]) -> Stop
+    ensures { result ≡ At (stop_at (map tree_view trees.now) (map tree_view start.now)) }
+{
+    match (trees, start) {
+        (_, [first, ..]) => Stop::At(start_of(first)),
+        ([first, ..], _) => Stop::At(start_of(first)),
+        _ => Stop::At(Span::nowhere()),
+    }
+}
+
+/// What is done with the item that the trees begin with, and what follows it.
+#[tactic(auto, unfolding(crate::specs::Items::item_at))]
+pub(crate) fn item_at(alloc: Global, trees: &[TokenTree]) -> Result<(Item<'_>, &[TokenTree]), Stop>
+    ensures { ReadsItem result (map tree_view trees.now) }
+{
+    let start = after_attributes(trees);
+    let keyword = after_visibility(start);
+    match form_at(keyword) {
+        Some((form, rest)) => {
+            if is_for_tests(before(trees, start)) {
+                return Ok((Item::Passed, rest));
+            }
+            Ok((item_of(alloc, trees, start, keyword, form, rest)?, rest))
+        }
+        None => Err(stop_at(trees, start)),
+    }
+}

@@ -1,0 +1,4 @@
+mod Borrowed
+mod Entries
+mod Taking
+mod Within

@@ -1,0 +1,4 @@
+mod Begun
+mod Counting
+mod Fronts
+mod Lines

@@ -1,0 +1,5 @@
+pub mod Marking
+pub mod PartLaw
+pub mod Places
+pub mod Positions
+pub mod Told

@@ -1,0 +1,15 @@
+//! How faults of many files are told, as compilers tell them: where a part of a file stands in it, the line of a fault
+//! and marks under it.
+#![tactic(auto)]
+
+mod law;
+mod marked;
+mod part;
+mod position;
+mod told;
+
+pub use law::parts_tell_of_their_files;
+pub use marked::told_in;
+pub use part::{Place, Places};
+pub use position::{Position, place};
+pub use told::{Shown, Told, all_told};

@@ -1,0 +1,143 @@
+//! The line in which a fault stands, with marks under it.
+
+ghost use Rattle.std.specs.Prelude.{◌≡◌, ◌≤◌, ◌*◌, length, chars, sum_by, IfOk, OnOk, ◌++◌};
+ghost use Rattle.telling.specs.Told.{columns, under, marks, begun, in_front, from_on, shown_at, told_at};
+
+use crate::part::{Place, column_behind, line_back, line_behind, line_front, text_of};
+use crate::position::{begins_char, without_return};
+use crate::told::{Shown, Told};
+use std::alloc::{AllocError, Global};
+use texts::{Span, Text};
+use unicode_width::UnicodeWidthChar;
+
+/// How many characters of a line are shown, at most, and how many of these in front of the fault.
+const MOST_SHOWN: usize = 200;
+
+const MOST_IN_FRONT: usize = 100;
+
+/// The columns that the character takes in a terminal.
+fn columns(c: char) -> usize
+    ensures value { result ≡ columns c }
+    ensures bound { result ≤ 3 }
+{
+    c.width().unwrap_or(0)
+}
+
+/// The columns that all of the characters take.
+fn all_columns(characters: &[char]) -> usize
+    requires { length characters.now ≤ MOST_SHOWN }
+    ensures { result ≡ sum_by columns characters.now }
+{
+    let mut all: usize = 0;
+    for c in characters {
+        all += columns(*c);
+    }
+    all
+}
+
+/// Adds what stands under the character.
+fn push_under(alloc: Global, line: &mut Text, c: char) -> Result<(), AllocError>
+    ensures { OnOk result (line.new ≡ line.old ++ under c) }
+{
+    if c == '\t' {
+        return line.push("\t");
+    }
+    let blanks = " ".repeat(alloc, columns(c))?;
+    line.push(blanks.as_str())
+}
+
+/// What stands under the line.
+fn marks(alloc: Global, front: &[char], marked: &[char]) -> Result<Text, AllocError>
+    requires { length marked.now ≤ MOST_SHOWN }
+    ensures { IfOk result (λ line. line ≡ marks front.now marked.now) }
+{
+    let mut line = Text::new(alloc, "")?;
+    for c in front {
+        push_under(alloc, &mut line, *c)?;
+    }
+    let carets = "^".repeat(alloc, all_columns(marked).max(1))?;
+    line.push(carets.as_str())?;
+    Ok(line)
+}
+
+/// How many characters of the text begin before the offset.
+fn begun(text: &str, offset: usize) -> usize
+    ensures { result ≡ begun text.now offset }
+{
+    let bytes = text.as_bytes();
+    let before = &bytes[..offset.min(bytes.len())];
+    before.iter().filter(|byte| begins_char(**byte)).count()
+}
+
+/// The characters in front of the offset in its line.
+fn in_front(
+    alloc: Global,
+    place: &Place,
+    text: &str,
+    offset: usize,
+) -> Result<Vec<char>, AllocError>
+    ensures { IfOk result (λ front. front.items ≡ in_front place.now text.now offset) }
+{
+    let mut line = Text::new(alloc, place.before.as_str())?;
+    line.push(&text[..text.ceil_char_boundary(offset)])?;
+    line_back(alloc, line.as_str(), MOST_IN_FRONT)
+}
+
+/// The characters from the offset on, behind so many in front of it.
+fn from_on(
+    alloc: Global,
+    place: &Place,
+    text: &str,
+    offset: usize,
+    front: usize,
+) -> Result<Vec<char>, AllocError>
+    requires { front ≡ length (in_front place.now text.now offset) }
+    ensures { IfOk result (λ back. back.items ≡ from_on place.now text.now offset) }
+{
+    let mut line = Text::new(alloc, &text[text.ceil_char_boundary(offset)..])?;
+    line.push(place.behind.as_str())?;
+    line_front(alloc, line.as_str(), MOST_SHOWN.saturating_sub(front))
+}
+
+/// The line in which the span starts, with marks under the span.
+fn shown_at(alloc: Global, place: &Place, text: &str, span: Span) -> Result<Shown, AllocError>
+    ensures { IfOk result (λ shown. shown ≡ shown_at place.now text.now span) }
+{
+    let front = in_front(alloc, place, text, span.start)?;
+    let back = from_on(alloc, place, text, span.start, front.len())?;
+    let marked = begun(text, span.end).saturating_sub(begun(text, span.start));
+    let marks = marks(alloc, front.as_slice(), &back[..marked.min(back.len())])?;
+    let mut line = text_of(alloc, front.as_slice())?;
+    line.push(text_of(alloc, back.as_slice())?.as_str())?;
+    let bytes = text.as_bytes();
+    let before = &bytes[..span.start.min(bytes.len())];
+    Ok(Shown {
+        line: line_behind(place.line, before),
+        column: column_behind(place.column, before),
+        text: Text::new(alloc, without_return(line.as_str()))?,
+        marks,
+    })
+}
+
+/// What is told of a span of the text that stands at the place in the file of the path. An offset that lies behind the
+/// text counts as its end, and one inside of a character as the end of that.
+pub fn told_in(
+    alloc: Global,
+    path: &str,
+    place: &Place,
+    text: &str,
+    span: Span,
+    label: &str,
+    message: &str,
+) -> Result<Told, AllocError>
+    ensures { IfOk result
+        (λ told. told ≡ told_at path.now place.now text.now span label.now message.now) }
+{
+    Ok(Told {
+        path: Text::new(alloc, path)?,
+        shown: Some(shown_at(alloc, place, text, span)?),
+        label: Text::new(alloc, label)?,
+        message: Text::new(alloc, message)?,
+        help: None,
+    })
+}
