@@ -4,6 +4,7 @@ use Rattle.std.specs.declared.option.Option.{Option}
 use Rattle.files.specs.declared.memory.HonestFiles.{HonestFiles}
 use Rattle.files.specs.declared.memory.MemoryFiles.{MemoryFiles}
 use Rattle.files.specs.Faults.{fault_path}
+use Rattle.files.specs.declared.cause.Cause.{Cause}
 use Rattle.files.specs.Held.{first_at}
 
 -- the bytes of the file at a path
@@ -13,6 +14,10 @@ honest_held files = first_at files.files.items
 -- the path of the last fault
 abbrev pub honest_failed : HonestFiles → Option (List ℕ)
 honest_failed files = fault_path files.faults
+
+-- the cause of the last fault
+abbrev pub honest_why : HonestFiles → Cause
+honest_why files = files.faults.cause
 
 -- how many faults there were, up to 2^64 - 1
 abbrev pub honest_faults : HonestFiles → ℕ
@@ -25,6 +30,10 @@ memory_held files = honest_held files.honest
 -- the path of the last fault
 abbrev pub memory_failed : MemoryFiles → Option (List ℕ)
 memory_failed files = honest_failed files.honest
+
+-- the cause of the last fault
+abbrev pub memory_why : MemoryFiles → Cause
+memory_why files = honest_why files.honest
 
 -- how many faults there were, up to 2^64 - 1
 abbrev pub memory_faults : MemoryFiles → ℕ

@@ -1,6 +1,7 @@
 ghost use Rattle.std.specs.Prelude.{◌≡◌, ◌≢◌, ◌≤◌, ◌<◌, ◌⊎◌, ◌↔◌, ℕ, List, length, Contains, IfOk, IsTrue, None, Some, true, option_map};
 ghost use Rattle.files.specs.Held.{first_at};
 
+use crate::cause::Cause;
 use crate::faults::Faults;
 use crate::file::{FileAnswer, FileBytes};
 use crate::files::Files;
@@ -48,13 +49,15 @@ impl HonestFiles {
 
 impl Files for HonestFiles {
     ghost use Rattle.streams.specs.Faults.{CountsFault};
-    ghost use Rattle.files.specs.Memory.{honest_held, honest_failed, honest_faults};
+    ghost use Rattle.files.specs.Memory.{honest_held, honest_failed, honest_why, honest_faults};
 
     ghost tells = { λ _. true };
 
     ghost held = { λ files. honest_held files };
 
     ghost failed = { λ files. honest_failed files };
+
+    ghost why = { λ files. honest_why files };
 
     ghost faults = { λ files. honest_faults files };
 
@@ -74,15 +77,22 @@ impl Files for HonestFiles {
         ensures path_kept { result ≢ Err FileAnswer.Failed →
             honest_failed self.new ≡ honest_failed self.old }
         ensures path { result ≡ Err FileAnswer.Failed → honest_failed self.new ≡ Some path.now }
+        ensures why_kept { result ≢ Err FileAnswer.Failed → honest_why self.new ≡ honest_why self.old }
+        ensures why_missing { result ≡ Err FileAnswer.Failed → honest_why self.new ≡ Cause.Missing →
+            honest_held self.old path.now ≡ None }
 
         // a call fails only where no file is held at the path
         ensures failing { result ≡ Err FileAnswer.Failed → honest_held self.old path.now ≡ None }
     {
         match find(&self.files, path) {
-            None => Err(self.faults.raise(alloc, path)),
+            None => Err(self.faults.raise(alloc, path, Cause::Missing)),
             Some(bytes) if bytes.len() > most => Err(FileAnswer::Longer),
             Some(bytes) => Ok(FileBytes::from(bytes.to_vec(alloc)?)),
         }
+    }
+
+    fn cause(&self) -> Cause {
+        self.faults.cause
     }
 }
 
@@ -118,13 +128,15 @@ impl MemoryFiles {
 
 impl Files for MemoryFiles {
     ghost use Rattle.streams.specs.Faults.{CountsFault};
-    ghost use Rattle.files.specs.Memory.{memory_held, memory_failed, memory_faults, memory_fails, memory_calls, MemoryCounts};
+    ghost use Rattle.files.specs.Memory.{memory_held, memory_failed, memory_why, memory_faults, memory_fails, memory_calls, MemoryCounts};
 
     ghost tells = { λ _. true };
 
     ghost held = { λ files. memory_held files };
 
     ghost failed = { λ files. memory_failed files };
+
+    ghost why = { λ files. memory_why files };
 
     ghost faults = { λ files. memory_faults files };
 
@@ -144,6 +156,9 @@ impl Files for MemoryFiles {
         ensures path_kept { result ≢ Err FileAnswer.Failed →
             memory_failed self.new ≡ memory_failed self.old }
         ensures path { result ≡ Err FileAnswer.Failed → memory_failed self.new ≡ Some path.now }
+        ensures why_kept { result ≢ Err FileAnswer.Failed → memory_why self.new ≡ memory_why self.old }
+        ensures why_missing { result ≡ Err FileAnswer.Failed → memory_why self.new ≡ Cause.Missing →
+            memory_held self.old path.now ≡ None }
 
         // a call fails where its number is among those or no file is held at the path, and nowhere else
         ensures to_fail { Contains (memory_fails self.old) (memory_calls self.old) →
@@ -156,8 +171,12 @@ impl Files for MemoryFiles {
         let call = self.calls;
         self.calls = call.saturating_add(1);
         if is_among(&self.fails, call) {
-            return Err(self.honest.faults.raise(alloc, path));
+            return Err(self.honest.faults.raise(alloc, path, Cause::Unknown));
         }
         self.honest.read_file(alloc, path, most)
+    }
+
+    fn cause(&self) -> Cause {
+        self.honest.faults.cause
     }
 }

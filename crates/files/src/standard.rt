@@ -1,12 +1,13 @@
 ghost use Rattle.std.specs.Prelude.{◌≡◌, None, false};
 ghost use Rattle.files.specs.Faults.{fault_path};
 
+use crate::cause::Cause;
 use crate::faults::Faults;
 use crate::file::{FileAnswer, FileBytes};
 use crate::files::Files;
 use std::alloc::Global;
-use std::fs;
 use std::rt::Files as FileSystem;
+use std::{fs, io};
 use streams::{ReadError, StdSource, read_all};
 
 /// The files of a runtime, as those of the system. They tell nothing of what is held.
@@ -14,6 +15,23 @@ use streams::{ReadError, StdSource, read_all};
 pub struct StdFiles<R> {
     runtime: R,
     faults: Faults,
+}
+
+/// Why a file could not be opened.
+fn cause_of(error: &io::Error) -> Cause {
+    match error.kind() {
+        io::ErrorKind::NotFound => Cause::Missing,
+        io::ErrorKind::PermissionDenied => Cause::Denied,
+        _ => Cause::Unknown,
+    }
+}
+
+/// Why what was opened at the path could not be read.
+fn unread_cause<R: FileSystem>(runtime: &R, path: &str) -> Cause {
+    match fs::metadata(runtime, path) {
+        Ok(metadata) if metadata.is_dir() => Cause::IsFolder,
+        _ => Cause::Unknown,
+    }
 }
 
 impl<R: FileSystem> StdFiles<R> {
@@ -37,6 +55,8 @@ impl<R: FileSystem> Files for StdFiles<R> {
 
     ghost failed = { λ files. fault_path files.faults };
 
+    ghost why = { λ files. files.faults.cause };
+
     ghost faults = { λ files. files.faults.count };
 
     fn read_file(
@@ -45,14 +65,22 @@ impl<R: FileSystem> Files for StdFiles<R> {
         path: &str,
         most: usize,
     ) -> Result<FileBytes, FileAnswer> {
-        let Ok(file) = fs::open(&self.runtime, path) else {
-            return Err(self.faults.raise(alloc, path));
+        let file = match fs::open(&self.runtime, path) {
+            Ok(file) => file,
+            Err(error) => return Err(self.faults.raise(alloc, path, cause_of(&error))),
         };
         match read_all(alloc, &mut StdSource::new(file), most) {
             Ok(bytes) => Ok(FileBytes::from(bytes)),
             Err(ReadError::TooLong) => Err(FileAnswer::Longer),
             Err(ReadError::Memory) => Err(FileAnswer::Memory),
-            Err(ReadError::Failed) => Err(self.faults.raise(alloc, path)),
+            Err(ReadError::Failed) => {
+                let cause = unread_cause(&self.runtime, path);
+                Err(self.faults.raise(alloc, path, cause))
+            }
         }
+    }
+
+    fn cause(&self) -> Cause {
+        self.faults.cause
     }
 }
