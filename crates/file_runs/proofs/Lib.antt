@@ -1,0 +1,5 @@
+mod Ended
+mod Paths
+mod Saying
+mod Taken
+mod Told

@@ -1,0 +1,104 @@
+-- What is read on the way.
+use Rattle.std.specs.Prelude.{◌≡◌, ◌<◌, ◌≤◌, ℕ, List, ◌∷◌, [], ◌++◌, length, Bool, true, false, Option, Some, None}
+use Rattle.std.specs.Io.KnownBytes.{IsAtEnd}
+use Rattle.diag.specs.declared.error.DeriveError.{DeriveError}
+use Rattle.diag.specs.declared.error.DeriveError.TheVariants as error
+use Rattle.files.specs.Held.{IsHeld}
+use Rattle.files.specs.declared.cause.Cause.{Cause}
+use Rattle.files.specs.declared.files.Files.{Ghosts as AnyFiles}
+use Rattle.streams.specs.Told.{IsAll}
+use Rattle.streams.specs.declared.source.Source.{Ghosts as AnySource}
+use Rattle.telling.specs.Told.{told_text, all_told}
+use Rattle.telling.specs.declared.told.Told.{Told}
+use Rattle.configuration.specs.Configuration.{Configuration}
+use Rattle.gathering.specs.Files.{FileOf, Gathers, most_bytes}
+use Rattle.gathering.specs.Telling.{told_unplaced}
+use Rattle.gathering.specs.declared.gathered.Gathered.{Gathered}
+use Rattle.gathering.specs.declared.selection.Selection.{Selection}
+use Rattle.file_derivation.specs.Outcomes.{AreTold}
+use Rattle.reporting.specs.Beginning.{Beginning}
+use Rattle.file_runs.specs.Given.{RefusesConfig}
+use Rattle.file_runs.specs.Reports.{misuse_text, fault_line, answer_text}
+use Rattle.file_runs.specs.Words.{is_input, AskFor, IsOfInput, IsOfPath}
+use Rattle.file_runs.specs.declared.ending.Ending.{Ending}
+use Rattle.file_runs.specs.declared.ending.Ending.TheVariants.{Done, Refused, Usage, ReadFault, Memory, FileFault}
+use Rattle.file_runs.specs.declared.request.Misuse.{Misuse}
+use Rattle.file_runs.specs.declared.request.Question.{Question}
+use Rattle.file_runs.specs.declared.request.Request.{Request}
+
+-- of a file with this text all was read, or that it is longer than so many bytes
+abbrev pub IsReadOf : ℕ → List ℕ → Option (List ℕ) → Type 0
+IsReadOf most text (Some bytes) = (text ≡ bytes) × (length text ≤ most)
+IsReadOf most text None = most < length text
+
+-- what an input had was read, and it is at its end, or it had more than a file may have
+abbrev pub AreContents : (had has : Option (List ℕ)) → Option (List ℕ) → Type 0
+AreContents had has read = (text : List ℕ) × IsAll had text × IsReadOf most_bytes text read × (length text ≤ most_bytes → IsAtEnd has)
+
+-- of the input that is what it had, and it is at its end unless that is too long; of a file what is held
+abbrev pub IsTextBy : Bool → (tells : Bool) → Option (List ℕ) → (had has : Option (List ℕ)) → List ℕ → Type 0
+IsTextBy true tells held had has text = IsAll had text × (length text ≤ most_bytes → IsAtEnd has)
+IsTextBy false tells held had has text = IsHeld tells held text
+
+abbrev pub IsTextAt : (tells : Bool) (held : List ℕ → Option (List ℕ)) (had has : Option (List ℕ)) → List ℕ → List ℕ → Type 0
+IsTextAt tells held had has path text = IsTextBy (is_input path) tells (held path) had has text
+
+-- one more file of this name and this text is gathered
+abbrev pub Adds : Gathered → Gathered → List ℕ → List ℕ → Type 0
+Adds before after name text = (files : List FileOf) → Gathers files before → Gathers (files ++ record { name = name; bytes = text } ∷ []) after
+
+-- the ending tells that the file at the path cannot be read, or that memory ran out
+abbrev pub TellsFile : List ℕ → Ending → Type 0
+TellsFile path (FileFault report) = (cause : Cause) × (report ≡ fault_line path cause)
+TellsFile path Memory = Unit {0}
+TellsFile path _ = ⊥
+
+-- it is the answer to the question, or tells how words are misused, or that memory ran out
+abbrev pub TellsAnswer : Question → Ending → Type 0
+TellsAnswer question (Done text) = text ≡ answer_text question
+TellsAnswer question Memory = Unit {0}
+TellsAnswer question _ = ⊥
+
+abbrev pub TellsMisuse : Misuse → Ending → Type 0
+TellsMisuse misuse (Usage report) = report ≡ misuse_text misuse
+TellsMisuse misuse Memory = Unit {0}
+TellsMisuse misuse _ = ⊥
+
+-- that the input cannot be read, or that memory ran out
+abbrev pub TellsInput : Ending → Type 0
+TellsInput ReadFault = Unit {0}
+TellsInput Memory = Unit {0}
+TellsInput _ = ⊥
+
+-- that the file at the path cannot be read, or says no configuration, or that memory ran out
+abbrev pub TellsConfig : (tells : Bool) → Option (List ℕ) → List ℕ → Ending → Type 0
+TellsConfig tells held path (Refused report) = RefusesConfig tells held path report
+TellsConfig tells held path ending = TellsFile path ending
+
+-- what ends a run of the request before anything is derived: its configuration says none, the input or a file cannot be read, or
+-- memory ran out
+abbrev pub EndsReading : (tells : Bool) (held : List ℕ → Option (List ℕ)) → Request → Ending → Type 0
+EndsReading tells held r (Refused report) = (path : List ℕ) × (r.config ≡ Some path) × RefusesConfig tells (held path) path report
+EndsReading tells held r (FileFault report) = (path : List ℕ) × (cause : Cause) × IsOfPath r path × (report ≡ fault_line path cause)
+EndsReading tells held r ReadFault = IsOfInput r
+EndsReading tells held r Memory = Unit {0}
+EndsReading tells held r _ = ⊥
+
+-- what ends it where nothing is derived of the files that are gathered: they are refused, or memory ran out
+abbrev pub EndsDerivation : Selection → Configuration → Gathered → Ending → Type 0
+EndsDerivation s c gathered (Refused report) = (files : List FileOf) → Gathers files gathered → (told : List Told) × AreTold s c files told × (report ≡ all_told told)
+EndsDerivation s c gathered Memory = Unit {0}
+EndsDerivation s c gathered _ = ⊥
+
+-- the error as the fault of the file at the path, or that memory ran out
+abbrev pub TellsError : List ℕ → DeriveError → Ending → Type 0
+TellsError path (error.Refused refusal) (Refused report) = report ≡ told_text (told_unplaced path refusal)
+TellsError path e Memory = Unit {0}
+TellsError path e _ = ⊥
+
+-- A run begins with words that ask for this, with this input and with these files.
+pub record Begins {S F : Type 0} (source : AnySource S) (any : AnyFiles F) (request : Request) (input : S) (files : F) (begun : Beginning) : Type 0 where
+  pub asked : AskFor begun.words request
+  pub tells : begun.tells ≡ any.tells files
+  pub held : (path : List ℕ) → begun.held path ≡ any.held files path
+  pub left : begun.left ≡ source.left input

@@ -1,0 +1,5 @@
+pub mod Contents
+pub mod Given
+pub mod Owed
+pub mod Reports
+pub mod Words

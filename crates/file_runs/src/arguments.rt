@@ -1,0 +1,262 @@
+//! How words are taken, one after the other.
+
+ghost use Rattle.std.specs.Prelude.{◌≡◌, map, option_map, string_bytes};
+ghost use Rattle.texts.specs.Names.{is_in};
+ghost use Rattle.file_runs.specs.Words.{question_of, question_in, valued_of, given_of, is_option, with_value, with_file, with_given, with_option, with_word, at_end, nothing_asked, asked, Answers};
+
+use crate::request::{Misuse, Question, Request, Valued};
+use gathering::Selection;
+use std::alloc::{AllocError, Global};
+use texts::{List, Text};
+
+/// How far words are taken.
+#[derive(Drop)]
+pub struct State {
+    /// What they ask for so far.
+    pub request: Request,
+    /// The option whose value is the next word.
+    pub pending: Option<Valued>,
+    /// Whether `--` has ended the options.
+    pub ended: bool,
+}
+
+/// Why words are taken no further.
+#[derive(Drop)]
+pub enum Stop {
+    Memory,
+    Misused(Misuse),
+}
+
+impl From<AllocError> for Stop {
+    ghost use Rattle.std.specs.Prelude.{◌≡◌};
+    ghost use Rattle.file_runs.specs.declared.arguments.Stop.TheVariants.{Memory};
+
+    ghost from_gives = { λ _ stop. stop ≡ Memory };
+
+    fn from(_error: AllocError) -> Stop {
+        Stop::Memory
+    }
+}
+
+/// What the word asks, whatever else the words say.
+fn question_of(word: &str) -> Option<Question>
+    ensures { result ≡ question_of word.now }
+{
+    match word {
+        "-h" | "--help" => Some(Question::Help),
+        "--version" => Some(Question::Version),
+        _ => None,
+    }
+}
+
+/// The first question before a `--`.
+pub fn question_in(words: &[String]) -> Option<Question>
+    ensures { result ≡ question_in (map string_bytes words.now) }
+{
+    let mut rest = words;
+    'words: while let [first, after @ ..] = rest {
+        let word = first.as_str();
+        if word == "--" {
+            return None;
+        }
+        if let Some(question) = question_of(word) {
+            return Some(question);
+        }
+        rest = after;
+    }
+    None
+}
+
+/// The option of the name.
+fn valued_of(word: &str) -> Option<Valued>
+    ensures { result ≡ valued_of word.now }
+{
+    match word {
+        "--config" => Some(Valued::Config),
+        "--only" => Some(Valued::Only),
+        "--exclude" => Some(Valued::Exclude),
+        _ => None,
+    }
+}
+
+/// The option that has its value behind `=`.
+fn given_of(word: &str) -> Option<(Valued, &str)>
+    ensures { option_map (λ given. (given.0, given.1.now)) result ≡ given_of word.now }
+{
+    if let Some(path) = word.strip_prefix("--config=") {
+        return Some((Valued::Config, path));
+    }
+    if let Some(name) = word.strip_prefix("--only=") {
+        return Some((Valued::Only, name));
+    }
+    match word.strip_prefix("--exclude=") {
+        Some(name) => Some((Valued::Exclude, name)),
+        None => None,
+    }
+}
+
+fn is_option(word: &str) -> bool
+    ensures { result ≡ is_option word.now }
+{
+    word.starts_with("-") && word != "-"
+}
+
+/// Whether the word is one of these.
+pub(crate) fn is_in(word: &str, words: &[Text]) -> bool
+    ensures { result ≡ is_in word.now words.now }
+{
+    let mut rest = words;
+    'words: while let [first, after @ ..] = rest {
+        if word == first.as_str() {
+            return true;
+        }
+        rest = after;
+    }
+    false
+}
+
+/// What is asked for with the value of the option, too.
+fn with_value(alloc: Global, request: Request, valued: Valued, value: &str) -> Result<Request, Stop>
+    ensures { Answers (with_value valued value.now request) result }
+{
+    let mut request = request;
+    let value = Text::new(alloc, value)?;
+    match valued {
+        Valued::Config => {
+            if request.config.is_some() {
+                return Err(Stop::Misused(Misuse::GivenTwice(valued)));
+            }
+            request.config = Some(value);
+        }
+        Valued::Only => request.selection.only.push(value)?,
+        Valued::Exclude => request.selection.exclude.push(value)?,
+    }
+    Ok(request)
+}
+
+/// What is asked for with the file at the path, too.
+fn with_file(alloc: Global, request: Request, path: &str) -> Result<Request, Stop>
+    ensures { Answers (with_file path.now request) result }
+{
+    let mut request = request;
+    if path == "-" && is_in(path, request.files.as_slice()) {
+        return Err(Stop::Misused(Misuse::InputTwice));
+    }
+    request.files.push(Text::new(alloc, path)?)?;
+    Ok(request)
+}
+
+/// One word further, which is an option with its value, a file, or no option that there is.
+fn with_given(alloc: Global, state: State, word: &str) -> Result<State, Stop>
+    ensures { Answers (with_given (given_of word.now) word.now state) result }
+{
+    let State { request, ended, .. } = state;
+    let request = match given_of(word) {
+        Some((valued, value)) => with_value(alloc, request, valued, value)?,
+        None => {
+            if is_option(word) {
+                return Err(Stop::Misused(Misuse::UnknownOption(Text::new(alloc, word)?)));
+            }
+            with_file(alloc, request, word)?
+        }
+    };
+    Ok(State {
+        request,
+        pending: None,
+        ended,
+    })
+}
+
+/// One word further, where options may stand.
+fn with_option(alloc: Global, state: State, word: &str) -> Result<State, Stop>
+    ensures { Answers (with_option word.now state) result }
+{
+    let mut state = state;
+    if word == "--serde" {
+        state.request.selection.serde = true;
+        return Ok(state);
+    }
+    if word == "--" {
+        state.ended = true;
+        return Ok(state);
+    }
+    match valued_of(word) {
+        Some(valued) => {
+            state.pending = Some(valued);
+            Ok(state)
+        }
+        None => with_given(alloc, state, word),
+    }
+}
+
+/// One word further.
+fn with_word(alloc: Global, state: State, word: &str) -> Result<State, Stop>
+    ensures { Answers (with_word state.pending word.now state) result }
+{
+    let pending = state.pending;
+    let ended = state.ended;
+    if pending.is_none() && !ended {
+        return with_option(alloc, state, word);
+    }
+    let State { request, .. } = state;
+    let request = match pending {
+        Some(valued) => with_value(alloc, request, valued, word)?,
+        None => with_file(alloc, request, word)?,
+    };
+    Ok(State {
+        request,
+        pending: None,
+        ended,
+    })
+}
+
+/// What is asked for where no word is left.
+fn at_end(state: State) -> Result<Request, Stop>
+    ensures { Answers (at_end state.pending state.request) result }
+{
+    let State {
+        request,
+        pending,
+        ..
+    } = state;
+    if let Some(valued) = pending {
+        return Err(Stop::Misused(Misuse::NoValue(valued)));
+    }
+    if request.files.is_empty() {
+        return Err(Stop::Misused(Misuse::NoFile));
+    }
+    Ok(request)
+}
+
+/// Where nothing is asked for yet.
+fn nothing_asked(alloc: Global) -> State
+    ensures { result ≡ nothing_asked }
+{
+    State {
+        request: Request {
+            selection: Selection {
+                serde: false,
+                only: List::new(alloc),
+                exclude: List::new(alloc),
+            },
+            config: None,
+            files: List::new(alloc),
+        },
+        pending: None,
+        ended: false,
+    }
+}
+
+/// What the words ask for: the document of files. Options stand before, between and behind files, `--` ends them, and a
+/// value is the next word, whatever that is, or stands behind `=`.
+pub fn request_of(alloc: Global, words: &[String]) -> Result<Request, Stop>
+    ensures { Answers (asked (map string_bytes words.now)) result }
+{
+    let mut state = nothing_asked(alloc);
+    let mut rest = words;
+    'words: while let [first, after @ ..] = rest {
+        state = with_word(alloc, state, first.as_str())?;
+        rest = after;
+    }
+    at_end(state)
+}

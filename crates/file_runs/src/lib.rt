@@ -1,0 +1,28 @@
+//! What words that name files ask for, what is read of the files, and what answers the words.
+#![tactic(auto)]
+
+mod answering;
+mod arguments;
+mod configured;
+mod contents;
+mod document;
+mod ending;
+mod law;
+mod reading;
+mod reports;
+mod request;
+mod status;
+
+pub use answering::answer;
+pub use arguments::{Stop, question_in, request_of};
+pub use ending::Ending;
+pub use files::{Cause, FileAnswer, FileBytes, Files, HonestFiles, MemoryFiles, StdFiles};
+pub use gathering::Selection;
+pub use law::sound_runs_are_not_refused;
+pub use reporting::Words;
+pub use reports::{HELP, VERSION, answer_text, misuse_text};
+pub use request::{Misuse, Question, Request, Valued};
+pub use status::Status;
+pub use streams::{
+    Failed, HonestSink, HonestSource, MemorySink, MemorySource, Sink, Source, StdSink, StdSource,
+};
