@@ -8,7 +8,6 @@ mod arguments;
 mod composed;
 mod parts;
 mod reported;
-mod requests;
 mod single_words;
 mod term_rows;
 mod trees;
@@ -45,7 +44,6 @@ fn told(alloc: Global, row: &Row) -> anyhow::Result<String> {
         "numbers" => arguments::numbers(alloc),
         "instances" => composed::of_source(alloc, given),
         "files" => whole_files::document(alloc, given),
-        "words" => requests::told(alloc, given),
         "terms" | "parts" | "place" => term_rows::of_source(alloc, row.call.as_str(), given),
         other => bail!("no call {other}"),
     }

@@ -1,2 +1,3 @@
+mod Aliased
 mod Sound
 mod Stages

@@ -30,7 +30,7 @@ use Rattle.gathering.specs.declared.selection.Selection.{Selection}
 use Rattle.file_derivation.specs.Faults.{AreFaults, none_yet, is_clear, is_faulty}
 use Rattle.serde_names.specs.Asked.{asked_of}
 use Rattle.renaming.specs.Rows.{AreRowsOf}
-use Rattle.file_derivation.specs.Outcomes.{names_of, AreDeclaredIn, Selects, AreTold, of_files, of_only, of_exclude, of_length, of_items, of_declarations, of_bounds, bytes_of, AreSound, SoundAreNotTold}
+use Rattle.file_derivation.specs.Outcomes.{names_of, AreDeclaredIn, aliases_of, Selects, AreTold, of_files, of_only, of_exclude, of_length, of_items, of_declarations, of_bounds, bytes_of, AreSound, SoundAreNotTold}
 
 -- ---- names
 
@@ -108,10 +108,10 @@ module _ (law : BoundedAreNotRefused) (decide : RepeatOrNot) (gathered : Gathere
   same_all : {all : List FileItem} {faults : List Told} → AreGathered 0 files all faults → (h.all ≡ all) × (faults ≡ [])
   same_all {all = all} {faults = faults} g = gathered 0 files h.all all faults h.declared g
 
-  same_chosen : {all chosen : List FileItem} → AreDeclaredIn files all → Selects s all chosen → h.chosen ≡ chosen
-  same_chosen {chosen = chosen} g selects = same_those h.selects.1 (subst (λ v. AreSelected s v chosen) (sym (same_all g).0) selects.1)
+  same_chosen : {all chosen : List FileItem} → AreDeclaredIn files all → Selects s c all chosen → h.chosen ≡ chosen
+  same_chosen {chosen = chosen} g selects = same_those h.selects.1 (subst (λ v. AreSelected s (aliases_of c) v chosen) (sym (same_all g).0) selects.1)
 
-  same_read : {all chosen from : List FileItem} {ds : List DeclaredItem} {faults : List Told} → AreDeclaredIn files all → Selects s all chosen → AreRead (names_of files) chosen from ds faults → (h.declarations ≡ ds) × (faults ≡ [])
+  same_read : {all chosen from : List FileItem} {ds : List DeclaredItem} {faults : List Told} → AreDeclaredIn files all → Selects s c all chosen → AreRead (names_of files) chosen from ds faults → (h.declarations ≡ ds) × (faults ≡ [])
   same_read {from = from} {ds = ds} {faults = faults} g selects r =
       let all = read (names_of files) h.chosen h.from from h.declarations ds faults h.read (subst (λ v. AreRead (names_of files) v from ds faults) (sym (same_chosen g selects)) r) in
       (all.1, all.2)

@@ -1,10 +1,13 @@
 -- What is derived of files, and what is told where nothing is.
-use Rattle.std.specs.Prelude.{◌≡◌, ◌≢◌, ◌<◌, ◌≤◌, ◌⊎◌, ℕ, List, [], ◌∷◌, ◌++◌, length, map, codes, sum_by, Some, None}
+use Rattle.std.specs.Prelude.{◌≡◌, ◌≢◌, ◌<◌, ◌≤◌, ◌⊎◌, ℕ, List, [], ◌∷◌, ◌++◌, length, map, codes, sum_by, false, Some, None}
 use Rattle.diag.specs.declared.diagnostics.DiangosticsInner.{DiangosticsInner}
 use Rattle.diag.specs.declared.error.DeriveError.TheVariants.{Refused}
 use Rattle.diag.specs.declared.rename_row.RenameRow.{RenameRow}
 use Rattle.schema_core.specs.Document.{Entry, document}
+use Rattle.configuration.specs.Aliases.{last_names}
 use Rattle.configuration.specs.Configuration.{Configuration, with_rows}
+use Rattle.configuration.specs.Configuration as configured
+use Rattle.reaching.specs.declared.node.Node.{Node}
 use Rattle.syntax.specs.Items.{DeclaredItem}
 use Rattle.closing.specs.Described.{Describes}
 use Rattle.compose.specs.Bounds.{AreBounded, collects_all}
@@ -39,9 +42,16 @@ AreDeclaredIn files all = AreGathered 0 files all []
 abbrev pub AreKnown : Selection → List FileItem → Type 0
 AreKnown s all = (unknown_in all s.only ≡ None) × (unknown_in all s.exclude ≡ None)
 
--- these are selected, by names that are known
-abbrev pub Selects : Selection → (all chosen : List FileItem) → Type 0
-Selects s all chosen = AreKnown s all × AreSelected s all chosen
+-- an alias names what stands last in the paths of its type, and is not first
+abbrev pub alias_of : configured.Alias → Node
+alias_of alias = record { name = alias.name; is_first = false; names = last_names alias.of }
+
+abbrev pub aliases_of : Configuration → List Node
+aliases_of c = map alias_of c.aliases
+
+-- these are selected, by names that are known, and with the aliases
+abbrev pub Selects : Selection → Configuration → (all chosen : List FileItem) → Type 0
+Selects s c all chosen = AreKnown s all × AreSelected s (aliases_of c) all chosen
 
 -- how many bytes the texts of declarations have
 abbrev pub bytes_of : List FileItem → ℕ
@@ -60,7 +70,7 @@ pub record AreDerivedFrom (s : Selection) (c : Configuration) (files : List File
   pub all : List FileItem
   pub declared : AreDeclaredIn files all
   pub chosen : List FileItem
-  pub selects : Selects s all chosen
+  pub selects : Selects s c all chosen
   pub from : List FileItem
   pub declarations : List DeclaredItem
   pub rows : List RenameRow
@@ -81,13 +91,13 @@ pub data AreTold (s : Selection) (c : Configuration) (files : List FileOf) : Lis
       → AreTold s c files (told_plainly (codes "--only") [] (unknown_message name) ∷ [])
   of_exclude : {all : List FileItem} {name : List ℕ} → AreDeclaredIn files all → unknown_in all s.only ≡ None → unknown_in all s.exclude ≡ Some name
       → AreTold s c files (told_plainly (codes "--exclude") [] (unknown_message name) ∷ [])
-  of_length : {all chosen : List FileItem} → AreDeclaredIn files all → Selects s all chosen → most_bytes < bytes_of chosen
+  of_length : {all chosen : List FileItem} → AreDeclaredIn files all → Selects s c all chosen → most_bytes < bytes_of chosen
       → AreTold s c files (told_plainly [] (codes "TooLong") long_message ∷ [])
-  of_items : {all chosen from : List FileItem} {ds : List DeclaredItem} {faults : List Told} → AreDeclaredIn files all → Selects s all chosen → bytes_of chosen ≤ most_bytes → AreRead (names_of files) chosen from ds faults → faults ≢ []
+  of_items : {all chosen from : List FileItem} {ds : List DeclaredItem} {faults : List Told} → AreDeclaredIn files all → Selects s c all chosen → bytes_of chosen ≤ most_bytes → AreRead (names_of files) chosen from ds faults → faults ≢ []
       → AreTold s c files faults
-  of_declarations : {all chosen from : List FileItem} {ds : List DeclaredItem} {rows : List RenameRow} {faults : List Told} → AreDeclaredIn files all → Selects s all chosen → AreReadWhole (names_of files) chosen from ds rows
+  of_declarations : {all chosen from : List FileItem} {ds : List DeclaredItem} {rows : List RenameRow} {faults : List Told} → AreDeclaredIn files all → Selects s c all chosen → AreReadWhole (names_of files) chosen from ds rows
       → AreFaults (with_rows c rows) ds (names_of files) from (length ds) faults → faults ≢ [] → AreTold s c files faults
-  of_bounds : {all chosen from : List FileItem} {ds : List DeclaredItem} {rows : List RenameRow} {d : List DiangosticsInner} → AreDeclaredIn files all → Selects s all chosen → AreReadWhole (names_of files) chosen from ds rows
+  of_bounds : {all chosen from : List FileItem} {ds : List DeclaredItem} {rows : List RenameRow} {d : List DiangosticsInner} → AreDeclaredIn files all → Selects s c all chosen → AreReadWhole (names_of files) chosen from ds rows
       → AreFaults (with_rows c rows) ds (names_of files) from (length ds) [] → AreRefused (with_rows c rows) ds (Refused d) → AreTold s c files (told_unplaced [] d ∷ [])
 
 -- Nothing refuses the files: each has its declarations, the selection is of known names, what is selected is read, and with the rows of its names no declaration is at fault and nothing is beyond a bound.
@@ -95,7 +105,7 @@ pub record AreSound (s : Selection) (c : Configuration) (files : List FileOf) : 
   pub all : List FileItem
   pub declared : AreDeclaredIn files all
   pub chosen : List FileItem
-  pub selects : Selects s all chosen
+  pub selects : Selects s c all chosen
   pub few : bytes_of chosen ≤ most_bytes
   pub from : List FileItem
   pub declarations : List DeclaredItem
@@ -119,8 +129,8 @@ IfToldIs Is refusals.Memory = Unit {0}
 IfToldIs Is (refusals.Told told) = Is told
 
 -- what is told of files whose declarations these are
-abbrev pub IfToldOf : Selection → List FileItem → Refusal → Type 0
-IfToldOf s all refusal = IfToldIs (λ told. (c : Configuration) (files : List FileOf) → AreDeclaredIn files all → AreTold s c files told) refusal
+abbrev pub IfToldOf : Selection → Configuration → List FileItem → Refusal → Type 0
+IfToldOf s c all refusal = IfToldIs (λ told. (files : List FileOf) → AreDeclaredIn files all → AreTold s c files told) refusal
 
 -- what is told of the declarations that these items read as: their faults, or else this refusal
 abbrev pub AreToldOf : Configuration → List (List ℕ) → List FileItem → List DiangosticsInner → List Told → Type 0

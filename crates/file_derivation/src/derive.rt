@@ -1,10 +1,12 @@
 //! From files to components, or to what is told.
 
 ghost use Rattle.std.specs.Prelude.{◌≡◌, ◌<◌, ◌≤◌, [], ◌∷◌, List as AnyList, map, MatchBool, IfOk, IfErr};
+ghost use Rattle.configuration.specs.Configuration.{Configuration};
 ghost use Rattle.gathering.specs.Files.{FileOf, file_of, Gathers, most_bytes};
 ghost use Rattle.gathering.specs.Telling.{told_plainly};
 ghost use Rattle.file_derivation.specs.Outcomes.{names_of, AreDeclaredIn, AreKnown, Selects, bytes_of, unknown_message, AreDerivedFrom, AreTold, AreToldOf, IfToldIs, IfToldOf, IsOutcome, IfDerived, IfRefused, IsDerivation, AreSound};
 
+use crate::aliases::aliases_of;
 use crate::faults::faults_of;
 use crate::law::sound_are_not_told;
 use crate::rows::push_rows;
@@ -72,7 +74,8 @@ fn unknown(alloc: Global, option: &str, name: &Text) -> Result<Refusal, AllocErr
 /// Refuses names of the selection that no declaration has.
 fn know_names(alloc: Global, selection: &Selection, items: &[FileItem]) -> Result<(), Refusal>
     ensures known { IfOk result (λ _. AreKnown selection.now items.now) }
-    ensures told { IfErr result (IfToldOf selection.now items.now) }
+    ensures told { (config : Configuration)
+        → IfErr result (IfToldOf selection.now config items.now) }
 {
     if let Some(name) = unknown_name(selection.only.as_slice(), items) {
         return Err(unknown(alloc, "--only", name)?);
@@ -105,15 +108,17 @@ fn are_long(items: &[&FileItem]) -> bool
 fn select<'i>(
     alloc: Global,
     selection: &Selection,
+    config: &Config,
     items: &'i [FileItem],
 ) -> Result<List<&'i FileItem>, Refusal>
     ensures selects { IfOk result
-        (λ chosen. Selects selection.now items.now (map (λ i. i.now) chosen)) }
+        (λ chosen. Selects selection.now config.now items.now (map (λ i. i.now) chosen)) }
     ensures few { IfOk result (λ chosen. bytes_of (map (λ i. i.now) chosen) ≤ most_bytes) }
-    ensures told { IfErr result (IfToldOf selection.now items.now) }
+    ensures told { IfErr result (IfToldOf selection.now config.now items.now) }
 {
     know_names(alloc, selection, items)?;
-    let chosen = selected(alloc, items, selection)?;
+    let aliases = aliases_of(alloc, config)?;
+    let chosen = selected(alloc, items, selection, aliases.as_slice())?;
     if are_long(chosen.as_slice()) {
         let message = "the declarations are longer than 16777216 bytes";
         return Err(alone(alloc, told_plainly(alloc, "", "TooLong", message)?));
@@ -157,7 +162,7 @@ fn derive(
         → names.now ≡ names_of files → AreDeclaredIn files items.now
         → AreTold selection.now config files told)) }
 {
-    let chosen = select(alloc, selection, items)?;
+    let chosen = select(alloc, selection, &config, items)?;
     let chosen = chosen.as_slice();
     let reading = read_items(alloc, names, chosen)?;
     if !reading.faults.is_empty() {

@@ -1,6 +1,7 @@
 //! From the files of a crate to components, or to what is told of their faults.
 #![tactic(auto)]
 
+mod aliases;
 mod derive;
 mod faults;
 mod law;

@@ -1,5 +1,5 @@
 -- How a run ends by what it reads and derives.
-use Rattle.std.proofs.Common.{◌≡◌, ℕ, List, [], ◌∷◌, Bool, true, false, ◌||◌, Option, Some, None, Result, Ok, Err, IfOk, IfErr, OnOk, bytes_eq, codes, inl, inr, refl, sym, subst}
+use Rattle.std.proofs.Common.{◌≡◌, ◌⊎◌, ℕ, List, [], ◌∷◌, Bool, true, false, ◌||◌, Option, Some, None, Result, Ok, Err, IfOk, IfErr, bytes_eq, codes, inl, inr, refl, sym, subst}
 use Rattle.std.proofs.lemmas.Bool.{false≢true}
 use Rattle.std.proofs.lemmas.Slice.Eq.{bytes_eq-Decides}
 use Rattle.std.specs.Io.KnownBytes.{IsAtEnd}
@@ -15,14 +15,15 @@ use Rattle.gathering.specs.declared.gathered.Gathered.{Gathered}
 use Rattle.gathering.specs.declared.selection.Selection.{Selection}
 use Rattle.file_derivation.specs.Outcomes.{AreDerivedFrom}
 use Rattle.reporting.specs.Beginning.{Beginning}
-use Rattle.file_runs.specs.Contents.{IsTextBy, IsTextAt, TellsFile, TellsInput, TellsConfig, EndsReading, EndsDerivation}
+use Rattle.file_runs.specs.Contents.{IsTextBy, IsTextAt, TellsFile, TellsInput, TellsConfig, EndsReading, EndsDerivation, EndsWords}
 use Rattle.file_runs.specs.Given.{Given, IsGiven, AreFilesAt, HasBytes, RefusesConfig}
-use Rattle.file_runs.specs.Owed.{Owed, IsEnding, IsEndingAt, status_of, status_at}
-use Rattle.file_runs.specs.Words.{is_input, AskFor, IsOfInput, IsOfPath}
+use Rattle.file_runs.specs.Owed.{Owed, IsEnding, IsEndingAt, status_of, status_at, ending_of}
+use Rattle.file_runs.specs.Words.{is_input, AskFor, IsOfInput, IsOfPath, NameInput}
 use Rattle.file_runs.specs.declared.ending.Ending.{Ending}
 use Rattle.file_runs.specs.declared.ending.Ending.TheVariants.{Done, Refused, Usage, ReadFault, Memory, FileFault}
 use Rattle.file_runs.specs.declared.request.Request.{Request}
 use Rattle.file_runs.specs.declared.status.Status.TheVariants as status
+use Rattle.file_runs.proofs.Consequences.{no_request}
 use Rattle.file_runs.proofs.Paths.{each_other, begun_with}
 
 module _ (begun : Beginning) (r : Request) (asked : AskFor begun.words r) (tells : Bool) (held : List ℕ → Option (List ℕ)) (same : begun.tells ≡ tells) (holds : (path : List ℕ) → begun.held path ≡ held path) where
@@ -147,10 +148,64 @@ pub derived_ends : (begun : Beginning) (given : Given) → IsGiven begun given �
 derived_ends begun given is gathered gathers (Ok text) derives ends = document_ends begun given is text (derives given.files gathers)
 derived_ends begun given is gathered gathers (Err ending) derives ends = derivation_ends begun given is gathered ending gathers ends
 
--- where a text is derived, the input that the paths name is at its end
+-- where a document is derived, the input that the paths name is at its end
 pub derived_at_end : (tells : Bool) (held : List ℕ → Option (List ℕ)) (had has : Option (List ℕ)) (paths : List (List ℕ)) (files : List FileOf) → AreFilesAt (IsTextAt tells held had has) paths files
-    → (s : Selection) (c : Configuration) (gathered : Gathered) → Gathers files gathered → (r : Result (List ℕ) Ending) → IfOk r (DerivesText s c gathered) → OnOk r (is_in (codes "-") paths ≡ true → IsAtEnd has)
-derived_at_end tells held had has paths files are s c gathered gathers (Ok text) derives = λ of.
+    → (s : Selection) (c : Configuration) (gathered : Gathered) → Gathers files gathered → (r : Result (List ℕ) Ending) → IfOk r (DerivesText s c gathered) → IfErr r (EndsDerivation s c gathered)
+    → status_at r ≡ status.Done → is_in (codes "-") paths ≡ true → IsAtEnd has
+derived_at_end tells held had has paths files are s c gathered gathers (Ok text) derives ends done of =
     let derived = (derives files gathers).1 in
     input_at_end tells held had has 0 paths files derived.all are derived.declared of
-derived_at_end tells held had has paths files are s c gathered gathers (Err ending) derives = tt
+derived_at_end tells held had has paths files are s c gathered gathers (Err (Done text)) derives ends done of = absurd ends
+derived_at_end tells held had has paths files are s c gathered gathers (Err (Refused report)) derives ends done of = cc
+derived_at_end tells held had has paths files are s c gathered gathers (Err (Usage report)) derives ends done of = cc
+derived_at_end tells held had has paths files are s c gathered gathers (Err ReadFault) derives ends done of = cc
+derived_at_end tells held had has paths files are s c gathered gathers (Err Memory) derives ends done of = cc
+derived_at_end tells held had has paths files are s c gathered gathers (Err (FileFault report)) derives ends done of = cc
+
+-- no run is done where its reading ends
+pub not_done : (tells : Bool) (held : List ℕ → Option (List ℕ)) (r : Request) (ending : Ending) → EndsReading tells held r ending → status_of ending ≡ status.Done → ⊥
+not_done tells held r (Done text) ends is = ends
+not_done tells held r (Refused report) ends is = cc
+not_done tells held r (Usage report) ends is = cc
+not_done tells held r ReadFault ends is = cc
+not_done tells held r Memory ends is = cc
+not_done tells held r (FileFault report) ends is = cc
+
+-- a run may end as its words are answered, with nothing read
+pub words_end : (begun : Beginning) (ending : Ending) → EndsWords begun.words ending → IsEnding begun ending
+unfolding Owed
+words_end begun (Done text) (question, asks, is) = (inr (question, asks, is), refl)
+words_end begun (Usage report) (misuse, are, is) = ((misuse, are, is), refl)
+words_end begun Memory ends = (refl, refl)
+words_end begun (Refused report) ends = absurd ends
+words_end begun ReadFault ends = absurd ends
+words_end begun (FileFault report) ends = absurd ends
+
+-- and then no input is named where a question is answered, and no fault is counted
+pub words_name_none : (words : List (List ℕ)) (ending : Ending) → EndsWords words ending → status_of ending ≡ status.Done → NameInput words → ⊥
+words_name_none words (Done text) (question, asks, is) so (request, asks_for, of) = no_request words question request asks asks_for
+words_name_none words (Usage report) ends so named = cc
+words_name_none words Memory ends so named = cc
+words_name_none words (Refused report) ends so named = absurd ends
+words_name_none words ReadFault ends so named = absurd ends
+words_name_none words (FileFault report) ends so named = absurd ends
+
+pub words_fault_none : (words : List (List ℕ)) (ending : Ending) → EndsWords words ending → (status_of ending ≡ status.ReadFault) ⊎ (status_of ending ≡ status.FileFault) → ⊥
+words_fault_none words ReadFault ends so = ends
+words_fault_none words (FileFault report) ends so = ends
+words_fault_none words (Refused report) ends so = ends
+words_fault_none words (Done text) ends (inl so) = cc
+words_fault_none words (Done text) ends (inr so) = cc
+words_fault_none words (Usage report) ends (inl so) = cc
+words_fault_none words (Usage report) ends (inr so) = cc
+words_fault_none words Memory ends (inl so) = cc
+words_fault_none words Memory ends (inr so) = cc
+
+-- an answer as an ending
+pub ending_at : (begun : Beginning) (r : Result (List ℕ) Ending) → IsEndingAt begun r → IsEnding begun (ending_of r)
+ending_at begun (Ok text) is = is
+ending_at begun (Err ending) is = is
+
+pub status_is : (r : Result (List ℕ) Ending) → status_at r ≡ status_of (ending_of r)
+status_is (Ok text) = refl
+status_is (Err ending) = refl

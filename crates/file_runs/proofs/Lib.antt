@@ -1,3 +1,4 @@
+pub mod Consequences
 mod Ended
 mod Paths
 mod Saying

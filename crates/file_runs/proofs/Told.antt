@@ -1,5 +1,5 @@
 -- What is told is one thing, so that nothing refuses what is sound.
-use Rattle.std.proofs.Common.{◌≡◌, ◌∙◌, ℕ, List, [], ◌∷◌, Bool, true, false, ◌||◌, IsTrue, Option, Some, None, IsSome, Result, Ok, bytes_eq, codes, inl, inr, refl, sym, ap, ap₂, subst}
+use Rattle.std.proofs.Common.{◌≡◌, ◌∙◌, ℕ, List, [], ◌∷◌, Bool, true, false, ◌||◌, IsTrue, Option, Some, None, IsSome, bytes_eq, codes, inl, inr, refl, sym, ap, ap₂, subst}
 use Rattle.std.proofs.lemmas.Slice.Eq.{bytes_eq-Decides}
 use Rattle.std.proofs.lemmas.Bool.{false≢true}
 use Rattle.streams.specs.Told.{IsAll}
@@ -12,17 +12,13 @@ use Rattle.file_derivation.specs.Outcomes.{AreSound, SoundAreNotTold}
 use Rattle.reporting.specs.Beginning.{Beginning}
 use Rattle.file_runs.specs.Given.{AreFilesAt, HasBytesBy, HasBytes}
 use Rattle.file_runs.specs.Owed.{SoundRunsAreNotRefused}
-use Rattle.file_runs.specs.Words.{is_input, AskFor}
-use Rattle.file_runs.specs.declared.request.Misuse.{Misuse}
+use Rattle.file_runs.specs.Words.{is_input}
 use Rattle.file_runs.specs.declared.request.Request.{Request}
+use Rattle.file_runs.proofs.Consequences.{one_request}
 
 -- a text says one configuration
 abbrev pub OneConfiguration : Type 0
 OneConfiguration = (bytes : List ℕ) (c d : Configuration) → IsConfigurationText bytes c → IsConfigurationText bytes d → c ≡ d
-
--- words ask for one thing
-pub one_request : (words : List (List ℕ)) (r q : Request) → AskFor words r → AskFor words q → r ≡ q
-one_request words r q (none, asks) (nothing, also) = let same : ◌≡◌ {A = Result Request Misuse} (Ok r) (Ok q) = sym asks ∙ also in cc
 
 -- the path of the input is one
 pub input_path : (path : List ℕ) → is_input path ≡ true → path ≡ codes "-"

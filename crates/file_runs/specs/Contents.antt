@@ -19,7 +19,7 @@ use Rattle.file_derivation.specs.Outcomes.{AreTold}
 use Rattle.reporting.specs.Beginning.{Beginning}
 use Rattle.file_runs.specs.Given.{RefusesConfig}
 use Rattle.file_runs.specs.Reports.{misuse_text, fault_line, answer_text}
-use Rattle.file_runs.specs.Words.{is_input, AskFor, IsOfInput, IsOfPath}
+use Rattle.file_runs.specs.Words.{is_input, Ask, AskFor, AreMisused, IsOfInput, IsOfPath}
 use Rattle.file_runs.specs.declared.ending.Ending.{Ending}
 use Rattle.file_runs.specs.declared.ending.Ending.TheVariants.{Done, Refused, Usage, ReadFault, Memory, FileFault}
 use Rattle.file_runs.specs.declared.request.Misuse.{Misuse}
@@ -53,16 +53,12 @@ TellsFile path (FileFault report) = (cause : Cause) × (report ≡ fault_line pa
 TellsFile path Memory = Unit {0}
 TellsFile path _ = ⊥
 
--- it is the answer to the question, or tells how words are misused, or that memory ran out
-abbrev pub TellsAnswer : Question → Ending → Type 0
-TellsAnswer question (Done text) = text ≡ answer_text question
-TellsAnswer question Memory = Unit {0}
-TellsAnswer question _ = ⊥
-
-abbrev pub TellsMisuse : Misuse → Ending → Type 0
-TellsMisuse misuse (Usage report) = report ≡ misuse_text misuse
-TellsMisuse misuse Memory = Unit {0}
-TellsMisuse misuse _ = ⊥
+-- it answers the question of the words, or tells how they are misused, or that memory ran out
+abbrev pub EndsWords : List (List ℕ) → Ending → Type 0
+EndsWords words (Done text) = (question : Question) × Ask words question × (text ≡ answer_text question)
+EndsWords words (Usage report) = (misuse : Misuse) × AreMisused words misuse × (report ≡ misuse_text misuse)
+EndsWords words Memory = Unit {0}
+EndsWords words _ = ⊥
 
 -- that the input cannot be read, or that memory ran out
 abbrev pub TellsInput : Ending → Type 0

@@ -103,6 +103,11 @@ report_of endings.ReadFault = codes "-: cannot be read\n"
 report_of endings.Memory = []
 report_of (endings.FileFault report) = report
 
+-- with this text, or with this ending
+abbrev pub ending_of : Result (List ℕ) Ending → Ending
+ending_of (Ok text) = endings.Done text
+ending_of (Err ending) = ending
+
 -- the status of a run that ends with the error, where there is one
 abbrev pub status_at : {A : Type 0} → Result A Ending → Status
 status_at (Ok x) = Done

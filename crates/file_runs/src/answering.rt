@@ -1,6 +1,6 @@
 //! What answers a request.
 
-ghost use Rattle.std.specs.Prelude.{◌≡◌, ◌≢◌, ℕ, List, OnOk, Some};
+ghost use Rattle.std.specs.Prelude.{◌≡◌, ◌≢◌, ℕ, List, Some};
 ghost use Rattle.std.specs.Io.KnownBytes.{IsAtEnd};
 ghost use Rattle.streams.specs.Faults.{CountsFault};
 ghost use Rattle.reporting.specs.Beginning.{Beginning};
@@ -29,7 +29,8 @@ pub fn answer<S: Source, F: Files>(
     ensures owed { (begun : Beginning)
         → Begins S.Source F.Files request.now input.old files.old begun
         → IsEndingAt begun result }
-    ensures end { OnOk result (IsOfInput request.now → IsAtEnd (S.left input.new)) }
+    ensures end { status_at result ≡ Status.Done → IsOfInput request.now
+        → IsAtEnd (S.left input.new) }
     ensures unread { ¬ (IsOfInput request.now) → input.new ≡ input.old }
     ensures kept { status_at result ≢ Status.ReadFault
         → S.faults input.new ≡ S.faults input.old }

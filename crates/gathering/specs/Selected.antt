@@ -1,5 +1,5 @@
 -- Which declarations of all files are selected.
-use Rattle.std.specs.Prelude.{◌≡◌, ◌⊎◌, ℕ, List, [], ◌∷◌, map, find, Bool, true, false, not, cond, ◌||◌, is_none, Option}
+use Rattle.std.specs.Prelude.{◌≡◌, ◌⊎◌, ℕ, List, [], ◌∷◌, ◌++◌, map, find, Bool, true, false, not, cond, ◌||◌, is_none, Option}
 use Rattle.std.specs.List.{filter}
 use Rattle.reaching.specs.Reached.{IsReached}
 use Rattle.reaching.specs.declared.node.Node.{Node}
@@ -22,11 +22,15 @@ is_left s i = not (is_in i.declared.name s.exclude)
 abbrev pub node_for : Selection → FileItem → Node
 node_for s i = record i.declared { is_first = is_first s i.declared }
 
-abbrev pub nodes_for : Selection → List FileItem → List Node
-nodes_for s items = map (node_for s) (filter (is_left s) items)
+abbrev pub item_nodes : Selection → List FileItem → List Node
+item_nodes s items = map (node_for s) (filter (is_left s) items)
 
-abbrev pub IsSelected : Selection → List FileItem → FileItem → Type 0
-IsSelected s all i = (is_left s i ≡ true) × ((is_first s i.declared ≡ true) ⊎ IsReached (nodes_for s all) i.declared.name)
+-- with the aliases: what names an alias names what its type names
+abbrev pub nodes_for : Selection → (aliases : List Node) → List FileItem → List Node
+nodes_for s aliases items = item_nodes s items ++ aliases
+
+abbrev pub IsSelected : Selection → (aliases : List Node) → List FileItem → FileItem → Type 0
+IsSelected s aliases all i = (is_left s i ≡ true) × ((is_first s i.declared ≡ true) ⊎ IsReached (nodes_for s aliases all) i.declared.name)
 
 -- these are those of which it holds, in order
 pub data AreThose {A : Type 0} (Holds : A → Type 0) : List A → List A → Type 0 where
@@ -34,8 +38,8 @@ pub data AreThose {A : Type 0} (Holds : A → Type 0) : List A → List A → Ty
   one_holds : {x : A} {xs ys : List A} → Holds x → AreThose Holds xs ys → AreThose Holds (x ∷ xs) (x ∷ ys)
   one_fails : {x : A} {xs ys : List A} → ¬ (Holds x) → AreThose Holds xs ys → AreThose Holds (x ∷ xs) ys
 
-abbrev pub AreSelected : Selection → (all chosen : List FileItem) → Type 0
-AreSelected s all chosen = AreThose (IsSelected s all) all chosen
+abbrev pub AreSelected : Selection → (aliases : List Node) → (all chosen : List FileItem) → Type 0
+AreSelected s aliases all chosen = AreThose (IsSelected s aliases all) all chosen
 
 -- how the program finds them: by the names that are not reached
 abbrev pub is_selected : {X : Type 0} → (List ℕ → Option X) → Selection → FileItem → Bool

@@ -1,5 +1,4 @@
 pub mod Attributes
-pub mod Choices
 pub mod Ends
 pub mod Fields
 pub mod FileItems
@@ -7,7 +6,6 @@ pub mod FileTexts
 pub mod Forms
 pub mod Items
 pub mod Kinds
-pub mod Masked
 pub mod Names
 pub mod Prepared
 pub mod Returns

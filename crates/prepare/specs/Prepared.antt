@@ -1,27 +1,20 @@
--- A source and the text in which its declarations stand.
-use Rattle.std.specs.Prelude.{◌≡◌, ◌⊎◌, ℕ, ◌≤◌, List, length, chars}
+-- A source and what stands of it.
+use Rattle.std.specs.Prelude.{◌≡◌, ◌⊎◌, ℕ, ◌≤◌, List, length}
 use Rattle.diag.specs.Refusal.{IsSyntaxRefusal}
 use Rattle.diag.specs.declared.error.DeriveError.{DeriveError}
 use Rattle.diag.specs.declared.error.DeriveError.TheVariants as errors
 use Rattle.texts.specs.declared.span.Span.{Span}
 use Rattle.tokens.specs.Trees.{Trees}
 use Rattle.lexing.specs.Cut.{IsCut, StopsAt}
-use Rattle.prepare.specs.declared.choice.Choice.{Choice}
 use Rattle.prepare.specs.declared.item.Standing.{Standing}
 use Rattle.prepare.specs.declared.item.Stop.{Stop}
 use Rattle.prepare.specs.declared.item.Stop.TheVariants as stop
 use Rattle.prepare.specs.Trees.{listed}
 use Rattle.prepare.specs.Standing.{StandInside, StopInside}
-use Rattle.prepare.specs.Choices.{AreChosen}
-use Rattle.prepare.specs.Masked.{masked}
 
 -- the source is cut into trees, which are a file of which this stands
 abbrev pub IsFile : List ℕ → List Standing → Type 0
 IsFile source standing = (trees : Trees) × IsCut source trees × StandInside (listed trees) standing
-
--- the text is the source, of which only the spans of what is chosen stand
-abbrev pub IsPrepared : Choice → (source text : List ℕ) → Type 0
-IsPrepared choice source text = (standing : List Standing) × (spans : List Span) × IsFile source standing × AreChosen choice standing spans × (text ≡ masked spans 0 (chars source))
 
 -- the source has no trees, or else the first of its trees that is no item begins at the span
 abbrev pub IsStop : List ℕ → Span → Type 0

@@ -1,5 +1,4 @@
-//! Whole files of Rust: their text, the declarations of structs and enums in them, and the text in which only these and the
-//! `use` lines stand.
+//! Whole files of Rust: their text, and the declarations of structs and enums in them.
 //!
 //! ```text
 //! file   = inner* item*
@@ -27,7 +26,6 @@
 #![tactic(auto)]
 
 mod attributes;
-mod choice;
 mod ends;
 mod fields;
 mod file;
@@ -37,17 +35,13 @@ mod item;
 mod kind;
 mod law;
 mod line_ends;
-mod marks;
 mod names;
-mod prepare;
 mod previous;
 mod single;
 mod standing;
 mod traits;
 mod trees;
 
-pub use choice::Choice;
 pub use file_items::{FileItem, items};
-pub use law::{items_are_one, one_preparation};
+pub use law::items_are_one;
 pub use line_ends::file_text;
-pub use prepare::declarations;

@@ -6,10 +6,10 @@ use schema_gen::Status;
 use serde_json::Value;
 use std::alloc::{AllocError, Global};
 
-/// How a run ended, and what both outputs have.
+/// How a run ended, by the name of its status, and what both outputs have.
 #[derive(Drop)]
 pub(crate) struct Outcome {
-    status: Status,
+    status: String,
     out: String,
     err: String,
 }
@@ -36,25 +36,17 @@ pub(crate) fn status_named(name: &str) -> anyhow::Result<Status> {
     }
 }
 
-/// The name of the status; of a refusal without its kind.
-fn status_name(status: Status) -> &'static str {
-    match status {
-        Status::Done => "Done",
-        Status::Refused(_) => "Refused",
-        Status::Usage => "Usage",
-        Status::ReadFault => "ReadFault",
-        Status::WriteFault => "WriteFault",
-        Status::Memory => "Memory",
-        Status::FileFault => "FileFault",
-    }
+/// The name of the status, of a refusal with its kind in brackets.
+pub(crate) fn status_text(alloc: Global, status: Status) -> Result<String, AllocError> {
+    format!(in alloc; "{status:?}")
 }
 
-/// The name of the status, with the kind of a refusal in brackets.
-fn status_text(alloc: Global, status: Status) -> Result<String, AllocError> {
-    match status {
-        Status::Refused(kind) => format!(in alloc; "Refused({})", kind.name()),
-        other => String::from_str(alloc, status_name(other)),
-    }
+/// The name of the status of a run over files.
+pub(crate) fn file_status_text(
+    alloc: Global,
+    status: file_runs::Status,
+) -> Result<String, AllocError> {
+    format!(in alloc; "{status:?}")
 }
 
 /// The text as a JSON text.
@@ -77,7 +69,7 @@ impl Outcome {
     /// The outcome of these bytes.
     pub(crate) fn new(
         alloc: Global,
-        status: Status,
+        status: String,
         out: &[u8],
         err: &[u8],
     ) -> anyhow::Result<Outcome> {
@@ -90,12 +82,11 @@ impl Outcome {
 
     /// The JSON list of the status and of what both outputs have.
     pub(crate) fn text(&self, alloc: Global) -> Result<String, AllocError> {
-        let status = status_text(alloc, self.status)?;
         let out = output_text(alloc, self.out.as_str())?;
         let err = output_text(alloc, self.err.as_str())?;
         format!(in alloc;
             "[\"{}\",{},{}]",
-            status.as_str(),
+            self.status.as_str(),
             out.as_str(),
             err.as_str()
         )
@@ -103,9 +94,10 @@ impl Outcome {
 
     /// The document, or the report of a refusal without `refused: `; each without the new line that ends it.
     pub(crate) fn line(&self) -> &str {
-        let text = match self.status {
-            Status::Done => self.out.as_str(),
-            _ => self.err.as_str(),
+        let text = if self.is_done() {
+            self.out.as_str()
+        } else {
+            self.err.as_str()
         };
         let line = text.strip_suffix('\n').unwrap_or(text);
         line.strip_prefix("refused: ").unwrap_or(line)
@@ -113,6 +105,6 @@ impl Outcome {
 
     /// Whether there is a document.
     pub(crate) fn is_done(&self) -> bool {
-        matches!(self.status, Status::Done)
+        self.status.as_str() == "Done"
     }
 }

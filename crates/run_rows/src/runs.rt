@@ -1,12 +1,12 @@
 //! Runs of the programs.
 
-use crate::outcome::{Outcome, status_named};
+use crate::outcome::{Outcome, file_status_text, status_named, status_text};
 use crate::parts::{bytes_at, bytes_of, counts_at};
 use anyhow::bail;
 use files::{Files, HonestFiles, MemoryFiles, StdFiles};
 use rows::Row;
-use rows::given::{count_at, items_at, text_of};
-use schema_gen::{Status, Words};
+use rows::given::{count_at, items_at, pair_of, text_of};
+use schema_gen::Words;
 use serde_json::Value;
 use std::alloc::{AllocError, Global};
 use std::rt::Files as FileSystem;
@@ -60,16 +60,28 @@ fn configuration_file(alloc: Global, bytes: Vec<u8>) -> Result<Vec<(String, Vec<
     Ok(vec![in alloc; (path, bytes)]?)
 }
 
-/// The file `config`, where the row gives its bytes.
-fn files_of(alloc: Global, given: &Value) -> anyhow::Result<Vec<(String, Vec<u8>)>> {
-    let Some(given) = given.get(CONFIG) else {
-        return Ok(Vec::new(alloc));
-    };
-    let bytes = bytes_of(alloc, given)?;
-    Ok(configuration_file(alloc, bytes)?)
+/// The file that is given as a list of its path and what it holds.
+fn file_of(alloc: Global, given: &Value) -> anyhow::Result<(String, Vec<u8>)> {
+    let (path, held) = pair_of(given)?;
+    let path = String::from_str(alloc, text_of(path)?)?;
+    Ok((path, bytes_of(alloc, held)?))
 }
 
-/// A run of `schema_gen`, or where the row has the member `program`, of the program of that name.
+/// The file `config`, where the row gives its bytes, else the files that it lists.
+fn files_of(alloc: Global, given: &Value) -> anyhow::Result<Vec<(String, Vec<u8>)>> {
+    if let Some(given) = given.get(CONFIG) {
+        let bytes = bytes_of(alloc, given)?;
+        return Ok(configuration_file(alloc, bytes)?);
+    }
+    let mut files = Vec::new(alloc);
+    for file in items_at(given, "held")? {
+        files.push(file_of(alloc, file)?)?;
+    }
+    Ok(files)
+}
+
+/// The status of a run of `schema_gen`, a refusal with its kind in brackets; or where the row has the member `program`, of one of
+/// `schema_gen_file`.
 fn run<S: Source, F: Files, O: Sink, E: Sink>(
     alloc: Global,
     given: &Value,
@@ -78,12 +90,16 @@ fn run<S: Source, F: Files, O: Sink, E: Sink>(
     files: &mut F,
     out: &mut O,
     err: &mut E,
-) -> anyhow::Result<Status> {
+) -> anyhow::Result<String> {
     let Some(program) = given.get("program") else {
-        return Ok(schema_gen::run(alloc, words, input, files, out, err));
+        let status = schema_gen::run(alloc, words, input, files, out, err);
+        return Ok(status_text(alloc, status)?);
     };
     match text_of(program)? {
-        "schema_prepare" => Ok(preparing::run(alloc, words, input, files, out, err)),
+        "schema_gen_file" => {
+            let status = file_runs::run(alloc, words, input, files, out, err);
+            Ok(file_status_text(alloc, status)?)
+        }
         other => bail!("no program {other}"),
     }
 }

@@ -1,12 +1,17 @@
 use Rattle.std.proofs.lemmas.Result.{err_from_is_err_and}
 use Rattle.file_runs.specs.Given.{Given}
-use Rattle.file_runs.proofs.Ended.{reading_ends, is_given, derived_ends, derived_at_end, no_file_fault, no_read_fault}
+use Rattle.file_runs.proofs.Ended.{reading_ends, not_done, is_given, derived_ends, derived_at_end, no_file_fault, no_read_fault}
 use Rattle.file_runs.proofs.answering.answer.Goals as goal
 
 pub returns-in_err-reading-clause-owed : goal.returns-in_err-reading-clause-owed
 returns-in_err-reading-clause-owed g c =
     let p = err_from_is_err_and c.from_residual.result c.from_residual.ensures.1 in
     rw (p.1, p.2) (λ begun begins. reading_ends begun c.args.request.now begins.asked (g.F.Files.tells c.args.files.now) (g.F.Files.held c.args.files.now) begins.tells begins.held _ c.in_err-reading.ensures.ending)
+
+pub returns-in_err-reading-clause-end : goal.returns-in_err-reading-clause-end
+returns-in_err-reading-clause-end g c =
+    let p = err_from_is_err_and c.from_residual.result c.from_residual.ensures.1 in
+    rw (p.1, p.2) (λ done. absurd (not_done _ _ c.args.request.now _ c.in_err-reading.ensures.ending done))
 
 pub returns-clause-owed : goal.returns-clause-owed
 returns-clause-owed g c = λ begun begins.
@@ -19,7 +24,7 @@ returns-clause-owed g c = λ begun begins.
 pub returns-clause-end : goal.returns-clause-end
 returns-clause-end g c =
     let made = c.in_ok-reading.ensures.gathered in
-    derived_at_end (g.F.Files.tells c.args.files.now) (g.F.Files.held c.args.files.now) _ _ c.args.request.now.files made.0 made.1 _ _ _ made.2 c.document_text.result c.document_text.ensures.document
+    derived_at_end (g.F.Files.tells c.args.files.now) (g.F.Files.held c.args.files.now) _ _ c.args.request.now.files made.0 made.1 _ _ _ made.2 c.document_text.result c.document_text.ensures.document c.document_text.ensures.ending
 
 pub returns-clause-kept : goal.returns-clause-kept
 returns-clause-kept g c = λ other. c.in_ok-reading.ensures.kept (λ e. cc)

@@ -1,11 +1,10 @@
-use Rattle.std.proofs.Common.{◌≡◌, ◌∙◌, ℕ, List, length, take, ap, ap₂, sym, subst}
+use Rattle.std.proofs.Common.{◌∙◌, ℕ, List, length, ap, ap₂, sym, subst}
 use Rattle.std.specs.Prelude.{codes, Some}
 use Rattle.prepare.specs.FileTexts.{text_of_file}
 use Rattle.telling.specs.Told.{told_at}
 use Rattle.telling.specs.declared.part.Place.{Place}
 use Rattle.telling.specs.declared.told.Told.{Told}
 use Rattle.gathering.specs.Files.{file_of, IsToldOfFile, no_text}
-use Rattle.gathering.specs.Telling.{told_broken}
 use Rattle.gathering.proofs.gathered.no_text.Goals as goal
 
 pub returns : goal.returns

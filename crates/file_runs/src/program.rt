@@ -1,0 +1,171 @@
+//! A run: what its words ask for, how it ends, and what is written.
+
+ghost use Rattle.std.specs.Prelude.{◌≡◌, ◌≢◌, ◌⊎◌, ℕ, List, IfOk, IfErr, codes};
+ghost use Rattle.std.specs.Io.KnownBytes.{Appends, Keeps, IsAtEnd};
+ghost use Rattle.files.specs.declared.cause.Cause.{Cause as AnyCause};
+ghost use Rattle.streams.specs.Faults.{CountsFault};
+ghost use Rattle.streams.specs.Told.{AppendsPart};
+ghost use Rattle.reporting.specs.Beginning.{beginning_of};
+ghost use Rattle.file_runs.specs.Contents.{EndsWords};
+ghost use Rattle.file_runs.specs.Owed.{IsDone, IsRefused, IsTold, IsSound, Owed, IsEnding, status_of, ending_of};
+ghost use Rattle.file_runs.specs.Reports.{misuse_text, fault_line};
+ghost use Rattle.file_runs.specs.Words.{Ask, AskFor, AreMisused, NameInput, NamePath};
+ghost use Rattle.file_runs.specs.declared.request.Misuse.{Misuse as AnyMisuse};
+ghost use Rattle.file_runs.specs.declared.request.Question.{Question as AnyQuestion};
+ghost use Rattle.file_runs.specs.declared.status.Status.{Status as AnyStatus};
+
+use crate::answering::answer;
+use crate::arguments::{Stop, question_in, request_of};
+use crate::ending::Ending;
+use crate::law::sound_runs_are_not_refused;
+use crate::reports::{answer_text, misuse_text};
+use crate::request::Request;
+use crate::status::Status;
+use files::Files;
+use reporting::{Words, deliver};
+use std::alloc::Global;
+use streams::{Failed, Sink, Source};
+use texts::Text;
+
+/// What the words ask for, or the ending of a run that reads nothing: the answer to their question, or how they are misused.
+fn request_at(alloc: Global, words: &Words) -> Result<Request, Ending>
+    ensures asked { IfOk result (AskFor words.now) }
+    ensures ending { IfErr result (EndsWords words.now) }
+{
+    let words = words.as_slice();
+    if let Some(question) = question_in(words) {
+        return Err(Ending::Done(Text::new(alloc, answer_text(question))?));
+    }
+    match request_of(alloc, words) {
+        Ok(request) => Ok(request),
+        Err(Stop::Misused(misuse)) => Err(Ending::Usage(misuse_text(alloc, &misuse)?)),
+        Err(Stop::Memory) => Err(Ending::Memory),
+    }
+}
+
+/// How a run ends that has this text, or this ending without one.
+fn ending_of(answered: Result<Text, Ending>) -> Ending
+    ensures { result ≡ ending_of answered }
+{
+    match answered {
+        Ok(text) => Ending::Done(text),
+        Err(ending) => ending,
+    }
+}
+
+/// How a run with these words ends, before anything is written.
+fn end_of<S: Source, F: Files>(alloc: Global, words: &Words, input: &mut S, files: &mut F) -> Ending
+    ensures owed { IsEnding (beginning_of S.Source F.Files words.now input.old files.old) result }
+    ensures end { status_of result ≡ Status.Done → NameInput words.now
+        → IsAtEnd (S.left input.new) }
+    ensures unread { ¬ (NameInput words.now) → input.new ≡ input.old }
+    ensures kept { status_of result ≢ Status.ReadFault
+        → S.faults input.new ≡ S.faults input.old }
+    ensures failed { status_of result ≡ Status.ReadFault
+        → CountsFault (S.faults input.old) (S.faults input.new) }
+    ensures tells_on { F.tells files.new ≡ F.tells files.old }
+    ensures same { (path : List ℕ) → F.held files.new path ≡ F.held files.old path }
+    ensures files_kept { status_of result ≢ Status.FileFault → status_of result ≢ Status.Memory
+        → F.faults files.new ≡ F.faults files.old }
+    ensures files_failed { status_of result ≡ Status.FileFault → (path : List ℕ)
+        × NamePath words.now path × CountsFault (F.faults files.old) (F.faults files.new)
+        × (F.failed files.new ≡ Some path) }
+{
+    match request_at(alloc, words) {
+        Ok(request) => ending_of(answer(alloc, &request, input, files)),
+        Err(ending) => ending,
+    }
+}
+
+/// Runs the program: writes the document of the files that the words name to `out`, or the answer to their question, and
+/// what there is to say beside to `err`: where there is no document each fault that is told, of words that ask for nothing
+/// why and how to use the program, and of the input or a file that cannot be read its path. What the words ask for is
+/// that which POSIX ("Utility Syntax Guidelines") and GNU ("Program Argument Syntax Conventions") say.
+///
+/// Nothing is written before all is made, and writing takes no memory. So `out` gets the whole document or nothing, except
+/// after a fault of writing, when it has a front of what it was to get.
+#[tactic(auto, using(crate::proofs::Consequences::consequences))]
+pub fn run<S: Source, F: Files, O: Sink, E: Sink>(
+    alloc: Global,
+    words: &Words,
+    input: &mut S,
+    files: &mut F,
+    out: &mut O,
+    err: &mut E,
+) -> Status
+    // The bytes that were written are the document of the files, which describes what is selected
+    // of them, or the answer to a question.
+    ensures done { result ≡ Status.Done → (text : List ℕ)
+        × IsDone (beginning_of S.Source F.Files words.now input.old files.old) text
+        × Appends (O.written out.old) (O.written out.new) text }
+    ensures refused { result ≡ Status.Refused → (report : List ℕ)
+        × IsRefused (beginning_of S.Source F.Files words.now input.old files.old) report
+        × Appends (E.written err.old) (E.written err.new) report }
+    ensures usage { result ≡ Status.Usage → (misuse : AnyMisuse) × AreMisused words.now misuse
+        × Appends (E.written err.old) (E.written err.new) (misuse_text misuse) }
+    ensures only_usage { (misuse : AnyMisuse) → AreMisused words.now misuse
+        → (result ≡ Status.Usage) ⊎ (result ≡ Status.Memory) ⊎ (result ≡ Status.WriteFault) }
+    ensures answered { (question : AnyQuestion) → Ask words.now question
+        → (result ≡ Status.Done) ⊎ (result ≡ Status.Memory) ⊎ (result ≡ Status.WriteFault) }
+    // The input is read where the words name it, and files stay what they are.
+    ensures unread { ¬ (NameInput words.now) → input.new ≡ input.old }
+    ensures tells_on { F.tells files.new ≡ F.tells files.old }
+    ensures same { (path : List ℕ) → F.held files.new path ≡ F.held files.old path }
+    // What is sound has its document, where it is told, unless something fails or memory is wanted.
+    ensures complete { IsTold (beginning_of S.Source F.Files words.now input.old files.old)
+        → IsSound (beginning_of S.Source F.Files words.now input.old files.old)
+        → ¬ (CountsFault (S.faults input.old) (S.faults input.new))
+        → ¬ (CountsFault (F.faults files.old) (F.faults files.new))
+        → ¬ (CountsFault (O.faults out.old) (O.faults out.new))
+        → ¬ (CountsFault (E.faults err.old) (E.faults err.new))
+        → (result ≡ Status.Done) ⊎ (result ≡ Status.Memory) }
+    // What was written is what the status owes, and after a fault of writing a front of what a
+    // status owes.
+    ensures written { result ≢ Status.WriteFault → (text : List ℕ) × (report : List ℕ)
+        × Owed (beginning_of S.Source F.Files words.now input.old files.old) result text report
+        × Appends (O.written out.old) (O.written out.new) text
+        × Appends (E.written err.old) (E.written err.new) report }
+    ensures cut { result ≡ Status.WriteFault
+        → (status : AnyStatus) × (text : List ℕ) × (report : List ℕ)
+        × Owed (beginning_of S.Source F.Files words.now input.old files.old) status text report
+        × (status ≡ Status.ReadFault → CountsFault (S.faults input.old) (S.faults input.new))
+        × (status ≡ Status.FileFault → CountsFault (F.faults files.old) (F.faults files.new))
+        × AppendsPart (O.written out.old) (O.written out.new) text
+        × AppendsPart (E.written err.old) (E.written err.new) report }
+    ensures out_kept { result ≢ Status.Done → result ≢ Status.WriteFault
+        → Keeps (O.written out.old) (O.written out.new) }
+    ensures err_kept { (result ≡ Status.Done) ⊎ (result ≡ Status.Memory)
+        → Keeps (E.written err.old) (E.written err.new) }
+    // Faults have causes, and after `Done` the input that the words name has nothing left.
+    ensures read_fault { result ≡ Status.ReadFault → NameInput words.now }
+    ensures read_count { result ≡ Status.ReadFault
+        → CountsFault (S.faults input.old) (S.faults input.new) }
+    ensures read_line { result ≡ Status.ReadFault → Appends (E.written err.old)
+        (E.written err.new) (codes "-: cannot be read\n") }
+    ensures file_fault { result ≡ Status.FileFault → (path : List ℕ)
+        × NamePath words.now path × CountsFault (F.faults files.old) (F.faults files.new)
+        × (F.failed files.new ≡ Some path) }
+    ensures file_line { result ≡ Status.FileFault → (path : List ℕ) × (cause : AnyCause)
+        × NamePath words.now path
+        × Appends (E.written err.old) (E.written err.new) (fault_line path cause) }
+    ensures write_fault { result ≡ Status.WriteFault
+        → CountsFault (O.faults out.old) (O.faults out.new)
+        ⊎ CountsFault (E.faults err.old) (E.faults err.new) }
+    ensures end { result ≡ Status.Done → NameInput words.now → IsAtEnd (S.left input.new) }
+    ensures input_calm { result ≢ Status.ReadFault → result ≢ Status.WriteFault
+        → S.faults input.new ≡ S.faults input.old }
+    // (where there is no memory to tell which file failed, the run ends for want of memory)
+    ensures files_calm { result ≢ Status.FileFault → result ≢ Status.Memory
+        → result ≢ Status.WriteFault → F.faults files.new ≡ F.faults files.old }
+    ensures out_calm { result ≢ Status.WriteFault → O.faults out.new ≡ O.faults out.old }
+    ensures err_calm { result ≢ Status.WriteFault → E.faults err.new ≡ E.faults err.old }
+{
+    sound_runs_are_not_refused();
+    let ending = end_of(alloc, words, input, files);
+    let document = ending.document().as_bytes();
+    let report = ending.report().as_bytes();
+    match deliver(document, report, out, err) {
+        Ok(()) => ending.status(),
+        Err(Failed) => Status::WriteFault,
+    }
+}
