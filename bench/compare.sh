@@ -5,21 +5,14 @@
 #
 #     bench/compare.sh
 #
-# cargo builds bench/plain first, over syn 1 and serde_json 1: those of Debian, where its packages librust-syn-dev,
-# librust-quote-dev and librust-serde-json-dev are there, and else those of crates.io.
+# ./build makes the program, unless PROGRAM names one, and bench/plain/build the other.
 set -eu
 here=$(cd "$(dirname "$0")/.." && pwd)
 program=${PROGRAM:-$here/crates/schema_gen_cli/out/schema_gen_cli}
 [ -x "$program" ] || "$here/build"
 folder=$(mktemp -d)
 trap 'rm -rf "$folder"' EXIT
-cp -r "$here/bench/plain" "$folder/plain"
-registry=/usr/share/cargo/registry
-sources=()
-if compgen -G "$registry/syn-1.*" >/dev/null && compgen -G "$registry/serde_json-1.*" >/dev/null; then
-    sources=(--offline --config 'source.crates-io.replace-with="debian"' --config "source.debian.directory=\"$registry\"")
-fi
-(cd "$folder/plain" && cargo build --release --quiet ${sources[@]+"${sources[@]}"})
+"$here/bench/plain/build" "$folder"
 python3 - "$program" "$folder" <<'PY'
 import os, subprocess, sys, time
 

@@ -1,21 +1,33 @@
-//! Rows of whole files: what a file is, and which pieces of it stand where its declarations are chosen.
+//! Rows of whole files: what a file is, and which of its declarations are taken.
 #![tactic(auto)]
 
-mod pieces;
-
 use anyhow::bail;
-use prepare::{Choice, declarations};
+use gathering::{Selection, selected};
+use prepare::{FileItem, items};
 use rows::given::text_of;
 use rows::{Row, refusal_text, run};
 use serde_json::Value;
-use std::alloc::Global;
+use std::alloc::{AllocError, Global};
 use texts::List;
 
-/// The pieces of the file that stand, or why it is refused.
-fn standing(alloc: Global, given: &Value, choice: &Choice) -> anyhow::Result<String> {
-    let source = text_of(given)?;
-    match declarations(alloc, source, choice) {
-        Ok(text) => pieces::pieces_text(alloc, source, text.as_str()),
+/// The JSON list of the texts of those that are selected.
+fn texts_of(alloc: Global, items: &[FileItem], serde: bool) -> Result<String, AllocError> {
+    let selection = Selection {
+        serde,
+        only: List::new(alloc),
+        exclude: List::new(alloc),
+    };
+    let mut texts = Vec::new(alloc);
+    for item in selected(alloc, items, &selection, &[])?.as_slice() {
+        texts.push(Value::String(String::from_str(alloc, item.text.as_str())?))?;
+    }
+    Value::Array(texts).to_string(alloc)
+}
+
+/// The texts of the file's declarations, or why it is refused.
+fn declared(alloc: Global, given: &Value, serde: bool) -> anyhow::Result<String> {
+    match items(alloc, 0, text_of(given)?) {
+        Ok(items) => Ok(texts_of(alloc, items.as_slice(), serde)?),
         Err(error) => Ok(refusal_text(alloc, &error)?),
     }
 }
@@ -23,8 +35,8 @@ fn standing(alloc: Global, given: &Value, choice: &Choice) -> anyhow::Result<Str
 /// What the call of the row answers.
 fn told(alloc: Global, row: &Row) -> anyhow::Result<String> {
     match row.call.as_str() {
-        "all" => standing(alloc, &row.given, &Choice::All),
-        "serde" => standing(alloc, &row.given, &Choice::Serde(List::new(alloc))),
+        "all" => declared(alloc, &row.given, false),
+        "serde" => declared(alloc, &row.given, true),
         other => bail!("no call {other}"),
     }
 }
