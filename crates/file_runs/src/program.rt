@@ -79,8 +79,9 @@ fn end_of<S: Source, F: Files>(alloc: Global, words: &Words, input: &mut S, file
 
 /// Runs the program: writes the document of the files that the words name to `out`, or the answer to their question, and
 /// what there is to say beside to `err`: where there is no document each fault that is told, of words that ask for nothing
-/// why and how to use the program, and of the input or a file that cannot be read its path. What the words ask for is
-/// that which POSIX ("Utility Syntax Guidelines") and GNU ("Program Argument Syntax Conventions") say.
+/// why and how to use the program, and of the input or a file that cannot be read its path. Words are taken as Unix tools
+/// take them: options stand before or behind files, and each name of an option is whole. But `--help` counts as a question
+/// also where a value is wanted, and a `--` there ends the search for one.
 ///
 /// Nothing is written before all is made, and writing takes no memory. So `out` gets the whole document or nothing, except
 /// after a fault of writing, when it has a front of what it was to get.
@@ -107,7 +108,7 @@ pub fn run<S: Source, F: Files, O: Sink, E: Sink>(
         → (result ≡ Status.Usage) ⊎ (result ≡ Status.Memory) ⊎ (result ≡ Status.WriteFault) }
     ensures answered { (question : AnyQuestion) → Ask words.now question
         → (result ≡ Status.Done) ⊎ (result ≡ Status.Memory) ⊎ (result ≡ Status.WriteFault) }
-    // The input is read where the words name it, and files stay what they are.
+    // The input is read only where the words name it, and files hold what they held.
     ensures unread { ¬ (NameInput words.now) → input.new ≡ input.old }
     ensures tells_on { F.tells files.new ≡ F.tells files.old }
     ensures same { (path : List ℕ) → F.held files.new path ≡ F.held files.old path }

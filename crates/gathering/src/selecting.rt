@@ -94,8 +94,8 @@ fn selected_by<'i>(
 }
 
 /// The declarations that are selected, in their order: those that are for themselves, and those that these name, and so on.
-/// What names an alias names what this names, and a declaration of its name beside. What is excluded is not selected, nor is
-/// what it alone names.
+/// What names an alias names what this names, and a declaration of its name beside. What is excluded is not selected, and
+/// nothing is for its sake.
 pub fn selected<'i>(
     alloc: Global,
     items: &'i [FileItem],
