@@ -7,6 +7,7 @@ pub mod PieceLaws
 pub mod CutLaws
 pub mod NestLaws
 mod Lying
+pub mod OpenLaws
 pub mod LexLaws
 pub mod RawLaws
 pub mod Laws

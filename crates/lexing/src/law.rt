@@ -1,10 +1,12 @@
 //! Laws of the definitions that contracts cite.
 
-ghost use Rattle.std.specs.Prelude.{◌≡◌, ◌<◌, ℕ, List};
+ghost use Rattle.std.specs.Prelude.{◌≡◌, ◌<◌, ℕ, List, Some};
 ghost use Rattle.texts.specs.declared.span.Span.{Span};
 ghost use Rattle.tokens.specs.Trees.{Trees, depth};
 ghost use Rattle.lexing.specs.Cut.{IsCut, OpensTooDeep, most_open};
 ghost use Rattle.lexing.specs.Lying.{TreesLie};
+ghost use Rattle.lexing.specs.Open.{IsOpenBracket};
+ghost use Rattle.lexing.specs.declared.brackets.OpenBracket.{OpenBracket};
 
 /// A source has at most one list of token trees.
 pub fn one_cut()
@@ -26,4 +28,10 @@ pub fn deep_brackets_nest_deep()
 /// The token trees of a source, those in groups too, begin and end between two of its characters.
 pub fn trees_lie()
     ensures { TreesLie }
+{}
+
+/// No bracket stands open in a source that has token trees.
+pub fn cut_sources_are_closed()
+    ensures { (source : List ℕ) (trees : Trees) (innermost : OpenBracket) → IsCut source trees
+        → ¬ (IsOpenBracket source (Some innermost)) }
 {}
