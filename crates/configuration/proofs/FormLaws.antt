@@ -1,5 +1,5 @@
 -- Rows of lists that grow at their end, and values by their kinds.
-use Rattle.std.proofs.Common.{◌≡◌, ◌<◌, ◌≤◌, ◌+◌, ◌↔◌, ℕ, zero, suc, List, [], ◌∷◌, ◌++◌, Bool, Option, Some, None, IsTrue, length, take, get_or, bytes_eq, subst, sym, ◌∙◌, arith}
+use Rattle.std.proofs.Common.{◌≡◌, ◌<◌, ◌≤◌, ◌+◌, ◌↔◌, ℕ, zero, suc, List, [], ◌∷◌, ◌++◌, Bool, Option, Some, None, IsTrue, length, take, get_or, bytes_eq, refl, subst, sym, ◌∙◌, arith}
 use Rattle.std.specs.List.{list_any, list_all}
 use Rattle.std.proofs.lemmas.List.{take_more}
 use Rattle.serde_json.specs.Data.{Data, null, boolean, number, string, array, object, Items, no_items, Members, no_members}
@@ -64,3 +64,8 @@ object_of names d ms b is all = subst (λ e. IsTrue b ↔ IsObjectOf names e) (s
 pub whole_within : (least most default : ℕ) (o : Option Data) (n : ℕ) → least ≤ default → default ≤ most → SaysOrDefault (IsWhole least most) default o n → (least ≤ n) × (n ≤ most)
 whole_within least most default None n low high is = (omega arith, omega arith)
 whole_within least most default (Some d) n low high is = (is.1, is.2)
+
+-- a whole number of which there is one alone is this
+pub only_whole : (n m : ℕ) (o : Option Data) → SaysOrDefault (IsWhole n n) n o m → SaysOrDefault (IsWhole n n) n o n
+only_whole n m None is = refl
+only_whole n m (Some d) is = let same : m ≡ n = omega (arith, is.1, is.2) in subst (λ k. IsWhole n n d k) same is

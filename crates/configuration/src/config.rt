@@ -15,6 +15,7 @@ use crate::members::{
     collect_at, holds_texts_at, is_empty_list_at, is_empty_object_at, is_object_of, whole_at,
 };
 use crate::renames::renames_at;
+use crate::value::value_of;
 use diag::{DeriveError, Kind, RenameRow, RenameTable};
 use serde_json::Value;
 use std::alloc::{AllocError, Global};
@@ -24,11 +25,8 @@ use texts::{Span, Text};
 use type_grammar::one_type_reading;
 use written_types::WrittenType;
 
-/// The most bytes of a configuration's text.
-const MAX_BYTES: usize = 1_048_576;
-
 /// The names of a configuration's members.
-const MEMBERS: [&str; 8] = [
+pub const MEMBERS: [&str; 8] = [
     "version",
     "limit",
     "copies",
@@ -119,18 +117,9 @@ impl Config {
             (λ e. (IsRefusedText bytes.now e
             × ((c : Configuration) → ¬ IsConfigurationText bytes.now c))) }
     {
-        if bytes.len() > MAX_BYTES {
-            return Err(bad_config(alloc));
-        }
-        match Value::from_slice(alloc, bytes) {
-            Ok(value) => Config::from_value(alloc, &value),
-            Err(error) => {
-                if error.is_memory() {
-                    Err(DeriveError::Memory)
-                } else {
-                    Err(bad_config(alloc))
-                }
-            }
+        match value_of(alloc, bytes)? {
+            Some(value) => Config::from_value(alloc, &value),
+            None => Err(bad_config(alloc)),
         }
     }
 

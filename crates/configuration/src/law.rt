@@ -1,14 +1,17 @@
 //! Laws of the definitions that contracts cite.
 
-ghost use Rattle.std.specs.Prelude.{◌≡◌, ℕ, List};
+ghost use Rattle.std.specs.Prelude.{◌≡◌, ℕ, List, Some, None};
 ghost use Rattle.serde_json.specs.Data.{Data};
 ghost use Rattle.diag.specs.Diagnostics.{HasFirst};
 ghost use Rattle.diag.specs.declared.diagnostics.DiangosticsInner.{DiangosticsInner};
 ghost use Rattle.diag.specs.declared.error.DeriveError.TheVariants as error;
 ghost use Rattle.diag.specs.declared.kind.Kind.{Kind};
+ghost use Rattle.diag.specs.declared.kind.Kind.TheVariants.{BadConfig};
 ghost use Rattle.configuration.specs.Configuration.{Configuration};
 ghost use Rattle.configuration.specs.Form.{IsConfiguration, IsConfigurationText, IsRefusedText, SaysInText};
 ghost use Rattle.configuration.specs.Said.{HaveFault};
+ghost use Rattle.configuration.specs.declared.part.ConfigPart.{ConfigPart as AnyPart};
+ghost use Rattle.configuration.specs.Parts.{IsFaultyPart};
 
 use diag::rules_have_own_names;
 use type_grammar::one_type_reading;
@@ -35,4 +38,11 @@ pub fn refused_texts_have_faults()
     ensures { (kind : Kind) (ds : List DiangosticsInner) (bytes : List ℕ)
         → HasFirst ds (λ d. d.kind ≡ kind) → IsRefusedText bytes (error.Refused ds)
         → HaveFault kind bytes }
+{}
+
+/// A part is at fault exactly where bytes have the fault `BadConfig`.
+pub fn bad_configs_have_faulty_parts()
+    ensures faulty { (bytes : List ℕ) (part : AnyPart) → IsFaultyPart bytes (Some part)
+        → HaveFault BadConfig bytes }
+    ensures sound { (bytes : List ℕ) → IsFaultyPart bytes None → ¬ HaveFault BadConfig bytes }
 {}

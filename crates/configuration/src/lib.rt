@@ -9,10 +9,16 @@ mod config;
 mod law;
 mod members;
 mod names;
+mod part;
 mod renames;
 mod targets;
+mod value;
 
 pub use collect::SchemaCollect;
 pub use config::{Config, bad_config};
-pub use law::{configurations_are_one, configurations_are_said, refused_texts_have_faults};
+pub use law::{
+    bad_configs_have_faulty_parts, configurations_are_one, configurations_are_said,
+    refused_texts_have_faults,
+};
 pub use names::last_names;
+pub use part::{ConfigPart, faulty_part, part_help};
