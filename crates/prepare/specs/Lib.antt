@@ -4,6 +4,8 @@ pub mod Fields
 pub mod FileItems
 pub mod FileTexts
 pub mod Forms
+pub mod HandImpls
+pub mod Heads
 pub mod Items
 pub mod Kinds
 pub mod Names

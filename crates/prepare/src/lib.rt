@@ -1,4 +1,5 @@
-//! Whole files of Rust: their text, and the declarations of structs and enums in them.
+//! Whole files of Rust: their text, the declarations of structs and enums in them, and the impls of serde's traits that are
+//! written by hand.
 //!
 //! ```text
 //! file   = inner* item*
@@ -31,6 +32,9 @@ mod fields;
 mod file;
 mod file_items;
 mod form;
+mod hand_impl;
+mod heads;
+mod impls;
 mod item;
 mod kind;
 mod law;
@@ -43,5 +47,7 @@ mod traits;
 mod trees;
 
 pub use file_items::{FileItem, items};
+pub use hand_impl::{HandImpl, SerdeTrait};
+pub use impls::hand_impls;
 pub use law::items_are_one;
 pub use line_ends::file_text;
