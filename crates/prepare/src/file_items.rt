@@ -57,7 +57,7 @@ fn push_item(
 }
 
 /// The declarations among what stands.
-fn items_in(
+pub(crate) fn items_in(
     alloc: Global,
     file: usize,
     source: &str,

@@ -70,8 +70,17 @@ fn push_impls(
     Ok(())
 }
 
-/// The impls of serde's traits for paths that are written by hand in the source, modules looked into, in its order. What is
-/// for tests alone is among them.
+/// Those of the trees.
+pub(crate) fn impls_of(alloc: Global, trees: &[TokenTree]) -> Result<List<HandImpl>, AllocError>
+    ensures { IfOk result (λ impls. impls ≡ hand_impls (trees_view trees.now)) }
+{
+    let mut impls = List::new(alloc);
+    push_impls(alloc, &mut impls, trees)?;
+    Ok(impls)
+}
+
+/// The impls of serde's traits that are written by hand in the source, in its order: those for a path, in the file or in
+/// modules of it. What is for tests alone is among them, and what stands in blocks of functions is not.
 ///
 /// It refuses a source that has no token trees, as `lexing::lex` does.
 pub fn hand_impls(alloc: Global, source: &str) -> Result<List<HandImpl>, DeriveError>
@@ -79,7 +88,5 @@ pub fn hand_impls(alloc: Global, source: &str) -> Result<List<HandImpl>, DeriveE
     ensures refused { Refuses result (λ e. IsDepthError source.now e ⊎ IsSyntaxError source.now e) }
 {
     let trees = lex(alloc, source)?;
-    let mut impls = List::new(alloc);
-    push_impls(alloc, &mut impls, trees.as_slice())?;
-    Ok(impls)
+    Ok(impls_of(alloc, trees.as_slice())?)
 }

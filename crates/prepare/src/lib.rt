@@ -27,6 +27,7 @@
 #![tactic(auto)]
 
 mod attributes;
+mod contents;
 mod ends;
 mod fields;
 mod file;
@@ -46,8 +47,9 @@ mod standing;
 mod traits;
 mod trees;
 
+pub use contents::{FileParts, file_parts};
 pub use file_items::{FileItem, items};
 pub use hand_impl::{HandImpl, SerdeTrait};
 pub use impls::hand_impls;
-pub use law::items_are_one;
+pub use law::{hand_impls_are_one, items_are_one};
 pub use line_ends::file_text;
