@@ -1,8 +1,7 @@
-//! Rows of the calls that write a configuration's rows: what each is given, and what it must answer.
+//! Rows of what serde makes of names: what each is given, and what it must answer.
 #![tactic(auto)]
 
 mod named;
-mod written;
 
 use anyhow::bail;
 use rows::{Row, run};
@@ -13,7 +12,6 @@ fn told(alloc: Global, row: &Row) -> anyhow::Result<String> {
     let given = &row.given;
     match row.call.as_str() {
         "renamed" => named::named(alloc, given),
-        "renames_of" => written::written(alloc, given),
         other => bail!("no call {other}"),
     }
 }

@@ -56,4 +56,6 @@ is_word text (path_of leading segments s) = not leading && is_only text segments
 
 -- the attributes that are read; others leave nothing
 abbrev pub is_read : WrittenPath → Bool
-is_read path = is_word (codes "doc") path || is_word (codes "serde") path || is_word (codes "schema") path || is_word (codes "repr") path || is_word (codes "deprecated") path
+is_read path =
+    is_word (codes "doc") path || is_word (codes "serde") path || is_word (codes "schema") path || is_word (codes "repr") path || is_word (codes "deprecated") path
+    || is_word (codes "cfg_attr") path || is_word (codes "serde_as") path

@@ -7,7 +7,7 @@
 //!
 //! An identifier may be a keyword or `_`, and expr is all that stands up to the closing bracket. The group behind the
 //! path `serde` is a list of serde's items, which the attribute carries. Attributes of the paths `doc`, `serde`, `schema`,
-//! `repr` and `deprecated` are read; others are checked by the grammar and leave nothing.
+//! `repr`, `deprecated`, `cfg_attr` and `serde_as` are read; others are checked by the grammar and leave nothing.
 #![tactic(auto)]
 
 mod attribute;

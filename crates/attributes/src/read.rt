@@ -28,6 +28,8 @@ fn is_read(path: &Path) -> bool
         || is_word(path, "schema")
         || is_word(path, "repr")
         || is_word(path, "deprecated")
+        || is_word(path, "cfg_attr")
+        || is_word(path, "serde_as")
 }
 
 /// What is read of the attribute between square brackets.

@@ -21,7 +21,7 @@ pub(crate) fn document(alloc: Global, given: &Value) -> anyhow::Result<String> {
         exclude: List::new(alloc),
     };
     match derive_files(alloc, &[source], &selection, Config::new(alloc))? {
-        Outcome::Derived(derived) => {
+        Outcome::Derived(derived, _) => {
             let text = derived.components.to_text(alloc)?;
             Ok(String::from_str(alloc, text.as_str())?)
         }

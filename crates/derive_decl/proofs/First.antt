@@ -5,13 +5,13 @@ use Rattle.std.specs.Option.{option_or}
 use Rattle.std.proofs.lemmas.Option.{none-some}
 use Rattle.attributes.specs.Attributes.{AttributeItem}
 use Rattle.syntax.specs.Items.{DeclaredItem}
-use Rattle.derive_decl.specs.Attributed.{is_other, first_other, attributes_in, attributes_among}
+use Rattle.derive_decl.specs.Attributed.{is_other, other_of, first_other, attributes_in, attributes_among}
 
 pub first_joined : (xs ys : List AttributeItem) → first_other (xs ++ ys) ≡ option_or (first_other xs) (first_other ys)
 first_joined [] ys = refl
 first_joined (a ∷ xs) ys = by (is_other a) (first_joined xs ys)
   where
-    by : (b : Bool) → first_other (xs ++ ys) ≡ option_or (first_other xs) (first_other ys) → cond b (Some a.span) (first_other (xs ++ ys)) ≡ option_or (cond b (Some a.span) (first_other xs)) (first_other ys)
+    by : (b : Bool) → first_other (xs ++ ys) ≡ option_or (first_other xs) (first_other ys) → cond b (Some (other_of a)) (first_other (xs ++ ys)) ≡ option_or (cond b (Some (other_of a)) (first_other xs)) (first_other ys)
     by true h = refl
     by false h = h
 

@@ -33,6 +33,7 @@ use Rattle.scopes.specs.declared.parameters.ParameterKind.TheVariants.{TypesAndC
 use Rattle.shapes.specs.Declarations.{FormOf, named_fields, unnamed_fields, no_fields, BodyOf, fields, units, variants, member_names, variant_names, telling}
 use Rattle.shapes.specs.declared.tagging.Tagging.{Tagging}
 use Rattle.shapes.specs.declared.tagging.Tagging.TheVariants.{External, Internal, Adjacent, Untagged}
+use Rattle.derive_decl.specs.declared.feature.Other.{Other}
 use Rattle.derive_decl.specs.Attributed.{attributes_with, first_other}
 use Rattle.serde_names.specs.Kept.{value_of, kept, is_kept, is_kept_variant, kept_variants, value_of_variant}
 use Rattle.serde_names.specs.Names.{or_as_it_was, name_by, row_message, IsUnwritten}
@@ -229,8 +230,8 @@ module _ (exact : ResolutionIsExact) (decided : NamesDecided) (rules_decided : R
   pub derived_given : (around : Around) (attributes : List AttributeItem) (x : Ident) (body : BodyItem) → IsNamedBody body → RefusesNone (IsFaultyDeclaration around attributes x body) → Given (derived_body around attributes body)
   derived_given around attributes x body have none = by (first_other (attributes_with attributes body)) refl
     where
-      by : (o : Option Span) → first_other (attributes_with attributes body) ≡ o → Given (derived_body around attributes body)
-      by (Some span) at = absurd (none (refusal Syntax span (codes "unexpected text in a declaration")) (inl (span, at, refl)))
+      by : (o : Option Other) → first_other (attributes_with attributes body) ≡ o → Given (derived_body around attributes body)
+      by (Some other) at = absurd (none (refusal Syntax other.span (codes "unexpected text in a declaration")) (inl (other, at, refl)))
       by None at =
           let of = body_given around (serde_items attributes) x body have (λ e fault. none e (inr (at, fault))) in
           (of.0, ap (λ b. cond b (body_of around (serde_items attributes) body) None) (ap is_none at) ∙ of.1)

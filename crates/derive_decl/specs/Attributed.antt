@@ -1,10 +1,12 @@
 -- The attributes of declarations, and those from which nothing is derived.
-use Rattle.std.specs.Prelude.{List, [], ◌∷◌, ◌++◌, ◌||◌, Bool, cond, Option, Some, None, is_none, codes}
+use Rattle.std.specs.Prelude.{ℕ, List, [], ◌∷◌, ◌++◌, ◌||◌, Bool, cond, Option, Some, None, is_none, option_map, codes}
 use Rattle.std.specs.List.{flat_map}
-use Rattle.texts.specs.declared.span.Span.{Span}
 use Rattle.attributes.specs.Attributes.{AttributeItem, is_word}
 use Rattle.serde_rules.specs.Items.{has_item}
 use Rattle.syntax.specs.Items.{FieldItem, FieldItems, named, unnamed, unit, BodyItem, struct_body, enum_body, DeclaredItem}
+use Rattle.derive_decl.specs.declared.feature.Feature.{Feature}
+use Rattle.derive_decl.specs.declared.feature.Feature.TheVariants.{Schema, Repr, Flatten}
+use Rattle.derive_decl.specs.declared.feature.Other.{Other}
 
 abbrev pub fields_in : FieldItems → List FieldItem
 fields_in (named fs) = fs
@@ -33,11 +35,25 @@ attributes_among ds = flat_map attributes_in ds
 abbrev pub is_other : AttributeItem → Bool
 is_other a = is_word (codes "schema") a.path || is_word (codes "repr") a.path || has_item (codes "flatten") a.items
 
--- where the first of these stands
-abbrev pub first_other : List AttributeItem → Option Span
+-- what such an attribute asks for, and where it stands
+abbrev pub other_of : AttributeItem → Other
+other_of a = record { span = a.span; feature = cond (is_word (codes "schema") a.path) Schema (cond (is_word (codes "repr") a.path) Repr Flatten) }
+
+-- the first of these
+abbrev pub first_other : List AttributeItem → Option Other
 first_other [] = None
-first_other (a ∷ others) = cond (is_other a) (Some a.span) (first_other others)
+first_other (a ∷ others) = cond (is_other a) (Some (other_of a)) (first_other others)
 
 -- something is derived from each of these
 abbrev pub are_derivable : List AttributeItem → Bool
 are_derivable attrs = is_none (first_other attrs)
+
+-- how a feature is written
+abbrev pub feature_name : Feature → List ℕ
+feature_name Schema = codes "schema"
+feature_name Repr = codes "repr"
+feature_name Flatten = codes "flatten"
+
+-- the feature that the first attribute of a declaration asks for from which nothing is derived
+abbrev pub first_feature : DeclaredItem → Option Feature
+first_feature d = option_map (λ o. o.feature) (first_other (attributes_in d))

@@ -7,7 +7,6 @@ use Rattle.diag.specs.declared.rename_rule.RenameRule.{RenameRule}
 use Rattle.diag.specs.declared.rename_row.RenameRow.{RenameRow}
 use Rattle.diag.specs.declared.rename_row.RenamePlace.TheVariants.{Field, Variant}
 use Rattle.texts.specs.Lists.{Somewhere}
-use Rattle.texts.specs.declared.span.Span.{Span}
 use Rattle.written_types.specs.declared.written.Ident.{Ident}
 use Rattle.attributes.specs.Attributes.{AttributeItem, serde_items}
 use Rattle.attributes.specs.declared.serde_item.SerdeItem.{SerdeItem}
@@ -20,6 +19,7 @@ use Rattle.scopes.specs.Names.{IsGivenTwice, duplicate_message, place_among}
 use Rattle.shapes.specs.Declarations.{FormOf}
 use Rattle.shapes.specs.declared.tagging.Tagging.{Tagging}
 use Rattle.shapes.specs.declared.tagging.Tagging.TheVariants.{External, Internal, Adjacent, Untagged}
+use Rattle.derive_decl.specs.declared.feature.Other.{Other}
 use Rattle.derive_decl.specs.Attributed.{attributes_with, attributes_among, first_other}
 use Rattle.derive_decl.specs.Lifetimes.{lifetimes_of}
 use Rattle.serde_names.specs.Kept.{value_of, kept, value_of_variant, kept_variants}
@@ -38,7 +38,7 @@ fieldless_message = codes "a tuple form without a field"
 
 -- the error refuses an attribute that nothing is derived from, the first of them
 abbrev pub IsUnderivable : List AttributeItem → DeriveError → Type 0
-IsUnderivable attrs e = (span : Span) × (first_other attrs ≡ Some span) × IsSyntaxRefusal span e
+IsUnderivable attrs e = (other : Other) × (first_other attrs ≡ Some other) × IsSyntaxRefusal other.span e
 
 -- the error refuses declarations for an attribute that nothing is derived from
 abbrev pub AreUnderivable : List DeclaredItem → DeriveError → Type 0

@@ -5,14 +5,14 @@ ghost use Rattle.std.specs.List.{flat_map};
 ghost use Rattle.diag.specs.Refusal.{Refuses};
 ghost use Rattle.attributes.specs.Attributes.{attribute_view};
 ghost use Rattle.syntax.specs.Items.{field_view, fields_view, variant_view, body_view, declaration_view, declarations_view};
-ghost use Rattle.derive_decl.specs.Attributed.{fields_in, attributes_on, attributes_inside, attributes_with, attributes_in, attributes_among, is_other, first_other};
+ghost use Rattle.derive_decl.specs.Attributed.{fields_in, attributes_on, attributes_inside, attributes_with, attributes_in, attributes_among, is_other, other_of, first_other, first_feature};
 ghost use Rattle.derive_decl.specs.Faults.{IsUnderivable, AreUnderivable, AreDerivable};
 
+use crate::feature::{Feature, Other};
 use diag::DeriveError;
 use serde_rules::has_item;
 use std::alloc::Global;
 use syntax::{Attribute, Body, Declaration, Declarations, Field, Fields, Variant};
-use texts::Span;
 
 /// Whether the attribute is one of `schema` or `repr`, or a serde list that flattens.
 fn is_other(attribute: &Attribute) -> bool
@@ -23,35 +23,52 @@ fn is_other(attribute: &Attribute) -> bool
         || has_item(attribute.items.as_slice(), "flatten")
 }
 
-/// Where the attribute stands, if nothing is derived from it.
-fn other(attribute: &Attribute) -> Option<Span>
+/// What the attribute asks for, and where it stands.
+fn other_of(attribute: &Attribute) -> Other
+    ensures { result ≡ other_of (attribute_view attribute.now) }
+{
+    let feature = if attribute.is("schema") {
+        Feature::Schema
+    } else if attribute.is("repr") {
+        Feature::Repr
+    } else {
+        Feature::Flatten
+    };
+    Other {
+        span: attribute.span,
+        feature,
+    }
+}
+
+/// The attribute, if nothing is derived from it.
+fn other(attribute: &Attribute) -> Option<Other>
     ensures { result ≡ first_other (attribute_view attribute.now ∷ []) }
 {
     if is_other(attribute) {
-        Some(attribute.span)
+        Some(other_of(attribute))
     } else {
         None
     }
 }
 
-/// Where the first attribute stands from which nothing is derived.
-fn first_other(attributes: &[Attribute]) -> Option<Span>
+/// The first attribute from which nothing is derived.
+fn first_other(attributes: &[Attribute]) -> Option<Other>
     ensures { result ≡ first_other (map attribute_view attributes.now) }
 {
     for attribute in attributes {
-        if let Some(span) = other(attribute) {
-            return Some(span);
+        if let Some(other) = other(attribute) {
+            return Some(other);
         }
     }
     None
 }
 
-fn first_on_fields(fields: &[Field]) -> Option<Span>
+fn first_on_fields(fields: &[Field]) -> Option<Other>
     ensures { result ≡ first_other (flat_map (λ f. f.attrs) (map field_view fields.now)) }
 {
     for field in fields {
-        if let Some(span) = first_other(field.attrs.as_slice()) {
-            return Some(span);
+        if let Some(other) = first_other(field.attrs.as_slice()) {
+            return Some(other);
         }
     }
     None
@@ -68,7 +85,7 @@ fn fields_of(fields: &Fields) -> &[Field]
 }
 
 #[tactic(auto, using(crate::proofs::First::first_joined))]
-fn first_on_variant(variant: &Variant) -> Option<Span>
+fn first_on_variant(variant: &Variant) -> Option<Other>
     ensures { result ≡ first_other ((variant_view variant.now).attrs
         ++ attributes_on (variant_view variant.now).fields) }
 {
@@ -77,19 +94,19 @@ fn first_on_variant(variant: &Variant) -> Option<Span>
     before.or(inside)
 }
 
-fn first_on_variants(variants: &[Variant]) -> Option<Span>
+fn first_on_variants(variants: &[Variant]) -> Option<Other>
     ensures { result ≡ first_other (flat_map (λ v. v.attrs ++ attributes_on v.fields)
         (map variant_view variants.now)) }
 {
     for variant in variants {
-        if let Some(span) = first_on_variant(variant) {
-            return Some(span);
+        if let Some(other) = first_on_variant(variant) {
+            return Some(other);
         }
     }
     None
 }
 
-fn first_inside(body: &Body) -> Option<Span>
+fn first_inside(body: &Body) -> Option<Other>
     ensures { result ≡ first_other (attributes_inside (body_view body.now)) }
 {
     match body {
@@ -99,7 +116,7 @@ fn first_inside(body: &Body) -> Option<Span>
 }
 
 #[tactic(auto, using(crate::proofs::First::first_joined))]
-fn first_with(attributes: &[Attribute], body: &Body) -> Option<Span>
+fn first_with(attributes: &[Attribute], body: &Body) -> Option<Other>
     ensures { result ≡ first_other
         (attributes_with (map attribute_view attributes.now) (body_view body.now)) }
 {
@@ -108,18 +125,28 @@ fn first_with(attributes: &[Attribute], body: &Body) -> Option<Span>
     before.or(inside)
 }
 
-fn first_in(declaration: &Declaration) -> Option<Span>
+fn first_in(declaration: &Declaration) -> Option<Other>
     ensures { result ≡ first_other (attributes_in (declaration_view declaration.now)) }
 {
     first_with(declaration.attrs.as_slice(), &declaration.body)
 }
 
-fn first_among(declarations: &[Declaration]) -> Option<Span>
+/// What the first attribute of the declaration asks for from which nothing is derived.
+pub fn first_feature(declaration: &Declaration) -> Option<Feature>
+    ensures { result ≡ first_feature (declaration_view declaration.now) }
+{
+    match first_in(declaration) {
+        Some(other) => Some(other.feature),
+        None => None,
+    }
+}
+
+fn first_among(declarations: &[Declaration]) -> Option<Other>
     ensures { result ≡ first_other (attributes_among (map declaration_view declarations.now)) }
 {
     for declaration in declarations {
-        if let Some(span) = first_in(declaration) {
-            return Some(span);
+        if let Some(other) = first_in(declaration) {
+            return Some(other);
         }
     }
     None
@@ -138,7 +165,7 @@ pub(crate) fn derivable(
         (attributes_with (map attribute_view attributes.now) (body_view body.now))) }
 {
     match first_with(attributes, body) {
-        Some(span) => Err(DeriveError::syntax(alloc, span)),
+        Some(other) => Err(DeriveError::syntax(alloc, other.span)),
         None => Ok(()),
     }
 }
@@ -150,7 +177,7 @@ pub fn only_derivable(alloc: Global, declarations: &Declarations) -> Result<(), 
     ensures refused { Refuses result (AreUnderivable (declarations_view declarations.now)) }
 {
     match first_among(declarations.items.as_slice()) {
-        Some(span) => Err(DeriveError::syntax(alloc, span)),
+        Some(other) => Err(DeriveError::syntax(alloc, other.span)),
         None => Ok(()),
     }
 }

@@ -1,3 +1,6 @@
-mod Aliased
-mod Sound
-mod Stages
+pub mod Aliased
+pub mod Hundred
+pub mod Sound
+pub mod Spanned
+pub mod Stages
+pub mod Written

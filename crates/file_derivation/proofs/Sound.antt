@@ -1,5 +1,5 @@
 -- Of sound files nothing is told.
-use Rattle.std.proofs.Common.{◌≡◌, ◌∙◌, ◌⊎◌, inl, inr, refl, ap, sym, subst, ℕ, zero, suc, List, [], ◌∷◌, length, Bool, true, false, cond, bytes_eq, Some, option_map, arith, ◌<◌}
+use Rattle.std.proofs.Common.{◌≡◌, ◌∙◌, ◌⊎◌, inl, inr, refl, ap, sym, subst, ℕ, zero, suc, List, [], ◌∷◌, length, Bool, true, false, cond, bytes_eq, Some, None, option_map, arith, ◌<◌}
 use Rattle.std.specs.Prelude.{slice_get}
 use Rattle.std.proofs.lemmas.Bool.{or_left, or_right}
 use Rattle.std.proofs.lemmas.Option.{none-some, same_Some}
@@ -27,10 +27,11 @@ use Rattle.gathering.specs.Reading.{AreRead}
 use Rattle.gathering.specs.Laws.{GatheredAsOne, ReadAsOne}
 use Rattle.gathering.specs.Selected.{AreThose, no_others, one_holds, one_fails, AreSelected, unknown_in}
 use Rattle.gathering.specs.declared.selection.Selection.{Selection}
-use Rattle.file_derivation.specs.Faults.{AreFaults, none_yet, is_clear, is_faulty}
+use Rattle.file_derivation.specs.Faults.{AreFaults, none_yet, one_more}
+use Rattle.file_derivation.specs.Helps.{Origin}
 use Rattle.serde_names.specs.Asked.{asked_of}
 use Rattle.renaming.specs.Rows.{AreRowsOf}
-use Rattle.file_derivation.specs.Outcomes.{names_of, AreDeclaredIn, aliases_of, Selects, AreTold, of_files, of_only, of_exclude, of_length, of_items, of_declarations, of_bounds, bytes_of, AreSound, SoundAreNotTold}
+use Rattle.file_derivation.specs.Outcomes.{names_of, origin_of, AreDeclaredIn, aliases_of, Selects, AreTold, of_files, of_only, of_exclude, of_length, of_items, of_declarations, of_bounds, bytes_of, AreSound, SoundAreNotTold}
 
 -- ---- names
 
@@ -83,10 +84,10 @@ module _ (decide : RepeatOrNot) (c : Configuration) (ds : List DeclaredItem) (cl
   none_at at e (d, found, inl second) = second.0 (found_at (declared_names ds) at d.ident.text distinct (names_at ds at d found))
   none_at at e (d, found, inr itself) = clear.faultless e (inr (somewhere_at (λ x. IsFaultyItem (around_of c ds x.ident.text x.generics) x e) ds at d found itself.1))
 
-  no_faults : {names : List (List ℕ)} {from : List FileItem} {n : ℕ} {faults : List Told} → AreFaults c ds names from n faults → faults ≡ []
+  no_faults : {o : Origin} {n : ℕ} {faults : List Told} → AreFaults c ds o n faults → faults ≡ []
   no_faults none_yet = refl
-  no_faults (is_clear more none) = no_faults more
-  no_faults (is_faulty {at = at} {d = d} more from fault) = absurd (none_at at (Refused d) fault)
+  no_faults (one_more None more none) = no_faults more
+  no_faults (one_more {at = at} (Some told) more (x, i, d, found, from, fault, is)) = absurd (none_at at (Refused d) fault)
 
   not_refused : BoundedAreNotRefused → ((ss : List DeclarationOf) → resolved_declarations c ds ≡ Some ss → AreBounded c ss) → (e : DeriveError) → AreRefused c ds e → ⊥
   not_refused law bounded e (inl (inl (span, other, refusal))) = absurd (none-some span (sym clear.derivable ∙ other))
@@ -128,7 +129,7 @@ module _ (law : BoundedAreNotRefused) (decide : RepeatOrNot) (gathered : Gathere
   not_told told (of_declarations {from = from} {ds = ds} {rows = rows} g selects r faults some) =
       let same : h.declarations ≡ ds = (same_read g selects r.read).0 in
       let rows_are = subst (λ v. AreRowsOf (asked_of v) rows) (sym same) r.rows_are in
-      some (no_faults decide (with_rows c rows) h.declarations (h.clear rows rows_are) (subst (λ v. AreFaults (with_rows c rows) v (names_of files) from (length v) told) (sym same) faults))
+      some (no_faults decide (with_rows c rows) h.declarations (h.clear rows rows_are) (subst (λ v. AreFaults (with_rows c rows) v (origin_of (names_of files) s from) (length v) told) (sym same) faults))
   not_told told (of_bounds {ds = ds} {rows = rows} {d = d} g selects r faults refused) =
       let same : h.declarations ≡ ds = (same_read g selects r.read).0 in
       let rows_are = subst (λ v. AreRowsOf (asked_of v) rows) (sym same) r.rows_are in

@@ -41,15 +41,15 @@ none_told true h e = h.0 refl
 none_told false h e = cc
 
 pub derived_of : (s : Selection) (c : Configuration) (files : List FileOf) (outcome : Outcome) → IsOutcome s c files outcome → IfDerived (AreDerivedFrom s c files) outcome
-derived_of s c files (outcomes.Derived d) is = is
+derived_of s c files (outcomes.Derived d warnings) is = is
 derived_of s c files (outcomes.Refused told) is = tt
 
 pub refused_of : (s : Selection) (c : Configuration) (files : List FileOf) (outcome : Outcome) → IsOutcome s c files outcome → IfRefused (AreTold s c files) outcome
-refused_of s c files (outcomes.Derived d) is = tt
+refused_of s c files (outcomes.Derived d warnings) is = tt
 refused_of s c files (outcomes.Refused told) is = is
 
 pub derivation_of : (s : Selection) (c : Configuration) (files : List FileOf) (outcome : Outcome) → IsOutcome s c files outcome → ((told : List Told) → AreTold s c files told → ⊥) → IsDerivation outcome
-derivation_of s c files (outcomes.Derived d) is h = tt
+derivation_of s c files (outcomes.Derived d warnings) is h = tt
 derivation_of s c files (outcomes.Refused told) is h = h told is
 
 -- as many declarations as those that they are read from

@@ -1,5 +1,5 @@
 -- The faults of declarations that are read of files.
-use Rattle.std.specs.Prelude.{◌≡◌, ℕ, suc, List, [], ◌∷◌, ◌++◌, slice_get, Some}
+use Rattle.std.specs.Prelude.{◌≡◌, ℕ, suc, List, [], ◌∷◌, ◌++◌, slice_get, Option, Some, None}
 use Rattle.diag.specs.Refusal.{RefusesNone}
 use Rattle.diag.specs.declared.diagnostics.DiangosticsInner.{DiangosticsInner}
 use Rattle.diag.specs.declared.error.DeriveError.TheVariants.{Refused}
@@ -8,11 +8,20 @@ use Rattle.syntax.specs.Items.{DeclaredItem}
 use Rattle.derive_decl.specs.Faults.{IsFaultyAt}
 use Rattle.telling.specs.declared.told.Told.{Told}
 use Rattle.prepare.specs.declared.file_items.FileItem.{FileItem}
-use Rattle.gathering.specs.Reading.{told_of}
+use Rattle.file_derivation.specs.Helps.{Origin, told_fault}
 
--- Of the first so many declarations, each read from the text of one of these, each is without fault, or one of its faults is told, in order.
-pub data AreFaults (c : Configuration) (ds : List DeclaredItem) (names : List (List ℕ)) (from : List FileItem) : ℕ → List Told → Type 0 where
-  none_yet : AreFaults c ds names from 0 []
-  is_clear : {at : ℕ} {faults : List Told} → AreFaults c ds names from at faults → RefusesNone (IsFaultyAt c ds at) → AreFaults c ds names from (suc at) faults
-  is_faulty : {at : ℕ} {faults : List Told} {i : FileItem} {d : List DiangosticsInner} → AreFaults c ds names from at faults → slice_get from at ≡ Some i → IsFaultyAt c ds at (Refused d)
-      → AreFaults c ds names from (suc at) (faults ++ told_of names i d ∷ [])
+-- The declaration at the place is without fault, or this is told of one of its faults.
+abbrev pub IsFaultAt : Configuration → List DeclaredItem → Origin → ℕ → Option Told → Type 0
+IsFaultAt c ds o at None = RefusesNone (IsFaultyAt c ds at)
+IsFaultAt c ds o at (Some told) =
+    (x : DeclaredItem) × (i : FileItem) × (d : List DiangosticsInner)
+    × (slice_get ds at ≡ Some x) × (slice_get o.from at ≡ Some i) × IsFaultyAt c ds at (Refused d) × (told ≡ told_fault o ds at x i d)
+
+abbrev pub with_told : List Told → Option Told → List Told
+with_told faults None = faults
+with_told faults (Some told) = faults ++ told ∷ []
+
+-- Of the first so many declarations, of this origin, each is without fault, or one of its faults is told, in order.
+pub data AreFaults (c : Configuration) (ds : List DeclaredItem) (o : Origin) : ℕ → List Told → Type 0 where
+  none_yet : AreFaults c ds o 0 []
+  one_more : {at : ℕ} {faults : List Told} (told : Option Told) → AreFaults c ds o at faults → IsFaultAt c ds o at told → AreFaults c ds o (suc at) (with_told faults told)

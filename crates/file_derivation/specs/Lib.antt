@@ -1,2 +1,4 @@
 pub mod Faults
+pub mod Helps
 pub mod Outcomes
+pub mod Warned

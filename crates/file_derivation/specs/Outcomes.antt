@@ -18,12 +18,15 @@ use Rattle.serde_names.specs.Asked.{asked_of}
 use Rattle.renaming.specs.Rows.{AreRowsOf}
 use Rattle.telling.specs.declared.told.Told.{Told}
 use Rattle.prepare.specs.declared.file_items.FileItem.{FileItem}
-use Rattle.gathering.specs.Files.{FileOf, AreGathered, most_bytes}
+use Rattle.gathering.specs.Files.{FileOf, AreGathered, HaveImpls, most_bytes}
+use Rattle.gathering.specs.declared.file_impls.FileImpl.{FileImpl}
 use Rattle.gathering.specs.Reading.{AreRead}
 use Rattle.gathering.specs.Selected.{AreSelected, unknown_in}
 use Rattle.gathering.specs.Telling.{told_plainly, told_unplaced}
 use Rattle.gathering.specs.declared.selection.Selection.{Selection}
 use Rattle.file_derivation.specs.Faults.{AreFaults}
+use Rattle.file_derivation.specs.Helps.{Origin}
+use Rattle.file_derivation.specs.Warned.{AreAllWarned, AreFirst}
 use Rattle.file_derivation.specs.declared.derive.Outcome.{Outcome}
 use Rattle.file_derivation.specs.declared.derive.Outcome.TheVariants as outcomes
 use Rattle.file_derivation.specs.declared.derive.Refusal.{Refusal}
@@ -63,10 +66,14 @@ pub record AreReadWhole (names : List (List ℕ)) (chosen from : List FileItem) 
   pub read : AreRead names chosen from ds []
   pub rows_are : AreRowsOf (asked_of ds) rows
 
+-- the origin of declarations that are read of these files and selected so
+abbrev pub origin_of : List (List ℕ) → Selection → List FileItem → Origin
+origin_of names s from = record { names = names; excluded = s.exclude; from = from }
+
 -- ---- the answers
 
--- The components are those of the declarations that are selected of the files, each read from its own text, with the rows of their names behind those of the configuration; their document describes what the declarations are resolved to.
-pub record AreDerivedFrom (s : Selection) (c : Configuration) (files : List FileOf) (components : List Entry) : Type 0 where
+-- The components are those of the declarations that are selected of the files, each read from its own text, with the rows of their names behind those of the configuration; their document describes what the declarations are resolved to, and these are the warnings.
+pub record AreDerivedFrom (s : Selection) (c : Configuration) (files : List FileOf) (components : List Entry) (warnings : List Told) : Type 0 where
   pub all : List FileItem
   pub declared : AreDeclaredIn files all
   pub chosen : List FileItem
@@ -77,6 +84,9 @@ pub record AreDerivedFrom (s : Selection) (c : Configuration) (files : List File
   pub read : AreReadWhole (names_of files) chosen from declarations rows
   pub derived : AreDerived (with_rows c rows) declarations components
   pub describes : Describes derived.resolved (collects_all c.collect) (document components)
+  pub impls : List FileImpl
+  pub written : HaveImpls 0 files impls
+  pub warned : AreAllWarned (names_of files) declarations from impls components warnings
 
 abbrev pub unknown_message : List ℕ → List ℕ
 unknown_message name = codes "no declaration has the name " ++ name
@@ -96,9 +106,9 @@ pub data AreTold (s : Selection) (c : Configuration) (files : List FileOf) : Lis
   of_items : {all chosen from : List FileItem} {ds : List DeclaredItem} {faults : List Told} → AreDeclaredIn files all → Selects s c all chosen → bytes_of chosen ≤ most_bytes → AreRead (names_of files) chosen from ds faults → faults ≢ []
       → AreTold s c files faults
   of_declarations : {all chosen from : List FileItem} {ds : List DeclaredItem} {rows : List RenameRow} {faults : List Told} → AreDeclaredIn files all → Selects s c all chosen → AreReadWhole (names_of files) chosen from ds rows
-      → AreFaults (with_rows c rows) ds (names_of files) from (length ds) faults → faults ≢ [] → AreTold s c files faults
+      → AreFaults (with_rows c rows) ds (origin_of (names_of files) s from) (length ds) faults → faults ≢ [] → AreTold s c files faults
   of_bounds : {all chosen from : List FileItem} {ds : List DeclaredItem} {rows : List RenameRow} {d : List DiangosticsInner} → AreDeclaredIn files all → Selects s c all chosen → AreReadWhole (names_of files) chosen from ds rows
-      → AreFaults (with_rows c rows) ds (names_of files) from (length ds) [] → AreRefused (with_rows c rows) ds (Refused d) → AreTold s c files (told_unplaced [] d ∷ [])
+      → AreFaults (with_rows c rows) ds (origin_of (names_of files) s from) (length ds) [] → AreRefused (with_rows c rows) ds (Refused d) → AreTold s c files (told_unplaced [] d ∷ [])
 
 -- Nothing refuses the files: each has its declarations, the selection is of known names, what is selected is read, and with the rows of its names no declaration is at fault and nothing is beyond a bound.
 pub record AreSound (s : Selection) (c : Configuration) (files : List FileOf) : Type 0 where
@@ -118,7 +128,7 @@ abbrev pub SoundAreNotTold : Type 0
 SoundAreNotTold = (s : Selection) (c : Configuration) (files : List FileOf) (told : List Told) → AreSound s c files → ¬ (AreTold s c files told)
 
 abbrev pub IsOutcome : Selection → Configuration → List FileOf → Outcome → Type 0
-IsOutcome s c files (outcomes.Derived d) = AreDerivedFrom s c files d.components
+IsOutcome s c files (outcomes.Derived d warnings) = (all : List Told) × AreDerivedFrom s c files d.components all × AreFirst all warnings
 IsOutcome s c files (outcomes.Refused told) = AreTold s c files told
 
 -- ---- what functions answer on the way
@@ -133,19 +143,19 @@ abbrev pub IfToldOf : Selection → Configuration → List FileItem → Refusal 
 IfToldOf s c all refusal = IfToldIs (λ told. (files : List FileOf) → AreDeclaredIn files all → AreTold s c files told) refusal
 
 -- what is told of the declarations that these items read as: their faults, or else this refusal
-abbrev pub AreToldOf : Configuration → List (List ℕ) → List FileItem → List DiangosticsInner → List Told → Type 0
-AreToldOf c names items d told = (from : List FileItem) (ds : List DeclaredItem) → AreRead names items from ds [] →
-    (AreFaults c ds names from (length ds) told × (told ≢ [])) ⊎ (AreFaults c ds names from (length ds) [] × (told ≡ told_unplaced [] d ∷ []))
+abbrev pub AreToldOf : Selection → Configuration → List (List ℕ) → List FileItem → List DiangosticsInner → List Told → Type 0
+AreToldOf s c names items d told = (from : List FileItem) (ds : List DeclaredItem) → AreRead names items from ds [] →
+    (AreFaults c ds (origin_of names s from) (length ds) told × (told ≢ [])) ⊎ (AreFaults c ds (origin_of names s from) (length ds) [] × (told ≡ told_unplaced [] d ∷ []))
 
 -- what holds of an outcome that is one or the other
-abbrev pub IfDerived : (List Entry → Type 0) → Outcome → Type 0
-IfDerived Is (outcomes.Derived d) = Is d.components
+abbrev pub IfDerived : (List Entry → List Told → Type 0) → Outcome → Type 0
+IfDerived Is (outcomes.Derived d warnings) = (all : List Told) × Is d.components all × AreFirst all warnings
 IfDerived Is (outcomes.Refused told) = Unit {0}
 
 abbrev pub IfRefused : (List Told → Type 0) → Outcome → Type 0
-IfRefused Is (outcomes.Derived d) = Unit {0}
+IfRefused Is (outcomes.Derived d warnings) = Unit {0}
 IfRefused Is (outcomes.Refused told) = Is told
 
 abbrev pub IsDerivation : Outcome → Type 0
-IsDerivation (outcomes.Derived d) = Unit {0}
+IsDerivation (outcomes.Derived d warnings) = Unit {0}
 IsDerivation (outcomes.Refused told) = ⊥

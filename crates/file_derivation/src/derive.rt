@@ -1,21 +1,24 @@
 //! From files to components, or to what is told.
 
-ghost use Rattle.std.specs.Prelude.{◌≡◌, ◌<◌, ◌≤◌, [], ◌∷◌, List as AnyList, map, MatchBool, IfOk, IfErr};
+ghost use Rattle.std.specs.Prelude.{◌≡◌, ◌<◌, ◌≤◌, [], ◌∷◌, ◌++◌, List as AnyList, map, MatchBool, IfOk, IfErr};
 ghost use Rattle.configuration.specs.Configuration.{Configuration};
-ghost use Rattle.gathering.specs.Files.{FileOf, file_of, Gathers, most_bytes};
+ghost use Rattle.gathering.specs.Files.{FileOf, file_of, Gathers, HaveImpls, most_bytes};
 ghost use Rattle.gathering.specs.Telling.{told_plainly};
+ghost use Rattle.telling.specs.declared.told.Told.{Told as AnyTold};
+ghost use Rattle.file_derivation.specs.Warned.{has_some, told_nothing, AreFirst};
 ghost use Rattle.file_derivation.specs.Outcomes.{names_of, AreDeclaredIn, AreKnown, Selects, bytes_of, unknown_message, AreDerivedFrom, AreTold, AreToldOf, IfToldIs, IfToldOf, IsOutcome, IfDerived, IfRefused, IsDerivation, AreSound};
 
 use crate::aliases::aliases_of;
 use crate::faults::faults_of;
 use crate::law::sound_are_not_told;
 use crate::rows::push_rows;
+use crate::warned::{Warnings, warnings_from};
 use compose::{Derived, derive_declarations};
 use configuration::Config;
 use diag::{DeriveError, Diagnostics};
 use gathering::{
-    Gathered, Selection, Source, one_reading_of_items, read_items, selected, told_plainly,
-    told_unplaced, unknown_name,
+    FileImpl, Gathered, Reading, Selection, Source, one_reading_of_items, read_items, selected,
+    told_plainly, told_unplaced, unknown_name,
 };
 use prepare::FileItem;
 use renaming::rows_of;
@@ -26,10 +29,10 @@ use texts::{List, Text};
 /// The most bytes of the declarations that are selected.
 const MOST_BYTES: usize = 16_777_216;
 
-/// What is derived of files, or what is told of their faults.
+/// What is derived of files, and what they are warned of; or what is told of their faults.
 #[derive(Drop)]
 pub enum Outcome {
-    Derived(Derived),
+    Derived(Derived, Warnings),
     Refused(List<Told>),
 }
 
@@ -132,32 +135,52 @@ fn told_of(
     alloc: Global,
     names: &[Text],
     items: &[&FileItem],
+    selection: &Selection,
     config: &Config,
     refusal: &Diagnostics,
 ) -> Result<List<Told>, AllocError>
-    ensures { IfOk result (AreToldOf config.now names.now (map (λ i. i.now) items.now) refusal.now) }
+    ensures { IfOk result (AreToldOf selection.now config.now names.now
+        (map (λ i. i.now) items.now) refusal.now) }
 {
     one_reading_of_items();
     let reading = read_items(alloc, names, items)?;
     let from = reading.from.as_slice();
-    let mut faults = faults_of(alloc, names, from, &reading.declarations, config)?;
+    let excluded = selection.exclude.as_slice();
+    let mut faults = faults_of(alloc, names, excluded, from, &reading.declarations, config)?;
     if faults.is_empty() {
         faults.push(told_unplaced(alloc, "", refusal)?)?;
     }
     Ok(faults)
 }
 
-/// What is derived of the declarations that are selected.
+/// What is derived, with the warnings, and the one that nothing is described, where that is so.
+fn with_warnings(
+    alloc: Global,
+    derived: Derived,
+    mut warnings: Warnings,
+    is_declared: bool,
+) -> Result<(Derived, Warnings), AllocError>
+    ensures derived { IfOk result (λ d. d.0 ≡ derived) }
+    ensures warned { IfOk result (λ d. (all : AnyList AnyTold) → AreFirst all warnings
+        → AreFirst (all ++ told_nothing is_declared (has_some derived.components)) d.1) }
+{
+    let is_described = !derived.components.names().is_empty();
+    warnings.add_nothing(alloc, is_declared, is_described)?;
+    Ok((derived, warnings))
+}
+
+/// What is derived of the declarations that are selected, and what they are warned of.
 fn derive(
     alloc: Global,
     names: &[Text],
     items: &[FileItem],
+    impls: &[FileImpl],
     selection: &Selection,
     mut config: Config,
-) -> Result<Derived, Refusal>
+) -> Result<(Derived, Warnings), Refusal>
     ensures derived { IfOk result (λ d. (files : AnyList FileOf) → names.now ≡ names_of files
-        → AreDeclaredIn files items.now
-        → AreDerivedFrom selection.now config files d.components) }
+        → AreDeclaredIn files items.now → HaveImpls 0 files impls.now → (all : AnyList AnyTold)
+        × AreDerivedFrom selection.now config files d.0.components all × AreFirst all d.1) }
     ensures told { IfErr result (IfToldIs (λ told. (files : AnyList FileOf)
         → names.now ≡ names_of files → AreDeclaredIn files items.now
         → AreTold selection.now config files told)) }
@@ -173,11 +196,19 @@ fn derive(
         return Err(Refusal::Memory);
     };
     push_rows(alloc, &mut config, rows.as_slice())?;
-    match derive_declarations(alloc, reading.declarations, &config) {
-        Ok(derived) => Ok(derived),
+    let Reading {
+        declarations,
+        from,
+        ..
+    } = reading;
+    let mut warnings = warnings_from(alloc, names, from.as_slice(), &declarations)?;
+    warnings.add_impls(alloc, names, &declarations, impls)?;
+    let is_declared = !declarations.items.is_empty();
+    match derive_declarations(alloc, declarations, &config) {
+        Ok(derived) => Ok(with_warnings(alloc, derived, warnings, is_declared)?),
         Err(DeriveError::Memory) => Err(Refusal::Memory),
         Err(DeriveError::Refused(refusal)) => {
-            let told = told_of(alloc, names, chosen, &config, &refusal)?;
+            let told = told_of(alloc, names, chosen, selection, &config, &refusal)?;
             Err(Refusal::Told(told))
         }
     }
@@ -189,7 +220,7 @@ fn derive(
 /// rules stand behind those of the configuration. Told are the faults of all files, or else a name of the selection that no
 /// declaration has, or else that the texts of what is selected have more than 16,777,216 bytes, or else the faults of all
 /// declarations that cannot be read, or else of each declaration the first fault, or else that the instances are beyond a
-/// bound.
+/// bound. Where something is derived, the warnings say of which of serde's attributes the JSON is another than the schemas say.
 pub fn derive_gathered(
     alloc: Global,
     gathered: Gathered,
@@ -202,13 +233,15 @@ pub fn derive_gathered(
     let Gathered {
         names,
         items,
+        impls,
         faults,
     } = gathered;
     if !faults.is_empty() {
         return Ok(Outcome::Refused(faults));
     }
-    match derive(alloc, names.as_slice(), items.as_slice(), selection, config) {
-        Ok(derived) => Ok(Outcome::Derived(derived)),
+    let (names, items, impls) = (names.as_slice(), items.as_slice(), impls.as_slice());
+    match derive(alloc, names, items, impls, selection, config) {
+        Ok((derived, warnings)) => Ok(Outcome::Derived(derived, warnings)),
         Err(Refusal::Told(told)) => Ok(Outcome::Refused(told)),
         Err(Refusal::Memory) => Err(AllocError),
     }

@@ -4,8 +4,11 @@
 mod aliases;
 mod derive;
 mod faults;
+mod helps;
 mod law;
 mod rows;
+mod warned;
 
 pub use derive::{Outcome, derive_files, derive_gathered};
 pub use law::sound_are_not_told;
+pub use warned::Warnings;

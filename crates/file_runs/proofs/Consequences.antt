@@ -1,10 +1,9 @@
 -- What follows from what a run owes.
 use Rattle.std.proofs.Common.{◌≡◌, ◌∙◌, ◌⊎◌, ℕ, List, Option, Some, None, Result, Ok, Err, codes, inl, inr, refl, sym, subst}
-use Rattle.files.specs.declared.cause.Cause.{Cause}
 use Rattle.reporting.specs.Beginning.{Beginning}
 use Rattle.file_runs.specs.Owed.{Owed, IsDone, IsRefused, IsTold, IsSound, SoundRunsAreNotRefused}
-use Rattle.file_runs.specs.Reports.{misuse_text, fault_line}
-use Rattle.file_runs.specs.Words.{Ask, AskFor, AreMisused, NameInput, NamePath}
+use Rattle.file_runs.specs.Reports.{misuse_text}
+use Rattle.file_runs.specs.Words.{Ask, AskFor, AreMisused, NameInput}
 use Rattle.file_runs.specs.declared.request.Misuse.{Misuse}
 use Rattle.file_runs.specs.declared.request.Question.{Question}
 use Rattle.file_runs.specs.declared.request.Request.{Request}
@@ -35,10 +34,11 @@ module _ (begun : Beginning) where
 
   why : (status : Status) (text report : List ℕ) → Owed begun status text report → Why status
   unfolding Owed
-  why Done text report (inl document, none) = asked document.is_given.asked
-  why Done text report (inr answer, none) = answered answer.1
+  why Done text report (inl document) = asked document.is_given.asked
+  why Done text report (inr (answer, none)) = answered answer.1
   why Refused text report (inl configuration, none) = asked configuration.asked
-  why Refused text report (inr files, none) = asked files.is_given.asked
+  why Refused text report (inr (inl files), none) = asked files.is_given.asked
+  why Refused text report (inr (inr warned), none) = asked warned.is_given.asked
   why Usage text report ((misuse, are, is), none) = misused are
   why ReadFault text report ((request, asks, of), none, is) = asked asks
   why WriteFault text report owed = absurd owed
@@ -63,9 +63,9 @@ module _ (begun : Beginning) (status : Status) (text report : List ℕ) (owed : 
   owed_as : (other : Status) → status ≡ other → Owed begun other text report
   owed_as other is = subst (λ s. Owed begun s text report) is owed
 
-  pub done_owed : status ≡ Done → IsDone begun text
+  pub done_owed : status ≡ Done → IsDone begun text report
   unfolding Owed
-  done_owed is = (owed_as Done is).0
+  done_owed is = owed_as Done is
 
   pub refused_owed : status ≡ Refused → IsRefused begun report
   unfolding Owed
@@ -82,10 +82,6 @@ module _ (begun : Beginning) (status : Status) (text report : List ℕ) (owed : 
   pub read_line : status ≡ ReadFault → report ≡ codes "-: cannot be read\n"
   unfolding Owed
   read_line is = (owed_as ReadFault is).2
-
-  pub file_owed : status ≡ FileFault → (path : List ℕ) × (cause : Cause) × NamePath begun.words path × (report ≡ fault_line path cause)
-  unfolding Owed
-  file_owed is = (owed_as FileFault is).0
 
   pub only_usage : (misuse : Misuse) → AreMisused begun.words misuse → (status ≡ Usage) ⊎ (status ≡ Memory) ⊎ (status ≡ WriteFault)
   only_usage misuse are = misused_why begun misuse are status (why begun status text report owed)

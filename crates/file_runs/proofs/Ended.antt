@@ -4,7 +4,8 @@ use Rattle.std.proofs.lemmas.Bool.{false≢true}
 use Rattle.std.proofs.lemmas.Slice.Eq.{bytes_eq-Decides}
 use Rattle.std.specs.Io.KnownBytes.{IsAtEnd}
 use Rattle.files.specs.Held.{IsHeld}
-use Rattle.schema_core.specs.Document.{Entry, document, text_of}
+use Rattle.schema_core.specs.Document.{Entry}
+use Rattle.telling.specs.declared.told.Told.{Told}
 use Rattle.configuration.specs.Configuration.{Configuration}
 use Rattle.configuration.specs.Form.{IsConfigurationText}
 use Rattle.configuration.specs.Said.{IsSaidBy}
@@ -12,13 +13,15 @@ use Rattle.prepare.specs.declared.file_items.FileItem.{FileItem}
 use Rattle.texts.specs.Names.{is_in}
 use Rattle.gathering.specs.Files.{FileOf, AreGathered, has_items, Gathers}
 use Rattle.gathering.specs.declared.gathered.Gathered.{Gathered}
-use Rattle.gathering.specs.declared.selection.Selection.{Selection}
 use Rattle.file_derivation.specs.Outcomes.{AreDerivedFrom}
+use Rattle.file_derivation.specs.Warned.{AreFirst}
+use Rattle.file_derivation.specs.declared.warned.Warnings.{Warnings}
 use Rattle.reporting.specs.Beginning.{Beginning}
-use Rattle.file_runs.specs.Contents.{IsTextBy, IsTextAt, TellsFile, TellsInput, TellsConfig, EndsReading, EndsDerivation, EndsWords}
+use Rattle.file_runs.specs.Contents.{IsTextBy, IsTextAt, TellsFile, TellsInput, TellsConfig, EndsReading, RefusesFiles, EndsStrict, EndsDerivation, EndsWords}
 use Rattle.file_runs.specs.Given.{Given, IsGiven, AreFilesAt, HasBytes, RefusesConfig}
-use Rattle.file_runs.specs.Owed.{Owed, IsEnding, IsEndingAt, status_of, status_at, ending_of}
+use Rattle.file_runs.specs.Owed.{Owed, IsEnding, IsEndingAt, IsWritten, status_of, status_at, ending_of}
 use Rattle.file_runs.specs.Words.{is_input, AskFor, IsOfInput, IsOfPath, NameInput}
+use Rattle.file_runs.specs.declared.document.Written.{Written}
 use Rattle.file_runs.specs.declared.ending.Ending.{Ending}
 use Rattle.file_runs.specs.declared.ending.Ending.TheVariants.{Done, Refused, Usage, ReadFault, Memory, FileFault}
 use Rattle.file_runs.specs.declared.request.Request.{Request}
@@ -36,7 +39,7 @@ module _ (begun : Beginning) (r : Request) (asked : AskFor begun.words r) (tells
   reading_ends (FileFault report) (path, cause, of, is) = ((path, cause, (r, asked, of), is), refl)
   reading_ends ReadFault of = ((r, asked, of), refl, refl)
   reading_ends Memory of = (refl, refl)
-  reading_ends (Done text) of = absurd of
+  reading_ends (Done text beside) of = absurd of
   reading_ends (Usage report) of = absurd of
 
   -- what is read is what it is given
@@ -53,22 +56,33 @@ module _ (begun : Beginning) (r : Request) (asked : AskFor begun.words r) (tells
     files = each_other (IsTextAt tells held had has) (HasBytes begun) (λ path text is. begun_with begun (is_input path) tells (held path) had has path text same (holds path) left is) r.files of are;
   }
 
+-- what is written is the document of what the request selects of the files
+abbrev pub MakesDocument : Request → Configuration → List FileOf → Written → Type 0
+MakesDocument r c files written =
+    (components : List Entry) × (warnings : List Told) × AreDerivedFrom r.selection c files components warnings × IsWritten r.strict components warnings written
+
 module _ (begun : Beginning) (given : Given) (is : IsGiven begun given) where
-  -- a run that is given this may end where nothing is derived of it, and with its document
-  pub derivation_ends : (gathered : Gathered) (ending : Ending) → Gathers given.files gathered → EndsDerivation given.request.selection given.config gathered ending → IsEnding begun ending
+  refused_ends : (report : List ℕ) → RefusesFiles given.request given.config given.files report → IsEnding begun (Refused report)
   unfolding Owed
-  derivation_ends gathered (Refused report) gathers ends =
-      let refused = ends given.files gathers in
-      (inr (record { given = given; is_given = is; told = refused.0; are_told = refused.1; report_is = refused.2 }), refl)
+  refused_ends report (inl (told, are_told, report_is)) =
+      (inr (inl (record { given = given; is_given = is; told = told; are_told = are_told; report_is = report_is })), refl)
+  refused_ends report (inr (components, warnings, derived, strict, some, report_is)) =
+      (inr (inr (record { given = given; is_given = is; strict = strict; components = components; warnings = warnings; derived = derived; some = some; report_is = report_is })), refl)
+
+  -- a run that is given this may end where nothing is derived of it, and with its document
+  pub derivation_ends : (gathered : Gathered) (ending : Ending) → Gathers given.files gathered → EndsDerivation given.request given.config gathered ending → IsEnding begun ending
+  unfolding Owed
+  derivation_ends gathered (Refused report) gathers ends = refused_ends report (ends given.files gathers)
   derivation_ends gathered Memory gathers ends = (refl, refl)
-  derivation_ends gathered (Done text) gathers ends = absurd ends
+  derivation_ends gathered (Done text beside) gathers ends = absurd ends
   derivation_ends gathered (Usage report) gathers ends = absurd ends
   derivation_ends gathered ReadFault gathers ends = absurd ends
   derivation_ends gathered (FileFault report) gathers ends = absurd ends
 
-  pub document_ends : (text : List ℕ) → (components : List Entry) × AreDerivedFrom given.request.selection given.config given.files components × (text ≡ text_of (document components)) → IsEnding begun (Done text)
+  pub document_ends : (written : Written) → MakesDocument given.request given.config given.files written → IsEnding begun (Done written.document written.report)
   unfolding Owed
-  document_ends text (components, derived, text_is) = (inl (record { given = given; is_given = is; components = components; derived = derived; text_is = text_is }), refl)
+  document_ends written (components, warnings, derived, made) =
+      inl (record { given = given; is_given = is; components = components; warnings = warnings; derived = derived; calm = made.calm; text_is = made.text_is; report_is = made.report_is })
 
 -- the path of the input is one of the paths behind another path
 behind_other : (path : List ℕ) (paths : List (List ℕ)) → is_input path ≡ false → is_in (codes "-") (path ∷ paths) ≡ true → is_in (codes "-") paths ≡ true
@@ -98,14 +112,14 @@ module _ (tells : Bool) (held : List ℕ → Option (List ℕ)) (r : Request) wh
   config_ends (Refused report) path named ends = (path, named, ends)
   config_ends (FileFault report) path named (cause, is) = (path, cause, inl named, is)
   config_ends Memory path named ends = tt
-  config_ends (Done text) path named ends = absurd ends
+  config_ends (Done text beside) path named ends = absurd ends
   config_ends (Usage report) path named ends = absurd ends
   config_ends ReadFault path named ends = absurd ends
 
   pub input_ends : (ending : Ending) → IsOfInput r → TellsInput ending → EndsReading tells held r ending
   input_ends ReadFault of ends = of
   input_ends Memory of ends = tt
-  input_ends (Done text) of ends = absurd ends
+  input_ends (Done text beside) of ends = absurd ends
   input_ends (Refused report) of ends = absurd ends
   input_ends (Usage report) of ends = absurd ends
   input_ends (FileFault report) of ends = absurd ends
@@ -113,58 +127,73 @@ module _ (tells : Bool) (held : List ℕ → Option (List ℕ)) (r : Request) wh
   pub file_ends : (ending : Ending) (path : List ℕ) → (status_of ending ≡ status.FileFault → IsOfPath r path) → TellsFile path ending → EndsReading tells held r ending
   file_ends (FileFault report) path of (cause, is) = (path, cause, of refl, is)
   file_ends Memory path of ends = tt
-  file_ends (Done text) path of ends = absurd ends
+  file_ends (Done text beside) path of ends = absurd ends
   file_ends (Refused report) path of ends = absurd ends
   file_ends (Usage report) path of ends = absurd ends
   file_ends ReadFault path of ends = absurd ends
 
--- what is derived of files that are gathered, or why nothing is
-abbrev pub DerivesText : Selection → Configuration → Gathered → List ℕ → Type 0
-DerivesText s c gathered text = (files : List FileOf) → Gathers files gathered → (components : List Entry) × AreDerivedFrom s c files components × (text ≡ text_of (document components))
+-- what is derived of files that are gathered
+abbrev pub DerivesText : Request → Configuration → Gathered → Written → Type 0
+DerivesText r c gathered written = (files : List FileOf) → Gathers files gathered → MakesDocument r c files written
 
-module _ (s : Selection) (c : Configuration) (gathered : Gathered) where
+module _ (request : Request) (c : Configuration) (gathered : Gathered) where
   -- a derivation ends with its text, with a refusal or for want of memory, and no fault is counted
-  pub no_file_fault : (r : Result (List ℕ) Ending) → IfErr r (EndsDerivation s c gathered) → status_at r ≡ status.FileFault → ⊥
-  no_file_fault (Ok text) ends is = cc
+  pub no_file_fault : (r : Result Written Ending) → IfErr r (EndsDerivation request c gathered) → status_at r ≡ status.FileFault → ⊥
+  no_file_fault (Ok written) ends is = cc
   no_file_fault (Err (FileFault report)) ends is = ends
-  no_file_fault (Err (Done text)) ends is = ends
+  no_file_fault (Err (Done text beside)) ends is = ends
   no_file_fault (Err (Refused report)) ends is = cc
   no_file_fault (Err (Usage report)) ends is = cc
   no_file_fault (Err ReadFault) ends is = cc
   no_file_fault (Err Memory) ends is = cc
 
-  pub no_read_fault : (r : Result (List ℕ) Ending) → IfErr r (EndsDerivation s c gathered) → status_at r ≡ status.ReadFault → ⊥
-  no_read_fault (Ok text) ends is = cc
+  pub no_read_fault : (r : Result Written Ending) → IfErr r (EndsDerivation request c gathered) → status_at r ≡ status.ReadFault → ⊥
+  no_read_fault (Ok written) ends is = cc
   no_read_fault (Err ReadFault) ends is = ends
-  no_read_fault (Err (Done text)) ends is = ends
+  no_read_fault (Err (Done text beside)) ends is = ends
   no_read_fault (Err (Refused report)) ends is = cc
   no_read_fault (Err (Usage report)) ends is = cc
   no_read_fault (Err (FileFault report)) ends is = cc
   no_read_fault (Err Memory) ends is = cc
 
+-- where the document of what is derived is refused, so are the files
+pub strict_ends : (r : Request) (c : Configuration) (gathered : Gathered) (components : List Entry) (warnings : Warnings)
+    → ((files : List FileOf) → Gathers files gathered → (all : List Told) × AreDerivedFrom r.selection c files components all × AreFirst all warnings)
+    → (result : Result Written Ending) → IfErr result (EndsStrict r.strict warnings) → IfErr result (EndsDerivation r c gathered)
+strict_ends r c gathered components warnings derived (Ok written) ends = tt
+strict_ends r c gathered components warnings derived (Err (Refused report)) ends = λ files gathers.
+    let made = derived files gathers in
+    let why = ends made.0 made.2 in
+    inr (components, made.0, made.1, why.0, why.1, why.2)
+strict_ends r c gathered components warnings derived (Err Memory) ends = tt
+strict_ends r c gathered components warnings derived (Err (Done text beside)) ends = ends
+strict_ends r c gathered components warnings derived (Err (Usage report)) ends = ends
+strict_ends r c gathered components warnings derived (Err ReadFault) ends = ends
+strict_ends r c gathered components warnings derived (Err (FileFault report)) ends = ends
+
 -- a run that is given this may end as its files are derived
 pub derived_ends : (begun : Beginning) (given : Given) → IsGiven begun given → (gathered : Gathered) → Gathers given.files gathered
-    → (r : Result (List ℕ) Ending) → IfOk r (DerivesText given.request.selection given.config gathered) → IfErr r (EndsDerivation given.request.selection given.config gathered) → IsEndingAt begun r
-derived_ends begun given is gathered gathers (Ok text) derives ends = document_ends begun given is text (derives given.files gathers)
+    → (r : Result Written Ending) → IfOk r (DerivesText given.request given.config gathered) → IfErr r (EndsDerivation given.request given.config gathered) → IsEndingAt begun r
+derived_ends begun given is gathered gathers (Ok written) derives ends = document_ends begun given is written (derives given.files gathers)
 derived_ends begun given is gathered gathers (Err ending) derives ends = derivation_ends begun given is gathered ending gathers ends
 
 -- where a document is derived, the input that the paths name is at its end
 pub derived_at_end : (tells : Bool) (held : List ℕ → Option (List ℕ)) (had has : Option (List ℕ)) (paths : List (List ℕ)) (files : List FileOf) → AreFilesAt (IsTextAt tells held had has) paths files
-    → (s : Selection) (c : Configuration) (gathered : Gathered) → Gathers files gathered → (r : Result (List ℕ) Ending) → IfOk r (DerivesText s c gathered) → IfErr r (EndsDerivation s c gathered)
+    → (request : Request) (c : Configuration) (gathered : Gathered) → Gathers files gathered → (r : Result Written Ending) → IfOk r (DerivesText request c gathered) → IfErr r (EndsDerivation request c gathered)
     → status_at r ≡ status.Done → is_in (codes "-") paths ≡ true → IsAtEnd has
-derived_at_end tells held had has paths files are s c gathered gathers (Ok text) derives ends done of =
-    let derived = (derives files gathers).1 in
+derived_at_end tells held had has paths files are request c gathered gathers (Ok written) derives ends done of =
+    let derived = (derives files gathers).2 in
     input_at_end tells held had has 0 paths files derived.all are derived.declared of
-derived_at_end tells held had has paths files are s c gathered gathers (Err (Done text)) derives ends done of = absurd ends
-derived_at_end tells held had has paths files are s c gathered gathers (Err (Refused report)) derives ends done of = cc
-derived_at_end tells held had has paths files are s c gathered gathers (Err (Usage report)) derives ends done of = cc
-derived_at_end tells held had has paths files are s c gathered gathers (Err ReadFault) derives ends done of = cc
-derived_at_end tells held had has paths files are s c gathered gathers (Err Memory) derives ends done of = cc
-derived_at_end tells held had has paths files are s c gathered gathers (Err (FileFault report)) derives ends done of = cc
+derived_at_end tells held had has paths files are request c gathered gathers (Err (Done text beside)) derives ends done of = absurd ends
+derived_at_end tells held had has paths files are request c gathered gathers (Err (Refused report)) derives ends done of = cc
+derived_at_end tells held had has paths files are request c gathered gathers (Err (Usage report)) derives ends done of = cc
+derived_at_end tells held had has paths files are request c gathered gathers (Err ReadFault) derives ends done of = cc
+derived_at_end tells held had has paths files are request c gathered gathers (Err Memory) derives ends done of = cc
+derived_at_end tells held had has paths files are request c gathered gathers (Err (FileFault report)) derives ends done of = cc
 
 -- no run is done where its reading ends
 pub not_done : (tells : Bool) (held : List ℕ → Option (List ℕ)) (r : Request) (ending : Ending) → EndsReading tells held r ending → status_of ending ≡ status.Done → ⊥
-not_done tells held r (Done text) ends is = ends
+not_done tells held r (Done text beside) ends is = ends
 not_done tells held r (Refused report) ends is = cc
 not_done tells held r (Usage report) ends is = cc
 not_done tells held r ReadFault ends is = cc
@@ -174,7 +203,7 @@ not_done tells held r (FileFault report) ends is = cc
 -- a run may end as its words are answered, with nothing read
 pub words_end : (begun : Beginning) (ending : Ending) → EndsWords begun.words ending → IsEnding begun ending
 unfolding Owed
-words_end begun (Done text) (question, asks, is) = (inr (question, asks, is), refl)
+words_end begun (Done text beside) (question, asks, is, none) = inr ((question, asks, is), none)
 words_end begun (Usage report) (misuse, are, is) = ((misuse, are, is), refl)
 words_end begun Memory ends = (refl, refl)
 words_end begun (Refused report) ends = absurd ends
@@ -183,7 +212,7 @@ words_end begun (FileFault report) ends = absurd ends
 
 -- and then no input is named where a question is answered, and no fault is counted
 pub words_name_none : (words : List (List ℕ)) (ending : Ending) → EndsWords words ending → status_of ending ≡ status.Done → NameInput words → ⊥
-words_name_none words (Done text) (question, asks, is) so (request, asks_for, of) = no_request words question request asks asks_for
+words_name_none words (Done text beside) (question, asks, is, none) so (request, asks_for, of) = no_request words question request asks asks_for
 words_name_none words (Usage report) ends so named = cc
 words_name_none words Memory ends so named = cc
 words_name_none words (Refused report) ends so named = absurd ends
@@ -194,18 +223,13 @@ pub words_fault_none : (words : List (List ℕ)) (ending : Ending) → EndsWords
 words_fault_none words ReadFault ends so = ends
 words_fault_none words (FileFault report) ends so = ends
 words_fault_none words (Refused report) ends so = ends
-words_fault_none words (Done text) ends (inl so) = cc
-words_fault_none words (Done text) ends (inr so) = cc
+words_fault_none words (Done text beside) ends (inl so) = cc
+words_fault_none words (Done text beside) ends (inr so) = cc
 words_fault_none words (Usage report) ends (inl so) = cc
 words_fault_none words (Usage report) ends (inr so) = cc
 words_fault_none words Memory ends (inl so) = cc
 words_fault_none words Memory ends (inr so) = cc
 
--- an answer as an ending
-pub ending_at : (begun : Beginning) (r : Result (List ℕ) Ending) → IsEndingAt begun r → IsEnding begun (ending_of r)
-ending_at begun (Ok text) is = is
-ending_at begun (Err ending) is = is
-
-pub status_is : (r : Result (List ℕ) Ending) → status_at r ≡ status_of (ending_of r)
-status_is (Ok text) = refl
+pub status_is : (r : Result Written Ending) → status_at r ≡ status_of (ending_of r)
+status_is (Ok written) = refl
 status_is (Err ending) = refl

@@ -1,6 +1,5 @@
 -- Files that are read one after another.
-use Rattle.std.proofs.Common.{◌≡◌, ◌<◌, ℕ, zero, suc, List, [], ◌∷◌, ◌++◌, Bool, true, false, ◌||◌, length, get_or, Option, bytes_eq, codes, refl, sym, subst, arith}
-use Rattle.std.proofs.lemmas.Slice.Eq.{bytes_eq-Decides}
+use Rattle.std.proofs.Common.{◌≡◌, ◌<◌, ℕ, zero, suc, List, [], ◌∷◌, ◌++◌, Bool, true, false, length, get_or, Option, codes, refl, sym, subst, arith}
 use Rattle.texts.specs.Names.{is_in}
 use Rattle.files.specs.Held.{IsHeld}
 use Rattle.streams.specs.Told.{IsAll}
@@ -8,7 +7,7 @@ use Rattle.gathering.specs.Files.{FileOf}
 use Rattle.file_runs.specs.Contents.{IsTextBy}
 use Rattle.file_runs.specs.Given.{AreFilesAt, HasBytesBy}
 use Rattle.file_runs.specs.Words.{is_input}
-use Rattle.file_runs.proofs.Told.{input_path, behind_in}
+use Rattle.file_runs.proofs.Told.{input_path, itself_in, behind_in}
 use Rattle.reporting.specs.Beginning.{Beginning}
 
 -- one file more
@@ -40,7 +39,7 @@ begun_with begun false tells held had has path text same holds left is =
 -- what stands at a place of paths is one of them
 pub is_at : (paths : List (List ℕ)) (at : ℕ) (path : List ℕ) → at < length paths → path ≡ get_or paths at path → is_in path paths ≡ true
 is_at [] at path less is = absurd (omega arith)
-is_at (p ∷ paths) zero path less is = subst (λ v. bytes_eq path v || is_in path paths ≡ true) is (subst (λ b. b || is_in path paths ≡ true) (sym ((bytes_eq-Decides path path).1 refl)) refl)
+is_at (p ∷ paths) zero path less is = subst (λ v. is_in path (v ∷ paths) ≡ true) is (itself_in path paths)
 is_at (p ∷ paths) (suc at) path less is = behind_in path p paths (is_at paths at path (omega arith) is)
 
 -- where one of the paths is that of the input, they name it

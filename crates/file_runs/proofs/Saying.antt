@@ -8,7 +8,10 @@ use Rattle.files.specs.Held.{IsHeld}
 use Rattle.configuration.specs.Configuration.{Configuration}
 use Rattle.configuration.specs.Form.{IsConfigurationText, IsRefusedText}
 use Rattle.configuration.specs.Said.{IsSaidBy, SayNone}
-use Rattle.file_runs.specs.Contents.{IsReadOf, TellsConfig, TellsError}
+use Rattle.configuration.specs.declared.part.ConfigPart.{ConfigPart}
+use Rattle.telling.specs.Told.{told_text}
+use Rattle.file_runs.specs.Contents.{IsReadOf, TellsConfig, TellsError, IsFaultyRead}
+use Rattle.file_runs.specs.Given.{told_config}
 use Rattle.file_runs.specs.Owed.{status_of}
 use Rattle.file_runs.specs.declared.ending.Ending.{Ending}
 use Rattle.file_runs.specs.declared.ending.Ending.TheVariants.{Done, Refused, Usage, ReadFault, Memory, FileFault}
@@ -37,29 +40,38 @@ module _ (tells : Bool) (held : List ℕ → Option (List ℕ)) (most : ℕ) (pa
   said_there named c is says = subst (λ o. IsSaidBy IsConfigurationText tells held o c) (sym is) (made.0, held_there, says made.0 made.2)
 
   -- or what is told where it has none
-  pub told_there : (other : List ℕ) (e : DeriveError) (ending : Ending) → other ≡ path → IsErrorFor (RefusesRead most read) e → TellsError other e ending → TellsConfig tells (held path) path ending
+  pub told_there : (other : List ℕ) (e : DeriveError) (ending : Ending) → other ≡ path → IsErrorFor (RefusesRead most read) e → TellsError (IsFaultyRead most read) other e ending → TellsConfig tells (held path) path ending
   told_there other (error.Refused d) (Refused report) at (inl memory) tells_it = cc
   told_there other (error.Refused d) (Refused report) at (inr refuses) tells_it =
       let refused = refuses made.0 made.2 in
-      record { bytes = made.0; is_held = held_there; none = refused.0; refusal = d; refused = refused.1; report_is = subst (λ p. TellsError p (error.Refused d) (Refused report)) at tells_it }
+      record {
+        bytes = made.0;
+        is_held = held_there;
+        none = refused.0;
+        refusal = d;
+        refused = refused.1;
+        part = tells_it.0;
+        faulty = tells_it.1 made.0 made.2;
+        report_is = subst (λ p. report ≡ told_text (told_config p d tells_it.0)) at tells_it.2;
+      }
   told_there other (error.Refused d) Memory at why tells_it = tt
-  told_there other (error.Refused d) (Done text) at why tells_it = absurd tells_it
+  told_there other (error.Refused d) (Done text beside) at why tells_it = absurd tells_it
   told_there other (error.Refused d) (Usage report) at why tells_it = absurd tells_it
   told_there other (error.Refused d) ReadFault at why tells_it = absurd tells_it
   told_there other (error.Refused d) (FileFault report) at why tells_it = absurd tells_it
   told_there other error.Memory (Refused report) at why tells_it = absurd tells_it
   told_there other error.Memory Memory at why tells_it = tt
-  told_there other error.Memory (Done text) at why tells_it = absurd tells_it
+  told_there other error.Memory (Done text beside) at why tells_it = absurd tells_it
   told_there other error.Memory (Usage report) at why tells_it = absurd tells_it
   told_there other error.Memory ReadFault at why tells_it = absurd tells_it
   told_there other error.Memory (FileFault report) at why tells_it = absurd tells_it
 
 -- no file that cannot be read is told so
-pub no_fault : (path : List ℕ) (e : DeriveError) (ending : Ending) → TellsError path e ending → status_of ending ≡ status.FileFault → ⊥
-no_fault path (error.Refused d) (FileFault report) tells is = tells
-no_fault path error.Memory (FileFault report) tells is = tells
-no_fault path e (Refused report) tells is = cc
-no_fault path e Memory tells is = cc
-no_fault path e (Done text) tells is = cc
-no_fault path e (Usage report) tells is = cc
-no_fault path e ReadFault tells is = cc
+pub no_fault : (IsFaulty : Option ConfigPart → Type 0) (path : List ℕ) (e : DeriveError) (ending : Ending) → TellsError IsFaulty path e ending → status_of ending ≡ status.FileFault → ⊥
+no_fault IsFaulty path (error.Refused d) (FileFault report) tells is = tells
+no_fault IsFaulty path error.Memory (FileFault report) tells is = tells
+no_fault IsFaulty path e (Refused report) tells is = cc
+no_fault IsFaulty path e Memory tells is = cc
+no_fault IsFaulty path e (Done text beside) tells is = cc
+no_fault IsFaulty path e (Usage report) tells is = cc
+no_fault IsFaulty path e ReadFault tells is = cc

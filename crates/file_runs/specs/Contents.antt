@@ -1,5 +1,5 @@
 -- What is read on the way.
-use Rattle.std.specs.Prelude.{◌≡◌, ◌<◌, ◌≤◌, ℕ, List, ◌∷◌, [], ◌++◌, length, Bool, true, false, Option, Some, None}
+use Rattle.std.specs.Prelude.{◌≡◌, ◌≢◌, ◌<◌, ◌≤◌, ◌⊎◌, ℕ, List, ◌∷◌, [], ◌++◌, length, Bool, true, false, Option, Some, None}
 use Rattle.std.specs.Io.KnownBytes.{IsAtEnd}
 use Rattle.diag.specs.declared.error.DeriveError.{DeriveError}
 use Rattle.diag.specs.declared.error.DeriveError.TheVariants as error
@@ -11,13 +11,16 @@ use Rattle.streams.specs.declared.source.Source.{Ghosts as AnySource}
 use Rattle.telling.specs.Told.{told_text, all_told}
 use Rattle.telling.specs.declared.told.Told.{Told}
 use Rattle.configuration.specs.Configuration.{Configuration}
+use Rattle.configuration.specs.Parts.{IsFaultyPart}
+use Rattle.configuration.specs.declared.part.ConfigPart.{ConfigPart}
 use Rattle.gathering.specs.Files.{FileOf, Gathers, most_bytes}
-use Rattle.gathering.specs.Telling.{told_unplaced}
 use Rattle.gathering.specs.declared.gathered.Gathered.{Gathered}
-use Rattle.gathering.specs.declared.selection.Selection.{Selection}
-use Rattle.file_derivation.specs.Outcomes.{AreTold}
+use Rattle.schema_core.specs.Document.{Entry}
+use Rattle.file_derivation.specs.Outcomes.{AreDerivedFrom, AreTold}
+use Rattle.file_derivation.specs.Warned.{AreFirst}
+use Rattle.file_derivation.specs.declared.warned.Warnings.{Warnings}
 use Rattle.reporting.specs.Beginning.{Beginning}
-use Rattle.file_runs.specs.Given.{RefusesConfig}
+use Rattle.file_runs.specs.Given.{RefusesConfig, told_config}
 use Rattle.file_runs.specs.Reports.{misuse_text, fault_line, answer_text}
 use Rattle.file_runs.specs.Words.{is_input, Ask, AskFor, AreMisused, IsOfInput, IsOfPath}
 use Rattle.file_runs.specs.declared.ending.Ending.{Ending}
@@ -55,7 +58,7 @@ TellsFile path _ = ⊥
 
 -- it answers the question of the words, or tells how they are misused, or that memory ran out
 abbrev pub EndsWords : List (List ℕ) → Ending → Type 0
-EndsWords words (Done text) = (question : Question) × Ask words question × (text ≡ answer_text question)
+EndsWords words (Done text report) = (question : Question) × Ask words question × (text ≡ answer_text question) × (report ≡ [])
 EndsWords words (Usage report) = (misuse : Misuse) × AreMisused words misuse × (report ≡ misuse_text misuse)
 EndsWords words Memory = Unit {0}
 EndsWords words _ = ⊥
@@ -80,17 +83,33 @@ EndsReading tells held r ReadFault = IsOfInput r
 EndsReading tells held r Memory = Unit {0}
 EndsReading tells held r _ = ⊥
 
--- what ends it where nothing is derived of the files that are gathered: they are refused, or memory ran out
-abbrev pub EndsDerivation : Selection → Configuration → Gathered → Ending → Type 0
-EndsDerivation s c gathered (Refused report) = (files : List FileOf) → Gathers files gathered → (told : List Told) × AreTold s c files told × (report ≡ all_told told)
-EndsDerivation s c gathered Memory = Unit {0}
-EndsDerivation s c gathered _ = ⊥
+-- by `strict` warnings end it, which the report tells, or memory ran out
+abbrev pub EndsStrict : (strict : Bool) → Warnings → Ending → Type 0
+EndsStrict strict warnings (Refused report) = (all : List Told) → AreFirst all warnings → (strict ≡ true) × (all ≢ []) × (report ≡ all_told all)
+EndsStrict strict warnings Memory = Unit {0}
+EndsStrict strict warnings _ = ⊥
 
--- the error as the fault of the file at the path, or that memory ran out
-abbrev pub TellsError : List ℕ → DeriveError → Ending → Type 0
-TellsError path (error.Refused refusal) (Refused report) = report ≡ told_text (told_unplaced path refusal)
-TellsError path e Memory = Unit {0}
-TellsError path e _ = ⊥
+-- the files are refused, or by `--strict` what is warned of, which the report tells
+abbrev pub RefusesFiles : Request → Configuration → List FileOf → List ℕ → Type 0
+RefusesFiles r c files report =
+    ((told : List Told) × AreTold r.selection c files told × (report ≡ all_told told))
+    ⊎ ((components : List Entry) × (warnings : List Told) × AreDerivedFrom r.selection c files components warnings × (r.strict ≡ true) × (warnings ≢ []) × (report ≡ all_told warnings))
+
+-- what ends it where there is no document of the files that are gathered: they are refused, or memory ran out
+abbrev pub EndsDerivation : Request → Configuration → Gathered → Ending → Type 0
+EndsDerivation r c gathered (Refused report) = (files : List FileOf) → Gathers files gathered → RefusesFiles r c files report
+EndsDerivation r c gathered Memory = Unit {0}
+EndsDerivation r c gathered _ = ⊥
+
+-- the error as the fault of the file at the path, with a part that is at fault, or that memory ran out
+abbrev pub TellsError : (IsFaulty : Option ConfigPart → Type 0) → List ℕ → DeriveError → Ending → Type 0
+TellsError IsFaulty path (error.Refused refusal) (Refused report) = (part : Option ConfigPart) × IsFaulty part × (report ≡ told_text (told_config path refusal part))
+TellsError IsFaulty path e Memory = Unit {0}
+TellsError IsFaulty path e _ = ⊥
+
+-- the part is at fault in a file of which this was read
+abbrev pub IsFaultyRead : ℕ → Option (List ℕ) → Option ConfigPart → Type 0
+IsFaultyRead most read part = (text : List ℕ) → IsReadOf most text read → IsFaultyPart text part
 
 -- A run begins with words that ask for this, with this input and with these files.
 pub record Begins {S F : Type 0} (source : AnySource S) (any : AnyFiles F) (request : Request) (input : S) (files : F) (begun : Beginning) : Type 0 where

@@ -1,6 +1,7 @@
 -- What a run owes.
-use Rattle.std.specs.Prelude.{◌≡◌, ◌⊎◌, ℕ, List, [], IsTrue, IsSome, Some, codes, Result, Ok, Err}
+use Rattle.std.specs.Prelude.{◌≡◌, ◌≢◌, ◌⊎◌, ℕ, List, [], Bool, true, IsTrue, IsSome, Option, Some, codes, Result, Ok, Err}
 use Rattle.files.specs.declared.cause.Cause.{Cause}
+use Rattle.streams.specs.Faults.{CountsFault}
 use Rattle.schema_core.specs.Document.{Entry, document, text_of}
 use Rattle.telling.specs.Told.{all_told}
 use Rattle.telling.specs.declared.told.Told.{Told}
@@ -9,6 +10,7 @@ use Rattle.reporting.specs.Beginning.{Beginning}
 use Rattle.file_runs.specs.Given.{Given, IsGiven, RefusesConfig}
 use Rattle.file_runs.specs.Reports.{misuse_text, fault_line, answer_text}
 use Rattle.file_runs.specs.Words.{Ask, AskFor, AreMisused, NameInput, NamePath}
+use Rattle.file_runs.specs.declared.document.Written.{Written}
 use Rattle.file_runs.specs.declared.ending.Ending.{Ending}
 use Rattle.file_runs.specs.declared.ending.Ending.TheVariants as endings
 use Rattle.file_runs.specs.declared.request.Misuse.{Misuse}
@@ -19,20 +21,24 @@ use Rattle.file_runs.specs.declared.status.Status.TheVariants.{Done, Refused, Us
 
 -- ---- documents and answers
 
--- The text is that of the document of the components of what is selected of the files that are given.
-pub record IsDocument (begun : Beginning) (text : List ℕ) : Type 0 where
+-- The text is that of the document of the components of what is selected of the files that are given, and the report tells the
+-- warnings; by `--strict` there are none.
+pub record IsDocument (begun : Beginning) (text report : List ℕ) : Type 0 where
   pub given : Given
   pub is_given : IsGiven begun given
   pub components : List Entry
-  pub derived : AreDerivedFrom given.request.selection given.config given.files components
+  pub warnings : List Told
+  pub derived : AreDerivedFrom given.request.selection given.config given.files components warnings
+  pub calm : given.request.strict ≡ true → warnings ≡ []
   pub text_is : text ≡ text_of (document components)
+  pub report_is : report ≡ all_told warnings
 
 -- the words ask a question, which the text answers
 abbrev pub IsAnswer : Beginning → List ℕ → Type 0
 IsAnswer begun text = (question : Question) × Ask begun.words question × (text ≡ answer_text question)
 
-abbrev pub IsDone : Beginning → List ℕ → Type 0
-IsDone begun text = IsDocument begun text ⊎ IsAnswer begun text
+abbrev pub IsDone : Beginning → (text report : List ℕ) → Type 0
+IsDone begun text report = IsDocument begun text report ⊎ (IsAnswer begun text × (report ≡ []))
 
 -- ---- refusals
 
@@ -52,8 +58,19 @@ pub record AreRefusedFiles (begun : Beginning) (report : List ℕ) : Type 0 wher
   pub are_told : AreTold given.request.selection given.config given.files told
   pub report_is : report ≡ all_told told
 
+-- By `--strict` there is no document of what is warned of, and the report tells the warnings.
+pub record AreStrictWarnings (begun : Beginning) (report : List ℕ) : Type 0 where
+  pub given : Given
+  pub is_given : IsGiven begun given
+  pub strict : given.request.strict ≡ true
+  pub components : List Entry
+  pub warnings : List Told
+  pub derived : AreDerivedFrom given.request.selection given.config given.files components warnings
+  pub some : warnings ≢ []
+  pub report_is : report ≡ all_told warnings
+
 abbrev pub IsRefused : Beginning → List ℕ → Type 0
-IsRefused begun report = IsMisconfigured begun report ⊎ AreRefusedFiles begun report
+IsRefused begun report = IsMisconfigured begun report ⊎ AreRefusedFiles begun report ⊎ AreStrictWarnings begun report
 
 -- ---- what is owed
 
@@ -69,7 +86,7 @@ number_of FileFault = 6
 
 -- With this status a run that begins so owes these bytes to `out` and to `err`.
 unfoldable pub Owed : Beginning → Status → List ℕ → List ℕ → Type 0
-Owed begun Done out err = IsDone begun out × (err ≡ [])
+Owed begun Done out err = IsDone begun out err
 Owed begun Refused out err = IsRefused begun err × (out ≡ [])
 Owed begun Usage out err = ((misuse : Misuse) × AreMisused begun.words misuse × (err ≡ misuse_text misuse)) × (out ≡ [])
 Owed begun FileFault out err = ((path : List ℕ) × (cause : Cause) × NamePath begun.words path × (err ≡ fault_line path cause)) × (out ≡ [])
@@ -80,7 +97,7 @@ Owed begun WriteFault out err = ⊥
 -- ---- the ending of a run, before it is written
 
 abbrev pub status_of : Ending → Status
-status_of (endings.Done text) = Done
+status_of (endings.Done text report) = Done
 status_of (endings.Refused report) = Refused
 status_of (endings.Usage report) = Usage
 status_of endings.ReadFault = ReadFault
@@ -88,7 +105,7 @@ status_of endings.Memory = Memory
 status_of (endings.FileFault report) = FileFault
 
 abbrev pub document_of : Ending → List ℕ
-document_of (endings.Done text) = text
+document_of (endings.Done text report) = text
 document_of (endings.Refused report) = []
 document_of (endings.Usage report) = []
 document_of endings.ReadFault = []
@@ -96,44 +113,63 @@ document_of endings.Memory = []
 document_of (endings.FileFault report) = []
 
 abbrev pub report_of : Ending → List ℕ
-report_of (endings.Done text) = []
+report_of (endings.Done text report) = report
 report_of (endings.Refused report) = report
 report_of (endings.Usage report) = report
 report_of endings.ReadFault = codes "-: cannot be read\n"
 report_of endings.Memory = []
 report_of (endings.FileFault report) = report
 
--- with this text, or with this ending
-abbrev pub ending_of : Result (List ℕ) Ending → Ending
-ending_of (Ok text) = endings.Done text
+-- with this document, or with this ending
+abbrev pub ending_of : Result Written Ending → Ending
+ending_of (Ok written) = endings.Done written.document written.report
 ending_of (Err ending) = ending
+
+-- with the answer to the question
+abbrev pub answered_by : Question → Ending
+answered_by question = endings.Done (answer_text question) []
 
 -- the status of a run that ends with the error, where there is one
 abbrev pub status_at : {A : Type 0} → Result A Ending → Status
 status_at (Ok x) = Done
 status_at (Err ending) = status_of ending
 
+-- what is told of the error, where there is one
+abbrev pub report_at : {A : Type 0} → Result A Ending → List ℕ
+report_at (Ok x) = []
+report_at (Err ending) = report_of ending
+
+-- the file at the path could not be read, for the cause, which the report tells; a fault is counted, and files keep the path
+abbrev pub FailsAt : (before after : ℕ) (failed : Option (List ℕ)) → Cause → (path report : List ℕ) → Type 0
+FailsAt before after failed cause path report = CountsFault before after × (failed ≡ Some path) × (report ≡ fault_line path cause)
+
 -- a run that begins so may end so
 abbrev pub IsEnding : Beginning → Ending → Type 0
 IsEnding begun ending = Owed begun (status_of ending) (document_of ending) (report_of ending)
 
--- with this text, or with this ending
-abbrev pub IsEndingAt : Beginning → Result (List ℕ) Ending → Type 0
-IsEndingAt begun (Ok text) = IsEnding begun (endings.Done text)
-IsEndingAt begun (Err ending) = IsEnding begun ending
+abbrev pub IsEndingAt : Beginning → Result Written Ending → Type 0
+IsEndingAt begun result = IsEnding begun (ending_of result)
+
+-- this is written of the components and the warnings; by `--strict` there are none of these
+pub record IsWritten (strict : Bool) (components : List Entry) (warnings : List Told) (written : Written) : Type 0 where
+  pub calm : strict ≡ true → warnings ≡ []
+  pub text_is : written.document ≡ text_of (document components)
+  pub report_is : written.report ≡ all_told warnings
 
 -- ---- what is sound
 
--- The run is told what it is given: what the files hold, and what the input has left, where the words name it.
+-- The run is told what it is given: what the files hold, and what the input has left, where the words name them.
 pub record IsTold (begun : Beginning) : Type 0 where
-  pub held : IsTrue begun.tells
+  pub held : (path : List ℕ) → NamePath begun.words path → IsTrue begun.tells
   pub left : NameInput begun.words → IsSome begun.left
 
--- what a run is given, of which nothing is refused
+-- what a run is given, of which nothing is refused, nor warned of by `--strict`
 pub record IsSound (begun : Beginning) : Type 0 where
   pub given : Given
   pub is_given : IsGiven begun given
   pub sound : AreSound given.request.selection given.config given.files
+  pub calm : given.request.strict ≡ true → (components : List Entry) (warnings : List Told)
+      → AreDerivedFrom given.request.selection given.config given.files components warnings → warnings ≡ []
 
 -- The law: where a run is told what it is given, and that is sound, nothing is refused.
 abbrev pub SoundRunsAreNotRefused : Type 0

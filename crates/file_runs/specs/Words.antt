@@ -1,6 +1,7 @@
 -- What the words after the program's name ask for, by the conventions of Unix tools (POSIX, "Utility Syntax Guidelines"; GNU,
 -- "Program Argument Syntax Conventions"): each word is one step, and the words are taken one after the other.
-use Rattle.std.specs.Prelude.{◌≡◌, ◌⊎◌, ℕ, List, [], ◌∷◌, ◌++◌, Bool, true, false, not, cond, ◌&&◌, take, drop, codes, Option, Some, None, Result, Ok, Err}
+use Rattle.std.specs.Prelude.{◌≡◌, ◌⊎◌, ℕ, List, [], ◌∷◌, ◌++◌, Bool, true, false, not, cond, ◌&&◌, take, drop, codes, is_some, Option, Some, None, Result, Ok, Err}
+use Rattle.std.specs.Option.{option_or}
 use Rattle.std.specs.Str.{bytes_eq}
 use Rattle.texts.specs.Names.{is_in}
 use Rattle.file_runs.specs.declared.request.Question.{Question}
@@ -14,29 +15,30 @@ use Rattle.file_runs.specs.declared.arguments.State.{State}
 use Rattle.file_runs.specs.declared.arguments.Stop.{Stop}
 use Rattle.file_runs.specs.declared.arguments.Stop.TheVariants as stop
 
--- the word is this one
+-- whether the second word is the first
 abbrev pub is : List ℕ → List ℕ → Bool
 is text word = is_in word (text ∷ [])
+
+-- the option whose value is the next word
+abbrev pub valued_of : List ℕ → Option Valued
+valued_of word = cond (is (codes "--config") word) (Some Config) (cond (is (codes "--only") word) (Some Only) (cond (is (codes "--exclude") word) (Some Exclude) None))
 
 -- ---- questions, which are answered whatever else the words say
 
 abbrev pub question_of : List ℕ → Option Question
 question_of word = cond (is_in word (codes "-h" ∷ codes "--help" ∷ [])) (Some Help) (cond (is (codes "--version") word) (Some Version) None)
 
-abbrev pub or_else : Option Question → Option Question → Option Question
-or_else (Some question) other = Some question
-or_else None other = other
+-- the first question before a `--` that ends the options; whether the first word is the value of an option, which ends none
+abbrev pub question_from : (is_value : Bool) → List (List ℕ) → Option Question
+question_from is_value [] = None
+question_from is_value (word ∷ words) =
+    cond (not is_value && is (codes "--") word) None
+    (option_or (question_of word) (question_from (not is_value && is_some (valued_of word)) words))
 
--- the first question before a `--`
 abbrev pub question_in : List (List ℕ) → Option Question
-question_in [] = None
-question_in (word ∷ words) = cond (is (codes "--") word) None (or_else (question_of word) (question_in words))
+question_in words = question_from false words
 
 -- ---- options and files
-
--- the option whose value is the next word
-abbrev pub valued_of : List ℕ → Option Valued
-valued_of word = cond (is (codes "--config") word) (Some Config) (cond (is (codes "--only") word) (Some Only) (cond (is (codes "--exclude") word) (Some Exclude) None))
 
 -- the option with its value behind `=`
 abbrev pub given_of : List ℕ → Option (Valued × List ℕ)
@@ -87,7 +89,8 @@ with_serde r = record r { selection = record r.selection { serde = true } }
 abbrev pub with_option : List ℕ → State → Result State Misuse
 with_option word s =
     cond (is (codes "--serde") word) (Ok (record s { request = with_serde s.request }))
-    (cond (is (codes "--") word) (Ok (record s { ended = true })) (with_valued (valued_of word) word s))
+    (cond (is (codes "--strict") word) (Ok (record s { request = record s.request { strict = true } }))
+    (cond (is (codes "--") word) (Ok (record s { ended = true })) (with_valued (valued_of word) word s)))
 
 -- a value of the option before it, or a file behind `--`, or what stands where options may
 abbrev pub with_word : Option Valued → List ℕ → State → Result State Misuse
@@ -106,7 +109,7 @@ after (word ∷ words) s = and_then (after words) (with_word s.pending word s)
 
 abbrev pub nothing_asked : State
 nothing_asked = record {
-  request = record { selection = record { serde = false; only = []; exclude = [] }; config = None; files = [] };
+  request = record { selection = record { serde = false; only = []; exclude = [] }; strict = false; config = None; files = [] };
   pending = None;
   ended = false;
 }

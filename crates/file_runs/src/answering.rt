@@ -3,21 +3,23 @@
 ghost use Rattle.std.specs.Prelude.{◌≡◌, ◌≢◌, ℕ, List, Some};
 ghost use Rattle.std.specs.Io.KnownBytes.{IsAtEnd};
 ghost use Rattle.streams.specs.Faults.{CountsFault};
+ghost use Rattle.configuration.specs.Configuration.{Configuration};
+ghost use Rattle.configuration.specs.Form.{IsConfigurationText};
+ghost use Rattle.configuration.specs.Said.{IsSaidBy};
 ghost use Rattle.reporting.specs.Beginning.{Beginning};
 ghost use Rattle.file_runs.specs.Contents.{Begins};
-ghost use Rattle.file_runs.specs.Owed.{IsEndingAt, status_at};
+ghost use Rattle.file_runs.specs.Owed.{IsEndingAt, status_at, report_at, FailsAt};
 ghost use Rattle.file_runs.specs.Words.{IsOfInput, IsOfPath};
 
-use crate::document::{document_text, read};
+use crate::document::{Written, document_text, read};
 use crate::ending::Ending;
 use crate::request::Request;
 use crate::status::Status;
 use files::Files;
 use std::alloc::Global;
 use streams::Source;
-use texts::Text;
 
-/// The text of the document of what the request selects of its files, or the ending of a run that has none. It reads the
+/// The text of the document of what the request selects of its files, with what is warned of, or the ending of a run that has none. It reads the
 /// configuration, the input and the files that the request names, in this order, and writes nothing: `Refused` where the
 /// configuration or the files are refused, `ReadFault` where the input cannot be read, `FileFault` where a file cannot.
 pub fn answer<S: Source, F: Files>(
@@ -25,13 +27,15 @@ pub fn answer<S: Source, F: Files>(
     request: &Request,
     input: &mut S,
     files: &mut F,
-) -> Result<Text, Ending>
+) -> Result<Written, Ending>
     ensures owed { (begun : Beginning)
         → Begins S.Source F.Files request.now input.old files.old begun
         → IsEndingAt begun result }
     ensures end { status_at result ≡ Status.Done → IsOfInput request.now
         → IsAtEnd (S.left input.new) }
     ensures unread { ¬ (IsOfInput request.now) → input.new ≡ input.old }
+    ensures unread_config { ((c : Configuration) → ¬ (IsSaidBy IsConfigurationText
+        (F.tells files.old) (F.held files.old) request.now.config c)) → input.new ≡ input.old }
     ensures kept { status_at result ≢ Status.ReadFault
         → S.faults input.new ≡ S.faults input.old }
     ensures failed { status_at result ≡ Status.ReadFault
@@ -41,9 +45,9 @@ pub fn answer<S: Source, F: Files>(
     ensures files_kept { status_at result ≢ Status.FileFault → status_at result ≢ Status.Memory
         → F.faults files.new ≡ F.faults files.old }
     ensures files_failed { status_at result ≡ Status.FileFault → (path : List ℕ)
-        × IsOfPath request.now path × CountsFault (F.faults files.old) (F.faults files.new)
-        × (F.failed files.new ≡ Some path) }
+        × IsOfPath request.now path × FailsAt (F.faults files.old) (F.faults files.new)
+        (F.failed files.new) (F.why files.new) path (report_at result) }
 {
     let reading = read(alloc, request, input, files)?;
-    document_text(alloc, &request.selection, reading)
+    document_text(alloc, request, reading)
 }

@@ -49,24 +49,6 @@ fn question_of(word: &str) -> Option<Question>
     }
 }
 
-/// The first question before a `--`.
-pub fn question_in(words: &[String]) -> Option<Question>
-    ensures { result ≡ question_in (map string_bytes words.now) }
-{
-    let mut rest = words;
-    'words: while let [first, after @ ..] = rest {
-        let word = first.as_str();
-        if word == "--" {
-            return None;
-        }
-        if let Some(question) = question_of(word) {
-            return Some(question);
-        }
-        rest = after;
-    }
-    None
-}
-
 /// The option of the name.
 fn valued_of(word: &str) -> Option<Valued>
     ensures { result ≡ valued_of word.now }
@@ -77,6 +59,26 @@ fn valued_of(word: &str) -> Option<Valued>
         "--exclude" => Some(Valued::Exclude),
         _ => None,
     }
+}
+
+/// The first question before a `--` that ends the options. The value of an option may be a question, but ends no options.
+pub fn question_in(words: &[String]) -> Option<Question>
+    ensures { result ≡ question_in (map string_bytes words.now) }
+{
+    let mut rest = words;
+    let mut is_value = false;
+    'words: while let [first, after @ ..] = rest {
+        let word = first.as_str();
+        if !is_value && word == "--" {
+            return None;
+        }
+        if let Some(question) = question_of(word) {
+            return Some(question);
+        }
+        is_value = !is_value && valued_of(word).is_some();
+        rest = after;
+    }
+    None
 }
 
 /// The option that has its value behind `=`.
@@ -176,6 +178,10 @@ fn with_option(alloc: Global, state: State, word: &str) -> Result<State, Stop>
         state.request.selection.serde = true;
         return Ok(state);
     }
+    if word == "--strict" {
+        state.request.strict = true;
+        return Ok(state);
+    }
     if word == "--" {
         state.ended = true;
         return Ok(state);
@@ -239,6 +245,7 @@ fn nothing_asked(alloc: Global) -> State
                 only: List::new(alloc),
                 exclude: List::new(alloc),
             },
+            strict: false,
             config: None,
             files: List::new(alloc),
         },

@@ -2,19 +2,18 @@
 
 ghost use Rattle.std.specs.Prelude.{◌≡◌, ◌≢◌, ℕ, List as AnyList, IfOk, IfErr};
 ghost use Rattle.diag.specs.Refusal.{Refuses};
-ghost use Rattle.streams.specs.Faults.{CountsFault};
 ghost use Rattle.configuration.specs.Form.{IsConfigurationText, IsRefusedText};
 ghost use Rattle.configuration.specs.Said.{IsSaidBy, SayNone};
 ghost use Rattle.telling.specs.Told.{told_text};
-ghost use Rattle.gathering.specs.Telling.{told_unplaced};
-ghost use Rattle.file_runs.specs.Contents.{IsReadOf, TellsConfig, TellsError};
-ghost use Rattle.file_runs.specs.Owed.{status_of, status_at};
+ghost use Rattle.file_runs.specs.Contents.{IsReadOf, TellsConfig, TellsError, IsFaultyRead};
+ghost use Rattle.file_runs.specs.Given.{told_config};
+ghost use Rattle.file_runs.specs.Owed.{status_of, status_at, report_of, FailsAt};
 
 use crate::ending::Ending;
 use crate::reading::bytes_at;
 use crate::request::Request;
 use crate::status::Status;
-use configuration::{Config, bad_config};
+use configuration::{Config, ConfigPart, bad_config, faulty_part, part_help};
 use diag::{DeriveError, Diagnostics};
 use files::{FileBytes, Files};
 use gathering::told_unplaced;
@@ -24,21 +23,53 @@ use texts::Text;
 /// The most bytes of a configuration.
 const MOST_BYTES: usize = 1_048_576;
 
-/// What is told of the refusal of the configuration at the path.
-fn report_of(alloc: Global, path: &str, refusal: &Diagnostics) -> Result<Text, AllocError>
-    ensures { IfOk result (λ report. report ≡ told_text (told_unplaced path.now refusal.now)) }
+/// The part of the configuration that is at fault, where it is refused for its form, in a file of which this was read.
+fn part_of(alloc: Global, read: &Option<FileBytes>) -> Result<Option<ConfigPart>, AllocError>
+    ensures { IfOk result (IsFaultyRead MOST_BYTES read.now) }
 {
-    let told = told_unplaced(alloc, path, refusal)?;
+    match read {
+        Some(bytes) => faulty_part(alloc, bytes.as_slice()),
+        None => Ok(Some(ConfigPart::Text)),
+    }
+}
+
+/// What is told of the refusal of the configuration at the path, of which this part is at fault.
+fn report_of(
+    alloc: Global,
+    path: &str,
+    refusal: &Diagnostics,
+    part: Option<ConfigPart>,
+) -> Result<Text, AllocError>
+    ensures { IfOk result (λ report. report ≡ told_text (told_config path.now refusal.now part)) }
+{
+    let mut told = told_unplaced(alloc, path, refusal)?;
+    if let Some(part) = part {
+        told.help = Some(Text::new(alloc, part_help(part))?);
+    }
     Ok(Text::from(format!(in alloc; "{told}")?))
 }
 
-/// The ending of a run whose configuration, at the path, has this error.
-fn ending_of(alloc: Global, path: &str, error: DeriveError) -> Ending
-    ensures { TellsError path.now error result }
+/// The ending of a run whose configuration, at the path, is refused; this was read of it.
+fn refused_at(
+    alloc: Global,
+    path: &str,
+    read: &Option<FileBytes>,
+    refusal: &Diagnostics,
+) -> Result<Ending, AllocError>
+    ensures { IfOk result
+        (TellsError (IsFaultyRead MOST_BYTES read.now) path.now (DeriveError.Refused refusal.now)) }
+{
+    let part = part_of(alloc, read)?;
+    Ok(Ending::Refused(report_of(alloc, path, refusal, part)?))
+}
+
+/// The ending of a run whose configuration, at the path, has this error; this was read of it.
+fn ending_of(alloc: Global, path: &str, read: &Option<FileBytes>, error: DeriveError) -> Ending
+    ensures { TellsError (IsFaultyRead MOST_BYTES read.now) path.now error result }
 {
     match error {
-        DeriveError::Refused(refusal) => match report_of(alloc, path, &refusal) {
-            Ok(report) => Ending::Refused(report),
+        DeriveError::Refused(refusal) => match refused_at(alloc, path, read, &refusal) {
+            Ok(ending) => ending,
             Err(AllocError) => Ending::Memory,
         },
         DeriveError::Memory => Ending::Memory,
@@ -70,8 +101,8 @@ pub(crate) fn config_at<F: Files>(
         × (request.now.config ≡ Some path)
         × TellsConfig (F.tells files.old) (F.held files.old path) path ending
         × (status_of ending ≡ Status.FileFault
-        → CountsFault (F.faults files.old) (F.faults files.new)
-        × (F.failed files.new ≡ Some path))) }
+        → FailsAt (F.faults files.old) (F.faults files.new) (F.failed files.new)
+        (F.why files.new) path (report_of ending))) }
     ensures tells_on { F.tells files.new ≡ F.tells files.old }
     ensures same { (other : AnyList ℕ) → F.held files.new other ≡ F.held files.old other }
     ensures kept { status_at result ≢ Status.FileFault → status_at result ≢ Status.Memory
@@ -83,6 +114,6 @@ pub(crate) fn config_at<F: Files>(
     let read = bytes_at(alloc, path.as_str(), MOST_BYTES, files)?;
     match config_of(alloc, &read) {
         Ok(config) => Ok(config),
-        Err(error) => Err(ending_of(alloc, path.as_str(), error)),
+        Err(error) => Err(ending_of(alloc, path.as_str(), &read, error)),
     }
 }

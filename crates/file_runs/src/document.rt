@@ -1,15 +1,18 @@
 //! The document of the files that words name.
 
-ghost use Rattle.std.specs.Prelude.{◌≡◌, ◌≢◌, ℕ, List as AnyList, IfOk, IfErr, Some};
-ghost use Rattle.schema_core.specs.Document.{Entry, document, text_of};
+ghost use Rattle.std.specs.Prelude.{◌≡◌, ◌≢◌, ◌<◌, ℕ, List as AnyList, MatchBool, IfOk, IfErr, Some, true};
+ghost use Rattle.schema_core.specs.Document.{Entry};
 ghost use Rattle.streams.specs.Faults.{CountsFault};
+ghost use Rattle.configuration.specs.Configuration.{Configuration};
 ghost use Rattle.configuration.specs.Form.{IsConfigurationText};
 ghost use Rattle.configuration.specs.Said.{IsSaidBy};
 ghost use Rattle.gathering.specs.Files.{FileOf, Gathers};
+ghost use Rattle.telling.specs.declared.told.Told.{Told as AnyTold};
 ghost use Rattle.file_derivation.specs.Outcomes.{AreDerivedFrom};
-ghost use Rattle.file_runs.specs.Contents.{IsTextAt, EndsReading, EndsDerivation};
+ghost use Rattle.file_derivation.specs.Warned.{AreFirst};
+ghost use Rattle.file_runs.specs.Contents.{IsTextAt, EndsReading, EndsStrict, EndsDerivation};
 ghost use Rattle.file_runs.specs.Given.{AreFilesAt};
-ghost use Rattle.file_runs.specs.Owed.{status_at};
+ghost use Rattle.file_runs.specs.Owed.{status_at, report_at, FailsAt, IsWritten};
 ghost use Rattle.file_runs.specs.Words.{IsOfInput, IsOfPath};
 
 use crate::configured::config_at;
@@ -18,13 +21,14 @@ use crate::ending::Ending;
 use crate::reading::gather;
 use crate::request::Request;
 use crate::status::Status;
+use compose::Derived;
 use configuration::Config;
-use file_derivation::{Outcome, derive_gathered};
+use file_derivation::{Outcome, Warnings, derive_gathered};
 use files::Files;
-use gathering::{Gathered, Selection};
+use gathering::Gathered;
 use std::alloc::Global;
 use streams::Source;
-use telling::all_told;
+use telling::{all_told, first_told};
 use texts::Text;
 
 /// What is read for a request: its configuration, and its files.
@@ -49,6 +53,8 @@ pub(crate) fn read<S: Source, F: Files>(
     ensures ending { IfErr result
         (EndsReading (F.tells files.old) (F.held files.old) request.now) }
     ensures unread { ¬ (IsOfInput request.now) → input.new ≡ input.old }
+    ensures unread_config { ((c : Configuration) → ¬ (IsSaidBy IsConfigurationText
+        (F.tells files.old) (F.held files.old) request.now.config c)) → input.new ≡ input.old }
     ensures kept { status_at result ≢ Status.ReadFault
         → S.faults input.new ≡ S.faults input.old }
     ensures failed { status_at result ≡ Status.ReadFault
@@ -58,8 +64,8 @@ pub(crate) fn read<S: Source, F: Files>(
     ensures files_kept { status_at result ≢ Status.FileFault → status_at result ≢ Status.Memory
         → F.faults files.new ≡ F.faults files.old }
     ensures files_failed { status_at result ≡ Status.FileFault → (path : AnyList ℕ)
-        × IsOfPath request.now path × CountsFault (F.faults files.old) (F.faults files.new)
-        × (F.failed files.new ≡ Some path) }
+        × IsOfPath request.now path × FailsAt (F.faults files.old) (F.faults files.new)
+        (F.failed files.new) (F.why files.new) path (report_at result) }
 {
     let config = config_at(alloc, request, files)?;
     let contents = contents_of(alloc, request, input)?;
@@ -67,22 +73,60 @@ pub(crate) fn read<S: Source, F: Files>(
     Ok(Reading { config, gathered })
 }
 
-/// The document's text of what is selected of the files.
+/// The text of a document, and what is reported beside it.
+#[derive(Drop)]
+pub struct Written {
+    pub document: Text,
+    pub report: Text,
+}
+
+/// Whether the warnings are refusals: there are some, and `strict` makes them such.
+fn are_refused(strict: bool, warnings: &Warnings) -> bool
+    ensures { MatchBool result ((strict ≡ true) × (0 < warnings.now.count))
+        (strict ≡ true → warnings.now.count ≡ 0) }
+{
+    strict && warnings.count > 0
+}
+
+/// The document of what is derived, with what it is warned of; by `strict` warnings end the run.
+fn document_with(
+    alloc: Global,
+    strict: bool,
+    derived: &Derived,
+    warnings: &Warnings,
+) -> Result<Written, Ending>
+    ensures written { IfOk result (λ w. (all : AnyList AnyTold) → AreFirst all warnings.now
+        → IsWritten strict derived.now.components all w) }
+    ensures ending { IfErr result (EndsStrict strict warnings.now) }
+{
+    let report = first_told(alloc, warnings.told.as_slice(), warnings.count)?;
+    if are_refused(strict, warnings) {
+        return Err(Ending::Refused(report));
+    }
+    Ok(Written {
+        document: derived.components.to_text(alloc)?,
+        report,
+    })
+}
+
+/// The document's text of what is selected of the files, and what is warned of; by `strict` warnings are refusals.
 pub(crate) fn document_text(
     alloc: Global,
-    selection: &Selection,
+    request: &Request,
     reading: Reading,
-) -> Result<Text, Ending>
-    ensures document { IfOk result (λ text. (files : AnyList FileOf)
-        → Gathers files reading.gathered → (components : AnyList Entry)
-        × AreDerivedFrom selection.now reading.config files components
-        × (text ≡ text_of (document components))) }
+) -> Result<Written, Ending>
+    ensures document { IfOk result (λ w. (files : AnyList FileOf)
+        → Gathers files reading.gathered → (components : AnyList Entry) × (all : AnyList AnyTold)
+        × AreDerivedFrom request.now.selection reading.config files components all
+        × IsWritten request.now.strict components all w) }
     ensures ending { IfErr result
-        (EndsDerivation selection.now reading.config reading.gathered) }
+        (EndsDerivation request.now reading.config reading.gathered) }
 {
     let Reading { config, gathered } = reading;
-    match derive_gathered(alloc, gathered, selection, config)? {
-        Outcome::Derived(derived) => Ok(derived.components.to_text(alloc)?),
+    match derive_gathered(alloc, gathered, &request.selection, config)? {
+        Outcome::Derived(derived, warnings) => {
+            document_with(alloc, request.strict, &derived, &warnings)
+        }
         Outcome::Refused(told) => Err(Ending::Refused(all_told(alloc, told.as_slice())?)),
     }
 }

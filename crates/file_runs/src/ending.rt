@@ -10,8 +10,8 @@ use texts::Text;
 /// The end of a run, before it is written.
 #[derive(Drop)]
 pub enum Ending {
-    /// This text answers the words.
-    Done(Text),
+    /// This text answers the words, and this is reported beside it.
+    Done(Text, Text),
     /// The configuration or the files are refused, and the text tells why.
     Refused(Text),
     /// The words ask for nothing, and the text tells why.
@@ -41,7 +41,7 @@ impl Ending {
         ensures { result ≡ status_of self.now }
     {
         match self {
-            Ending::Done(_) => Status::Done,
+            Ending::Done(_, _) => Status::Done,
             Ending::Refused(_) => Status::Refused,
             Ending::Usage(_) => Status::Usage,
             Ending::ReadFault => Status::ReadFault,
@@ -55,7 +55,7 @@ impl Ending {
         ensures { result.now ≡ document_of self.now }
     {
         match self {
-            Ending::Done(text) => text.as_str(),
+            Ending::Done(text, _) => text.as_str(),
             _ => "",
         }
     }
@@ -65,11 +65,12 @@ impl Ending {
         ensures { result.now ≡ report_of self.now }
     {
         match self {
+            Ending::Done(_, report) => report.as_str(),
             Ending::Refused(report) => report.as_str(),
             Ending::Usage(report) => report.as_str(),
             Ending::FileFault(report) => report.as_str(),
             Ending::ReadFault => "-: cannot be read\n",
-            Ending::Done(_) | Ending::Memory => "",
+            Ending::Memory => "",
         }
     }
 }

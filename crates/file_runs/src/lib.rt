@@ -16,6 +16,7 @@ mod status;
 
 pub use answering::answer;
 pub use arguments::{Stop, question_in, request_of};
+pub use document::Written;
 pub use ending::Ending;
 pub use files::{Cause, FileAnswer, FileBytes, Files, HonestFiles, MemoryFiles, StdFiles};
 pub use gathering::Selection;

@@ -2,30 +2,41 @@
 
 ghost use Rattle.std.specs.Prelude.{◌≡◌, ◌≢◌, ◌⊎◌, ℕ, List, IfOk, IfErr, codes};
 ghost use Rattle.std.specs.Io.KnownBytes.{Appends, Keeps, IsAtEnd};
-ghost use Rattle.files.specs.declared.cause.Cause.{Cause as AnyCause};
+ghost use Rattle.configuration.specs.Configuration.{Configuration};
 ghost use Rattle.streams.specs.Faults.{CountsFault};
 ghost use Rattle.streams.specs.Told.{AppendsPart};
 ghost use Rattle.reporting.specs.Beginning.{beginning_of};
 ghost use Rattle.file_runs.specs.Contents.{EndsWords};
-ghost use Rattle.file_runs.specs.Owed.{IsDone, IsRefused, IsTold, IsSound, Owed, IsEnding, status_of, ending_of};
+ghost use Rattle.file_runs.specs.Given.{IsConfiguredBy};
+ghost use Rattle.file_runs.specs.Owed.{IsDone, IsRefused, IsTold, IsSound, Owed, IsEnding, FailsAt, status_of, report_of, answered_by, ending_of};
 ghost use Rattle.file_runs.specs.Reports.{misuse_text, fault_line};
 ghost use Rattle.file_runs.specs.Words.{Ask, AskFor, AreMisused, NameInput, NamePath};
 ghost use Rattle.file_runs.specs.declared.request.Misuse.{Misuse as AnyMisuse};
 ghost use Rattle.file_runs.specs.declared.request.Question.{Question as AnyQuestion};
+ghost use Rattle.file_runs.specs.declared.request.Request.{Request as AnyRequest};
 ghost use Rattle.file_runs.specs.declared.status.Status.{Status as AnyStatus};
 
 use crate::answering::answer;
 use crate::arguments::{Stop, question_in, request_of};
+use crate::document::Written;
 use crate::ending::Ending;
 use crate::law::sound_runs_are_not_refused;
 use crate::reports::{answer_text, misuse_text};
-use crate::request::Request;
+use crate::request::{Question, Request};
 use crate::status::Status;
 use files::Files;
 use reporting::{Words, deliver};
-use std::alloc::Global;
+use std::alloc::{AllocError, Global};
 use streams::{Failed, Sink, Source};
 use texts::Text;
+
+/// The ending of a run that answers the question.
+fn answer_of(alloc: Global, question: Question) -> Result<Ending, AllocError>
+    ensures { IfOk result (λ ending. ending ≡ answered_by question) }
+{
+    let text = Text::new(alloc, answer_text(question))?;
+    Ok(Ending::Done(text, Text::new(alloc, "")?))
+}
 
 /// What the words ask for, or the ending of a run that reads nothing: the answer to their question, or how they are misused.
 fn request_at(alloc: Global, words: &Words) -> Result<Request, Ending>
@@ -34,7 +45,7 @@ fn request_at(alloc: Global, words: &Words) -> Result<Request, Ending>
 {
     let words = words.as_slice();
     if let Some(question) = question_in(words) {
-        return Err(Ending::Done(Text::new(alloc, answer_text(question))?));
+        return Err(answer_of(alloc, question)?);
     }
     match request_of(alloc, words) {
         Ok(request) => Ok(request),
@@ -43,12 +54,12 @@ fn request_at(alloc: Global, words: &Words) -> Result<Request, Ending>
     }
 }
 
-/// How a run ends that has this text, or this ending without one.
-fn ending_of(answered: Result<Text, Ending>) -> Ending
+/// How a run ends that has this document, or this ending without one.
+fn ending_of(answered: Result<Written, Ending>) -> Ending
     ensures { result ≡ ending_of answered }
 {
     match answered {
-        Ok(text) => Ending::Done(text),
+        Ok(written) => Ending::Done(written.document, written.report),
         Err(ending) => ending,
     }
 }
@@ -59,6 +70,10 @@ fn end_of<S: Source, F: Files>(alloc: Global, words: &Words, input: &mut S, file
     ensures end { status_of result ≡ Status.Done → NameInput words.now
         → IsAtEnd (S.left input.new) }
     ensures unread { ¬ (NameInput words.now) → input.new ≡ input.old }
+    ensures unread_config { ((c : Configuration) → ¬ (IsConfiguredBy
+        (beginning_of S.Source F.Files words.now input.old files.old) c)) → input.new ≡ input.old }
+    ensures unread_files { ((request : AnyRequest) → ¬ (AskFor words.now request))
+        → files.new ≡ files.old }
     ensures kept { status_of result ≢ Status.ReadFault
         → S.faults input.new ≡ S.faults input.old }
     ensures failed { status_of result ≡ Status.ReadFault
@@ -68,8 +83,8 @@ fn end_of<S: Source, F: Files>(alloc: Global, words: &Words, input: &mut S, file
     ensures files_kept { status_of result ≢ Status.FileFault → status_of result ≢ Status.Memory
         → F.faults files.new ≡ F.faults files.old }
     ensures files_failed { status_of result ≡ Status.FileFault → (path : List ℕ)
-        × NamePath words.now path × CountsFault (F.faults files.old) (F.faults files.new)
-        × (F.failed files.new ≡ Some path) }
+        × NamePath words.now path × FailsAt (F.faults files.old) (F.faults files.new)
+        (F.failed files.new) (F.why files.new) path (report_of result) }
 {
     match request_at(alloc, words) {
         Ok(request) => ending_of(answer(alloc, &request, input, files)),
@@ -78,10 +93,10 @@ fn end_of<S: Source, F: Files>(alloc: Global, words: &Words, input: &mut S, file
 }
 
 /// Runs the program: writes the document of the files that the words name to `out`, or the answer to their question, and
-/// what there is to say beside to `err`: where there is no document each fault that is told, of words that ask for nothing
-/// why and how to use the program, and of the input or a file that cannot be read its path. Words are taken as Unix tools
-/// take them: options stand before or behind files, and each name of an option is whole. But `--help` counts as a question
-/// also where a value is wanted, and a `--` there ends the search for one.
+/// what there is to say beside to `err`: beside a document its warnings, where there is none each fault that is told, of words
+/// that ask for nothing why and how to use the program, and of the input or a file that cannot be read its path. Words are taken as Unix tools
+/// take them: options stand before or behind files, and each name of an option is whole. A question is answered whatever else
+/// the words say, also where a value is wanted, but not behind a `--` that ends the options.
 ///
 /// Nothing is written before all is made, and writing takes no memory. So `out` gets the whole document or nothing, except
 /// after a fault of writing, when it has a front of what it was to get.
@@ -95,10 +110,11 @@ pub fn run<S: Source, F: Files, O: Sink, E: Sink>(
     err: &mut E,
 ) -> Status
     // The bytes that were written are the document of the files, which describes what is selected
-    // of them, or the answer to a question.
-    ensures done { result ≡ Status.Done → (text : List ℕ)
-        × IsDone (beginning_of S.Source F.Files words.now input.old files.old) text
-        × Appends (O.written out.old) (O.written out.new) text }
+    // of them, with its warnings, or the answer to a question.
+    ensures done { result ≡ Status.Done → (text : List ℕ) × (report : List ℕ)
+        × IsDone (beginning_of S.Source F.Files words.now input.old files.old) text report
+        × Appends (O.written out.old) (O.written out.new) text
+        × Appends (E.written err.old) (E.written err.new) report }
     ensures refused { result ≡ Status.Refused → (report : List ℕ)
         × IsRefused (beginning_of S.Source F.Files words.now input.old files.old) report
         × Appends (E.written err.old) (E.written err.new) report }
@@ -108,8 +124,13 @@ pub fn run<S: Source, F: Files, O: Sink, E: Sink>(
         → (result ≡ Status.Usage) ⊎ (result ≡ Status.Memory) ⊎ (result ≡ Status.WriteFault) }
     ensures answered { (question : AnyQuestion) → Ask words.now question
         → (result ≡ Status.Done) ⊎ (result ≡ Status.Memory) ⊎ (result ≡ Status.WriteFault) }
-    // The input is read only where the words name it, and files hold what they held.
+    // The input is read only where the words name it and a configuration is said, and files only
+    // where the words ask for a document; these hold what they held.
     ensures unread { ¬ (NameInput words.now) → input.new ≡ input.old }
+    ensures unread_config { ((c : Configuration) → ¬ (IsConfiguredBy
+        (beginning_of S.Source F.Files words.now input.old files.old) c)) → input.new ≡ input.old }
+    ensures unread_files { ((request : AnyRequest) → ¬ (AskFor words.now request))
+        → files.new ≡ files.old }
     ensures tells_on { F.tells files.new ≡ F.tells files.old }
     ensures same { (path : List ℕ) → F.held files.new path ≡ F.held files.old path }
     // What is sound has its document, where it is told, unless something fails or memory is wanted.
@@ -135,8 +156,7 @@ pub fn run<S: Source, F: Files, O: Sink, E: Sink>(
         × AppendsPart (E.written err.old) (E.written err.new) report }
     ensures out_kept { result ≢ Status.Done → result ≢ Status.WriteFault
         → Keeps (O.written out.old) (O.written out.new) }
-    ensures err_kept { (result ≡ Status.Done) ⊎ (result ≡ Status.Memory)
-        → Keeps (E.written err.old) (E.written err.new) }
+    ensures err_kept { result ≡ Status.Memory → Keeps (E.written err.old) (E.written err.new) }
     // Faults have causes, and after `Done` the input that the words name has nothing left.
     ensures read_fault { result ≡ Status.ReadFault → NameInput words.now }
     ensures read_count { result ≡ Status.ReadFault
@@ -145,10 +165,8 @@ pub fn run<S: Source, F: Files, O: Sink, E: Sink>(
         (E.written err.new) (codes "-: cannot be read\n") }
     ensures file_fault { result ≡ Status.FileFault → (path : List ℕ)
         × NamePath words.now path × CountsFault (F.faults files.old) (F.faults files.new)
-        × (F.failed files.new ≡ Some path) }
-    ensures file_line { result ≡ Status.FileFault → (path : List ℕ) × (cause : AnyCause)
-        × NamePath words.now path
-        × Appends (E.written err.old) (E.written err.new) (fault_line path cause) }
+        × (F.failed files.new ≡ Some path)
+        × Appends (E.written err.old) (E.written err.new) (fault_line path (F.why files.new)) }
     ensures write_fault { result ≡ Status.WriteFault
         → CountsFault (O.faults out.old) (O.faults out.new)
         ⊎ CountsFault (E.faults err.old) (E.faults err.new) }

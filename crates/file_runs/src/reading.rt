@@ -2,13 +2,12 @@
 
 ghost use Rattle.std.specs.Prelude.{◌≡◌, ◌≤◌, ℕ, List as AnyList, true, false, codes, IfOk, IfErr, OnOk};
 ghost use Rattle.std.specs.declared.option.Option.{Option as AnyOption};
-ghost use Rattle.streams.specs.Faults.{CountsFault};
 ghost use Rattle.files.specs.Held.{IsHeld};
 ghost use Rattle.texts.specs.Names.{is_in};
 ghost use Rattle.gathering.specs.Files.{FileOf, Gathers, most_bytes};
 ghost use Rattle.file_runs.specs.Contents.{IsReadOf, AreContents, IsTextBy, IsTextAt, Adds, TellsFile};
 ghost use Rattle.file_runs.specs.Given.{AreFilesAt};
-ghost use Rattle.file_runs.specs.Owed.{status_of, status_at};
+ghost use Rattle.file_runs.specs.Owed.{status_of, status_at, report_of, report_at, FailsAt};
 ghost use Rattle.file_runs.specs.Words.{is_input};
 
 use crate::contents::MOST_BYTES;
@@ -34,8 +33,8 @@ pub(crate) fn bytes_at<F: Files>(
     ensures same { (other : AnyList ℕ) → F.held files.new other ≡ F.held files.old other }
     ensures calm { OnOk result (F.faults files.new ≡ F.faults files.old) }
     ensures failed { status_at result ≡ Status.FileFault
-        → CountsFault (F.faults files.old) (F.faults files.new)
-        × (F.failed files.new ≡ Some path.now) }
+        → FailsAt (F.faults files.old) (F.faults files.new) (F.failed files.new)
+        (F.why files.new) path.now (report_at result) }
 {
     match files.read_file(alloc, path, most) {
         Ok(bytes) => Ok(Some(bytes)),
@@ -85,8 +84,8 @@ fn add_path<F: Files>(
     ensures same { (other : AnyList ℕ) → F.held files.new other ≡ F.held files.old other }
     ensures calm { OnOk result (F.faults files.new ≡ F.faults files.old) }
     ensures failed { status_at result ≡ Status.FileFault
-        → CountsFault (F.faults files.old) (F.faults files.new)
-        × (F.failed files.new ≡ Some path.now) }
+        → FailsAt (F.faults files.old) (F.faults files.new) (F.failed files.new)
+        (F.why files.new) path.now (report_at result) }
 {
     if path == "-" {
         add(alloc, gathered, path, contents)?;
@@ -112,8 +111,8 @@ pub(crate) fn gather<F: Files>(
     ensures ending { IfErr result (λ ending. (path : AnyList ℕ) × TellsFile path ending
         × (status_of ending ≡ Status.FileFault
         → (is_in path paths.now ≡ true) × (is_input path ≡ false)
-        × CountsFault (F.faults files.old) (F.faults files.new)
-        × (F.failed files.new ≡ Some path))) }
+        × FailsAt (F.faults files.old) (F.faults files.new) (F.failed files.new)
+        (F.why files.new) path (report_of ending))) }
     ensures tells_on { F.tells files.new ≡ F.tells files.old }
     ensures same { (other : AnyList ℕ) → F.held files.new other ≡ F.held files.old other }
     ensures calm { OnOk result (F.faults files.new ≡ F.faults files.old) }

@@ -2,10 +2,12 @@
 
 ghost use Rattle.std.specs.Prelude.{◌≡◌, string_bytes, IfOk};
 ghost use Rattle.file_runs.specs.Contents.{TellsFile};
+ghost use Rattle.file_runs.specs.Owed.{status_of, report_of};
 ghost use Rattle.file_runs.specs.Reports.{option_name, misuse_line, misuse_text, cause_text, fault_line, answer_text};
 
 use crate::ending::Ending;
 use crate::request::{Misuse, Question, Valued};
+use crate::status::Status;
 use files::Cause;
 use std::alloc::{AllocError, Global};
 use texts::Text;
@@ -19,16 +21,19 @@ stands; `-` is standard input. Declarations are found in modules too, but not in
 for tests alone. All files together declare what is described, and no two of them may declare one name.
 
   --serde          only declarations that derive Serialize, Deserialize or ToSchema, and those that they name
-  --only NAME      only declarations of this name, and those that they name; again for one name more
+  --only NAME      only declarations of this name, and those that they name, also without --serde's traits; again for
+                   one name more
   --exclude NAME   no declaration of this name, and none for its sake; again for one name more
   --config PATH    by the configuration in the JSON file at PATH
+  --strict         warnings are refusals
   --               what follows are files
   -h, --help       this text
   --version        the version of the program, and the logic of the toolchain that proves it
 
 An option stands before or behind files, and its value behind a space or `=`. Standard output gets the document and
-nothing else. Status: 0 written; 1 refused, each fault with its place; 2 other words; 3 standard input cannot be read;
-4 the output cannot be written; 5 out of memory; 6 a file cannot be read.
+nothing else; standard error gets the warnings: attributes by which the JSON is another than the schemas say. Status:
+0 written; 1 refused, each fault with its place where it has one, and no document; 2 other words; 3 standard input
+cannot be read; 4 the output cannot be written; 5 out of memory; 6 a file cannot be read.
 ";
 
 /// The version of the program, and the logic of the toolchain that proves it, as `rt version` names it.
@@ -95,7 +100,9 @@ fn fault_line(alloc: Global, path: &str, cause: Cause) -> Result<Text, AllocErro
 
 /// The ending of a run that cannot read the file at the path.
 pub(crate) fn file_fault(alloc: Global, path: &str, cause: Cause) -> Ending
-    ensures { TellsFile path.now result }
+    ensures ending { TellsFile path.now result }
+    ensures told { status_of result ≡ Status.FileFault
+        → report_of result ≡ fault_line path.now cause }
 {
     match fault_line(alloc, path, cause) {
         Ok(line) => Ending::FileFault(line),

@@ -43,6 +43,8 @@ pub enum Misuse {
 pub struct Request {
     /// Which of the declarations in the files.
     pub selection: Selection,
+    /// Whether warnings are refusals.
+    pub strict: bool,
     /// The path of the configuration, where one is named.
     pub config: Option<Text>,
     /// The paths of the files, in order; `-` is the input.

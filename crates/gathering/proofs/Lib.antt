@@ -1,3 +1,4 @@
 mod Choosing
+mod Stopping
 mod Taking
 mod Together

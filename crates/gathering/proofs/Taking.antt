@@ -5,7 +5,9 @@ use Rattle.prepare.specs.declared.file_items.FileItem.{FileItem}
 use Rattle.telling.specs.declared.told.Told.{Told}
 use Rattle.prepare.specs.FileItems.{AreItemsOf}
 use Rattle.prepare.specs.FileTexts.{text_of_file}
-use Rattle.gathering.specs.Files.{FileOf, HasItems, IsToldOfFile, too_long, no_text, no_file, AreGathered, no_files, has_items, is_told, Gathers}
+use Rattle.gathering.specs.Files.{FileOf, HasItems, IsToldOfFile, too_long, no_text, no_file, AreGathered, no_files, has_items, is_told, HaveImpls, no_impls, has_impls, none_told, Gathers}
+use Rattle.gathering.specs.Impls.{HasImpls}
+use Rattle.gathering.specs.declared.file_impls.FileImpl.{FileImpl}
 use Rattle.gathering.specs.declared.gathered.Gathered.{Gathered}
 use Rattle.diag.specs.declared.diagnostics.DiangosticsInner.{DiangosticsInner}
 use Rattle.diag.specs.declared.error.DeriveError.{DeriveError}
@@ -38,20 +40,40 @@ many names files e = ap length e ∙ length-map files (λ f. f.name) ∙ (omega 
 pub named_after : (names : List (List ℕ)) (files : List FileOf) (f : FileOf) → names ≡ map (λ f. f.name) files → names ++ f.name ∷ [] ≡ map (λ f. f.name) (files ++ f ∷ [])
 named_after names files f e = ap (λ v. v ++ f.name ∷ []) e ∙ sym (map_push (λ f. f.name) files f)
 
--- a file more is gathered
-pub gathers_file : (files : List FileOf) (f : FileOf) (g after : Gathered) (n : ℕ) (own : List FileItem) → n ≡ length g.names → after.names ≡ g.names ++ f.name ∷ [] → after.items ≡ g.items ++ own → after.faults ≡ g.faults → HasItems n f.bytes own → Gathers files g
-    → Gathers (files ++ f ∷ []) after
-gathers_file files f g after n own number names items faults has (named, are) =
-    let has_own = subst (λ m. HasItems m f.bytes own) (number ∙ many g.names files named) has in (
-      names ∙ named_after g.names files f named,
-      subst (λ (v : List FileItem). AreGathered 0 (files ++ f ∷ []) v after.faults) (sym items) (subst (AreGathered 0 (files ++ f ∷ []) (g.items ++ own)) (sym faults) (file_after files f are has_own)),
-    )
+-- one file more, with its impls or told of
+pub impls_after : {n : ℕ} (files : List FileOf) (f : FileOf) {own impls : List FileImpl} → HaveImpls n files impls → HasImpls (n + length files) f.bytes own → HaveImpls n (files ++ f ∷ []) (impls ++ own)
+impls_after {n = n} [] f {own = own} no_impls h =
+    let first : HasImpls n f.bytes own = subst (λ m. HasImpls m f.bytes own) (omega arith) h in
+    subst (λ v. HaveImpls n (f ∷ []) v) (append-nil own) (has_impls first no_impls)
+impls_after {n = n} (g ∷ files) f {own = own} (has_impls {own = mine} {impls = rest} k more) h =
+    subst (λ v. HaveImpls n (g ∷ (files ++ f ∷ [])) v) (sym (append_assoc mine rest own)) (has_impls k (impls_after files f more (subst (λ m. HasImpls m f.bytes own) (next n files g) h)))
+impls_after {n = n} (g ∷ files) f {own = own} (none_told k more) h = none_told k (impls_after files f more (subst (λ m. HasImpls m f.bytes own) (next n files g) h))
 
-pub gathers_told : (files : List FileOf) (f : FileOf) (g after : Gathered) (told : Told) → after.names ≡ g.names ++ f.name ∷ [] → after.items ≡ g.items → after.faults ≡ g.faults ++ told ∷ [] → IsToldOfFile f told → Gathers files g → Gathers (files ++ f ∷ []) after
-gathers_told files f g after told names items faults is (named, are) = (
-  names ∙ named_after g.names files f named,
-  subst (λ (v : List FileItem). AreGathered 0 (files ++ f ∷ []) v after.faults) (sym items) (subst (AreGathered 0 (files ++ f ∷ []) g.items) (sym faults) (told_after files f are is)),
-)
+pub no_impls_after : {n : ℕ} (files : List FileOf) (f : FileOf) {told : Told} {impls : List FileImpl} → HaveImpls n files impls → IsToldOfFile f told → HaveImpls n (files ++ f ∷ []) impls
+no_impls_after [] f no_impls h = none_told h no_impls
+no_impls_after (g ∷ files) f (has_impls k more) h = has_impls k (no_impls_after files f more h)
+no_impls_after (g ∷ files) f (none_told k more) h = none_told k (no_impls_after files f more h)
+
+-- a file more is gathered
+pub gathers_file : (files : List FileOf) (f : FileOf) (g after : Gathered) (n : ℕ) (own : List FileItem) (mine : List FileImpl) → n ≡ length g.names → after.names ≡ g.names ++ f.name ∷ [] → after.items ≡ g.items ++ own → after.impls ≡ g.impls ++ mine
+    → after.faults ≡ g.faults → HasItems n f.bytes own → HasImpls n f.bytes mine → Gathers files g → Gathers (files ++ f ∷ []) after
+gathers_file files f g after n own mine number names items impls faults has have gathers =
+    let at = number ∙ many g.names files gathers.named in
+    let has_own = subst (λ m. HasItems m f.bytes own) at has in
+    let has_mine = subst (λ m. HasImpls m f.bytes mine) at have in
+    record {
+      named = names ∙ named_after g.names files f gathers.named;
+      items = subst (λ (v : List FileItem). AreGathered 0 (files ++ f ∷ []) v after.faults) (sym items) (subst (AreGathered 0 (files ++ f ∷ []) (g.items ++ own)) (sym faults) (file_after files f gathers.items has_own));
+      impls = subst (HaveImpls 0 (files ++ f ∷ [])) (sym impls) (impls_after files f gathers.impls has_mine);
+    }
+
+pub gathers_told : (files : List FileOf) (f : FileOf) (g after : Gathered) (told : Told) → after.names ≡ g.names ++ f.name ∷ [] → after.items ≡ g.items → after.impls ≡ g.impls → after.faults ≡ g.faults ++ told ∷ [] → IsToldOfFile f told → Gathers files g
+    → Gathers (files ++ f ∷ []) after
+gathers_told files f g after told names items impls faults is gathers = record {
+  named = names ∙ named_after g.names files f gathers.named;
+  items = subst (λ (v : List FileItem). AreGathered 0 (files ++ f ∷ []) v after.faults) (sym items) (subst (AreGathered 0 (files ++ f ∷ []) g.items) (sym faults) (told_after files f gathers.items is));
+  impls = subst (HaveImpls 0 (files ++ f ∷ [])) (sym impls) (no_impls_after files f gathers.impls is);
+}
 
 -- the error that a refusal is refuses the text
 pub cause_of : (text : List ℕ) (e : DeriveError) (d own : List DiangosticsInner) → e ≡ Refused d → own ≡ d → (e ≡ Memory) ⊎ IsDepthError text e ⊎ IsNoFile text e → IsDepthError text (Refused own) ⊎ IsNoFile text (Refused own)
@@ -67,8 +89,8 @@ ItemsAreOne = (file : ℕ) (source : List ℕ) (items others : List FileItem) �
 not_told : (n : ℕ) (f : FileOf) (own : List FileItem) (told : Told) → HasItems n f.bytes own → IsToldOfFile f told → ⊥
 not_told n f own told h (too_long long) = let short = h.short in absurd (omega arith)
 not_told n f own told h (no_text end short broken front empty) = broken h.utf8
-not_told n f own told h (no_file short utf8 (inl deep)) = h.shallow deep.0 deep.2
-not_told n f own told h (no_file short utf8 (inr none)) = none.3 h.items_are.0 h.items_are.1
+not_told n f own told h (no_file short utf8 (inl deep) help) = h.shallow deep.0 deep.2
+not_told n f own told h (no_file short utf8 (inr none) help) = none.3 h.items_are.0 h.items_are.1
 
 pub as_one : ItemsAreOne → GatheredAsOne
 as_one one n [] items others faults no_files no_files = (refl, refl)

@@ -1,5 +1,5 @@
 -- What stands in files, and why one has no declarations.
-use Rattle.std.specs.Prelude.{◌≡◌, ◌<◌, ◌≤◌, ◌⊎◌, ℕ, suc, List, [], ◌∷◌, ◌++◌, length, map, take}
+use Rattle.std.specs.Prelude.{◌≡◌, ◌<◌, ◌≤◌, ◌⊎◌, ℕ, suc, List, [], ◌∷◌, ◌++◌, length, map, take, Option}
 use Rattle.std.specs.Str.{IsUtf8, IsValidUpTo}
 use Rattle.diag.specs.declared.diagnostics.DiangosticsInner.{DiangosticsInner}
 use Rattle.diag.specs.declared.error.DeriveError.TheVariants.{Refused}
@@ -10,7 +10,10 @@ use Rattle.prepare.specs.Prepared.{IsNoFile}
 use Rattle.prepare.specs.declared.file_items.FileItem.{FileItem}
 use Rattle.telling.specs.declared.told.Told.{Told}
 use Rattle.texts.specs.declared.span.Span.{Span}
+use Rattle.gathering.specs.Stops.{IsHelpOfStop}
 use Rattle.gathering.specs.Telling.{whole, told_by, told_longer, told_broken}
+use Rattle.gathering.specs.Impls.{HasImpls}
+use Rattle.gathering.specs.declared.file_impls.FileImpl.{FileImpl}
 use Rattle.gathering.specs.declared.gathered.Gathered.{Gathered}
 use Rattle.gathering.specs.declared.gathered.Stop.{Stop}
 use Rattle.gathering.specs.declared.gathered.Stop.TheVariants as stop
@@ -44,8 +47,8 @@ pub data IsToldOfFile (f : FileOf) : Told → Type 0 where
   too_long : most_bytes < length f.bytes → IsToldOfFile f (told_longer f.name)
   no_text : {front : ℕ} (end : Span) → length f.bytes ≤ most_bytes → ¬ (IsUtf8 f.bytes) → IsValidUpTo f.bytes front → IsEndOf (text_of_file (take front f.bytes)) end
       → IsToldOfFile f (told_broken f.name (text_of_file (take front f.bytes)) end)
-  no_file : {d : List DiangosticsInner} → length f.bytes ≤ most_bytes → IsUtf8 f.bytes → IsDepthError (text_of_file f.bytes) (Refused d) ⊎ IsNoFile (text_of_file f.bytes) (Refused d)
-      → IsToldOfFile f (told_by f.name whole (text_of_file f.bytes) d)
+  no_file : {d : List DiangosticsInner} {help : Option (List ℕ)} → length f.bytes ≤ most_bytes → IsUtf8 f.bytes → IsDepthError (text_of_file f.bytes) (Refused d) ⊎ IsNoFile (text_of_file f.bytes) (Refused d)
+      → IsHelpOfStop f.name (text_of_file f.bytes) d help → IsToldOfFile f (record (told_by f.name whole (text_of_file f.bytes) d) { help = help })
 
 -- the bytes are those of a file that may be read, and this is its text
 abbrev pub IsTextOfFile : List ℕ → List ℕ → Type 0
@@ -62,6 +65,14 @@ pub data AreGathered : ℕ → List FileOf → List FileItem → List Told → T
   has_items : {n : ℕ} {f : FileOf} {files : List FileOf} {own items : List FileItem} {faults : List Told} → HasItems n f.bytes own → AreGathered (suc n) files items faults → AreGathered n (f ∷ files) (own ++ items) faults
   is_told : {n : ℕ} {f : FileOf} {files : List FileOf} {items : List FileItem} {told : Told} {faults : List Told} → IsToldOfFile f told → AreGathered (suc n) files items faults → AreGathered n (f ∷ files) items (told ∷ faults)
 
--- the files have been taken, from the first on
-abbrev pub Gathers : List FileOf → Gathered → Type 0
-Gathers files g = (g.names ≡ map (λ f. f.name) files) × AreGathered 0 files g.items g.faults
+-- Of the files, of which the first has this number, each has its impls by hand, or none where it is told of, in order.
+pub data HaveImpls : ℕ → List FileOf → List FileImpl → Type 0 where
+  no_impls : {n : ℕ} → HaveImpls n [] []
+  has_impls : {n : ℕ} {f : FileOf} {files : List FileOf} {own impls : List FileImpl} → HasImpls n f.bytes own → HaveImpls (suc n) files impls → HaveImpls n (f ∷ files) (own ++ impls)
+  none_told : {n : ℕ} {f : FileOf} {files : List FileOf} {told : Told} {impls : List FileImpl} → IsToldOfFile f told → HaveImpls (suc n) files impls → HaveImpls n (f ∷ files) impls
+
+-- The files have been taken, from the first on.
+pub record Gathers (files : List FileOf) (g : Gathered) : Type 0 where
+  pub named : g.names ≡ map (λ f. f.name) files
+  pub items : AreGathered 0 files g.items g.faults
+  pub impls : HaveImpls 0 files g.impls

@@ -1,5 +1,7 @@
 pub mod Files
+pub mod Impls
 pub mod Laws
 pub mod Reading
 pub mod Selected
+pub mod Stops
 pub mod Telling

@@ -1,6 +1,9 @@
 -- What is told of a refusal.
-use Rattle.std.specs.Prelude.{ℕ, List, [], ◌∷◌, Option, Some, None, codes}
+use Rattle.std.specs.Prelude.{ℕ, List, [], ◌∷◌, ◌++◌, take, drop, bytes_eq, cond, option_map, Option, Some, None, codes}
+use Rattle.std.specs.Option.{option_or}
 use Rattle.diag.specs.Kind.{name_of}
+use Rattle.diag.specs.declared.kind.Kind.{Kind}
+use Rattle.diag.specs.declared.kind.Kind.TheVariants.{BadRow, AliasDepth, MissingRow, UnknownType, BadArgument, TypeSize, TooManyInstances, TooManyCopies}
 use Rattle.diag.specs.declared.diagnostics.DiangosticsInner.{DiangosticsInner}
 use Rattle.diag.specs.declared.suggestion.Suggestion.{Suggestion}
 use Rattle.diag.specs.declared.suggestion.Suggestion.TheVariants.{Help}
@@ -14,13 +17,43 @@ use Rattle.texts.specs.declared.span.Span.{Span}
 abbrev pub whole : Place
 whole = record { line = 1; column = 1; before = []; behind = [] }
 
+-- ---- what the reader may do
+
 -- suggestions have the helps first
 abbrev pub help_of : List Suggestion → Option (List ℕ)
 help_of (Help text ∷ others) = Some text
 help_of _ = None
 
+-- the name in the message of an unknown type
+abbrev pub unknown_type : List ℕ → Option (List ℕ)
+unknown_type message = cond (bytes_eq (take 13 message) (codes "unknown type ")) (Some (drop 13 message)) None
+
+abbrev pub declare_help : List ℕ → List ℕ
+declare_help name = codes "add a declaration that says its JSON, as `struct " ++ (name ++ codes "(String);`, or the file that declares it")
+
+-- about a fault of the kind, whatever is told of it
+abbrev pub plain_help : Kind → Option (List ℕ)
+plain_help BadRow = Some (codes "an alias is the text of a type, as it stands behind the `:` of a field")
+plain_help AliasDepth = Some (codes "leave out the alias, and declare a struct of its name")
+plain_help MissingRow = Some (codes "give it a `rename`")
+plain_help BadArgument = Some (codes "give it a struct of its own")
+plain_help TypeSize = Some (codes "give a part of it a struct of its own")
+plain_help TooManyInstances = Some (codes "raise `limit` in the configuration, at most to 4096")
+plain_help TooManyCopies = Some (codes "raise `copies` in the configuration, at most to 100000")
+plain_help _ = None
+
+-- about a fault of the kind, with this message
+abbrev pub kind_help : Kind → List ℕ → Option (List ℕ)
+kind_help UnknownType message = option_map declare_help (unknown_type message)
+kind_help kind message = plain_help kind
+
+abbrev pub entry_help : DiangosticsInner → Option (List ℕ)
+entry_help entry = option_or (help_of entry.suggestions) (kind_help entry.kind entry.message)
+
+-- ---- what is told
+
 abbrev pub told_entry : List ℕ → Place → List ℕ → DiangosticsInner → Told
-told_entry path place text entry = record (told_at path place text entry.span (name_of entry.kind) entry.message) { help = help_of entry.suggestions }
+told_entry path place text entry = record (told_at path place text entry.span (name_of entry.kind) entry.message) { help = entry_help entry }
 
 -- what is told of the refusal of a text that stands at this place in the file of the path
 abbrev pub told_by : List ℕ → Place → List ℕ → List DiangosticsInner → Told
@@ -38,7 +71,7 @@ told_longer path = told_plainly path (codes "TooLong") (codes "the file is longe
 -- what is told of a refusal that has no place, of the file of the path, or of none
 abbrev pub told_unplaced : List ℕ → List DiangosticsInner → Told
 told_unplaced path [] = told_plainly path [] []
-told_unplaced path (entry ∷ entries) = record (told_plainly path (name_of entry.kind) entry.message) { help = help_of entry.suggestions }
+told_unplaced path (entry ∷ entries) = record (told_plainly path (name_of entry.kind) entry.message) { help = entry_help entry }
 
 -- what is told of a text behind which bytes stand that are no UTF-8, at its end
 abbrev pub told_broken : List ℕ → List ℕ → Span → Told

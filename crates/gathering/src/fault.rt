@@ -1,9 +1,10 @@
 //! What is told of refusals.
 
-ghost use Rattle.std.specs.Prelude.{◌≡◌, option_map, IfOk};
-ghost use Rattle.gathering.specs.Telling.{whole, help_of, told_by, told_plainly, told_unplaced};
+ghost use Rattle.std.specs.Prelude.{◌≡◌, IfOk};
+ghost use Rattle.gathering.specs.Telling.{whole, told_by, told_plainly, told_unplaced};
 
-use diag::{Diagnostics, Suggestion};
+use crate::help::entry_help;
+use diag::Diagnostics;
 use std::alloc::{AllocError, Global};
 use telling::{Place, Told, told_in};
 use texts::Text;
@@ -18,25 +19,6 @@ pub(crate) fn whole(alloc: Global) -> Result<Place, AllocError>
         before: Text::new(alloc, "")?,
         behind: Text::new(alloc, "")?,
     })
-}
-
-/// The text of the first help.
-fn help_of(suggestions: &[Suggestion]) -> Option<&Text>
-    ensures { option_map (λ text. text.now) result ≡ help_of suggestions.now }
-{
-    match suggestions {
-        [Suggestion::Help(text), ..] => Some(text),
-        _ => None,
-    }
-}
-
-fn copy_of(alloc: Global, text: Option<&Text>) -> Result<Option<Text>, AllocError>
-    ensures { IfOk result (λ copy. copy ≡ option_map (λ text. text.now) text.entry) }
-{
-    match text {
-        Some(text) => Ok(Some(text.copy(alloc)?)),
-        None => Ok(None),
-    }
 }
 
 /// What is told of the refusal of a text that stands at the place in the file of the path.
@@ -59,7 +41,7 @@ pub fn told_by(
         refusal.kind().name(),
         refusal.message(),
     )?;
-    told.help = copy_of(alloc, help_of(refusal.suggestions()))?;
+    told.help = entry_help(alloc, refusal)?;
     Ok(told)
 }
 
@@ -86,6 +68,6 @@ pub fn told_unplaced(alloc: Global, path: &str, refusal: &Diagnostics) -> Result
     ensures { IfOk result (λ told. told ≡ told_unplaced path.now refusal.now) }
 {
     let mut told = told_plainly(alloc, path, refusal.kind().name(), refusal.message())?;
-    told.help = copy_of(alloc, help_of(refusal.suggestions()))?;
+    told.help = entry_help(alloc, refusal)?;
     Ok(told)
 }

@@ -20,7 +20,7 @@ pub struct Selection {
 }
 
 /// Whether the name is one of these.
-fn is_in(name: &str, names: &[Text]) -> bool
+pub fn is_in(name: &str, names: &[Text]) -> bool
     ensures { result ≡ is_in name.now names.now }
 {
     let mut rest = names;

@@ -3,6 +3,7 @@ mod Behind
 mod Groups
 mod Feeds
 pub mod Ending
+mod ImplsLie
 mod Lying
 mod One
 mod Parts

@@ -85,7 +85,7 @@ module _ (source : List ℕ) (utf8 : IsUtf8 source) where
   front_in (suc n) (t ∷ ts) h = (h.0, front_in n ts h.1)
 
   -- ---- spans
-  tree_is_slice : (t : Tree) → LiesIn source t → IsSlice source (span_of t)
+  pub tree_is_slice : (t : Tree) → LiesIn source t → IsSlice source (span_of t)
   tree_is_slice (token t) h = h
   tree_is_slice (group b ts s) h = (h.0, h.1)
 
@@ -103,7 +103,7 @@ module _ (source : List ℕ) (utf8 : IsUtf8 source) where
   later_of : (a b : ℕ) → IsCharBoundary source a → IsCharBoundary source b → IsCharBoundary source (max a b)
   later_of a b h g = elim (max_is a b) [ inl e ↦ subst (IsCharBoundary source) (sym e) h | inr e ↦ subst (IsCharBoundary source) (sym e) g ]
 
-  cover_is_slice : (a b : Span) → IsSlice source a → IsSlice source b → IsSlice source (cover a b)
+  pub cover_is_slice : (a b : Span) → IsSlice source a → IsSlice source b → IsSlice source (cover a b)
   unfolding cover
   cover_is_slice a b h g = (h.0, later_of a.start b.end h.0 g.1)
 

@@ -1,5 +1,6 @@
 -- Impls of serde's traits that are written by hand (The Rust Reference, "Implementations", "Paths").
 use Rattle.std.specs.Prelude.{◌≡◌, ℕ, List, [], ◌∷◌, ◌++◌, codes, Bool, not, cond, ◌&&◌, ◌==◌, option_map, Option, Some, None}
+use Rattle.std.specs.List.{AllByRecursion}
 use Rattle.texts.specs.declared.span.Span.{Span}
 use Rattle.tokens.specs.declared.token.Bracket.TheVariants.{Curly}
 use Rattle.tokens.specs.Trees.{Tree, group, Trees, end, ◌▸◌}
@@ -14,6 +15,7 @@ use Rattle.prepare.specs.declared.previous.Behind.{Behind}
 use Rattle.prepare.specs.declared.previous.Behind.TheVariants.{Other}
 use Rattle.prepare.specs.Trees.{is_word, is_sign, is_curly, is_path_part, span_of}
 use Rattle.prepare.specs.Ends.{behind, angles}
+use Rattle.prepare.specs.FileItems.{IsSlice}
 
 -- ---- heads
 
@@ -108,3 +110,7 @@ abbrev mutual
 -- the source is cut into trees, in which these are written
 abbrev pub AreHandImpls : List ℕ → List HandImpl → Type 0
 AreHandImpls source impls = (trees : Trees) × IsCut source trees × (impls ≡ hand_impls trees)
+
+-- each begins and ends between two characters of the source
+abbrev pub AreSlicedImpls : List ℕ → List HandImpl → Type 0
+AreSlicedImpls source impls = AllByRecursion (λ h. IsSlice source h.span) impls

@@ -1,4 +1,3 @@
-mod DocumentLaws
 mod Keys
 mod Lists
 mod Rowless

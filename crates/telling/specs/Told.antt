@@ -58,6 +58,14 @@ told_at path place text span label message =
 
 -- ---- its text
 
+-- a place, as editors read it
+abbrev pub place_text : (path : List ℕ) → (line column : ℕ) → List ℕ
+place_text path line column = path ++ (codes ":" ++ (decimal line ++ (codes ":" ++ decimal column)))
+
+-- where an offset of the text stands that stands at a place in the file of the path
+abbrev pub place_in : (path : List ℕ) → Place → (text : List ℕ) → ℕ → List ℕ
+place_in path place text at = place_text path (held (line_in place text at)) (held (column_in place text at))
+
 -- what is not empty, before what it heads
 abbrev pub heading : List ℕ → List ℕ
 heading [] = []
@@ -87,5 +95,9 @@ told_text told =
 abbrev pub more_line : ℕ → List ℕ
 more_line count = cond (nat_le count 100) [] (codes "and " ++ (decimal (count - 100) ++ codes " more\n"))
 
+-- the first hundred, of so many in all
+abbrev pub first_told : List Told → ℕ → List ℕ
+first_told told count = flat_map told_text (take 100 told) ++ more_line count
+
 abbrev pub all_told : List Told → List ℕ
-all_told told = flat_map told_text (take 100 told) ++ more_line (length told)
+all_told told = first_told told (length told)

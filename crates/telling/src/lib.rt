@@ -9,7 +9,7 @@ mod position;
 mod told;
 
 pub use law::parts_tell_of_their_files;
-pub use marked::told_in;
+pub use marked::{place_in, place_text, told_in};
 pub use part::{Place, Places};
 pub use position::{Position, place};
-pub use told::{Shown, Told, all_told};
+pub use told::{Shown, Told, all_told, first_told};

@@ -1,7 +1,8 @@
 //! The line in which a fault stands, with marks under it.
 
 ghost use Rattle.std.specs.Prelude.{◌≡◌, ◌≤◌, ◌*◌, length, chars, sum_by, IfOk, OnOk, ◌++◌};
-ghost use Rattle.telling.specs.Told.{columns, under, marks, begun, in_front, from_on, shown_at, told_at};
+ghost use Rattle.telling.specs.Places.{line_in, column_in};
+ghost use Rattle.telling.specs.Told.{columns, under, marks, begun, in_front, from_on, held, shown_at, told_at, place_text, place_in};
 
 use crate::part::{Place, column_behind, line_back, line_behind, line_front, text_of};
 use crate::position::{begins_char, without_return};
@@ -99,6 +100,44 @@ fn from_on(
     line_front(alloc, line.as_str(), MOST_SHOWN.saturating_sub(front))
 }
 
+/// The line of the offset in the file of a text that stands at the place, or the last that a number can name.
+fn line_in(place: &Place, text: &str, offset: usize) -> usize
+    ensures { result ≡ held (line_in place.now text.now offset) }
+{
+    let bytes = text.as_bytes();
+    line_behind(place.line, &bytes[..offset.min(bytes.len())])
+}
+
+/// The column of the offset in the file of a text that stands at the place, or the last that a number can name.
+fn column_in(place: &Place, text: &str, offset: usize) -> usize
+    ensures { result ≡ held (column_in place.now text.now offset) }
+{
+    let bytes = text.as_bytes();
+    column_behind(place.column, &bytes[..offset.min(bytes.len())])
+}
+
+/// A place as editors read it: the path, the line and the column.
+pub fn place_text(alloc: Global, path: &str, line: usize, column: usize) -> Result<Text, AllocError>
+    ensures { IfOk result (λ shown. shown ≡ place_text path.now line column) }
+{
+    let shown = format!(in alloc; "{path}:{line}:{column}")?;
+    Ok(Text::from(shown))
+}
+
+/// The place of an offset of the text that stands at the place in the file of the path.
+pub fn place_in(
+    alloc: Global,
+    path: &str,
+    place: &Place,
+    text: &str,
+    offset: usize,
+) -> Result<Text, AllocError>
+    ensures { IfOk result (λ shown. shown ≡ place_in path.now place.now text.now offset) }
+{
+    let line = line_in(place, text, offset);
+    place_text(alloc, path, line, column_in(place, text, offset))
+}
+
 /// The line in which the span starts, with marks under the span.
 fn shown_at(alloc: Global, place: &Place, text: &str, span: Span) -> Result<Shown, AllocError>
     ensures { IfOk result (λ shown. shown ≡ shown_at place.now text.now span) }
@@ -109,11 +148,9 @@ fn shown_at(alloc: Global, place: &Place, text: &str, span: Span) -> Result<Show
     let marks = marks(alloc, front.as_slice(), &back[..marked.min(back.len())])?;
     let mut line = text_of(alloc, front.as_slice())?;
     line.push(text_of(alloc, back.as_slice())?.as_str())?;
-    let bytes = text.as_bytes();
-    let before = &bytes[..span.start.min(bytes.len())];
     Ok(Shown {
-        line: line_behind(place.line, before),
-        column: column_behind(place.column, before),
+        line: line_in(place, text, span.start),
+        column: column_in(place, text, span.start),
         text: Text::new(alloc, without_return(line.as_str()))?,
         marks,
     })

@@ -2,7 +2,7 @@
 
 ghost use Rattle.std.specs.Prelude.{◌≡◌, ◌++◌, Some, IfOk, OnOk};
 ghost use Rattle.std.specs.Fmt.{DisplaysOnOk};
-ghost use Rattle.telling.specs.Told.{heading, location, shown_lines, help_line, more_line, all_told};
+ghost use Rattle.telling.specs.Told.{heading, location, shown_lines, help_line, more_line, first_told, all_told};
 
 use std::alloc::{AllocError, Global};
 use std::fmt;
@@ -93,17 +93,24 @@ fn write_help<W: fmt::Write>(help: &Option<Text>, f: &mut fmt::Formatter<W>) -> 
     }
 }
 
-/// The texts of the first hundred, one behind the other, and how many more there are.
-pub fn all_told(alloc: Global, told: &[Told]) -> Result<Text, AllocError>
-    ensures { IfOk result (λ text. text ≡ all_told told.now) }
+/// The texts of the first hundred, one behind the other, and how many more there are, of so many in all.
+pub fn first_told(alloc: Global, told: &[Told], count: usize) -> Result<Text, AllocError>
+    ensures { IfOk result (λ text. text ≡ first_told told.now count) }
 {
     let mut text = Text::new(alloc, "")?;
     for one in &told[..MOST_TOLD.min(told.len())] {
         let lines = format!(in alloc; "{one}")?;
         text.push(lines.as_str())?;
     }
-    push_more(alloc, &mut text, told.len())?;
+    push_more(alloc, &mut text, count)?;
     Ok(text)
+}
+
+/// The texts of the first hundred, one behind the other, and how many more there are.
+pub fn all_told(alloc: Global, told: &[Told]) -> Result<Text, AllocError>
+    ensures { IfOk result (λ text. text ≡ all_told told.now) }
+{
+    first_told(alloc, told, told.len())
 }
 
 /// Adds how many of so many are beyond the first hundred.

@@ -1,6 +1,6 @@
 use Rattle.std.proofs.Common.{◌≡◌, List, ◌∷◌, Option, map, refl}
 use Rattle.std.specs.Option.{option_or}
-use Rattle.texts.specs.declared.span.Span.{Span}
+use Rattle.derive_decl.specs.declared.feature.Other.{Other}
 use Rattle.attributes.specs.Attributes.{AttributeItem}
 use Rattle.syntax.specs.declared.item.Declaration.{Declaration}
 use Rattle.syntax.specs.Items.{declaration_view}
@@ -14,10 +14,10 @@ parts declarations = attributes_among (map declaration_view declarations)
 abbrev part : Declaration → List AttributeItem
 part declaration = attributes_in (declaration_view declaration)
 
-abbrev first : List Declaration → Option Span
+abbrev first : List Declaration → Option Other
 first declarations = first_other (parts declarations)
 
-abbrev one : Declaration → Option Span
+abbrev one : Declaration → Option Other
 one declaration = first_other (part declaration)
 
 split : (x : Declaration) (xs : List Declaration) → first (x ∷ xs) ≡ option_or (one x) (first xs)
@@ -25,7 +25,7 @@ split = first-parts parts part (λ x xs. refl)
 
 pub returns-in-Some : goal.returns-in-Some
 returns-in-Some c =
-    first_here first one split c.args.declarations.now c.loop-declaration.declaration-index c.declaration-item.result c.first_in.result c.in-Some.span c.loop-declaration-test.true c.declaration-item.is
+    first_here first one split c.args.declarations.now c.loop-declaration.declaration-index c.declaration-item.result c.first_in.result c.in-Some.other c.loop-declaration-test.true c.declaration-item.is
     c.first_in.ensures c.in-Some.is c.loop-declaration.invariant
 
 pub loop-declaration-preserved : goal.loop-declaration-preserved

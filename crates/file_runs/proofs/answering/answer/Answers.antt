@@ -24,16 +24,16 @@ returns-clause-owed g c = λ begun begins.
 pub returns-clause-end : goal.returns-clause-end
 returns-clause-end g c =
     let made = c.in_ok-reading.ensures.gathered in
-    derived_at_end (g.F.Files.tells c.args.files.now) (g.F.Files.held c.args.files.now) _ _ c.args.request.now.files made.0 made.1 _ _ _ made.2 c.document_text.result c.document_text.ensures.document c.document_text.ensures.ending
+    derived_at_end (g.F.Files.tells c.args.files.now) (g.F.Files.held c.args.files.now) _ _ c.args.request.now.files made.0 made.1 c.args.request.now c.in_ok-reading.reading.config c.in_ok-reading.reading.gathered made.2 c.document_text.result c.document_text.ensures.document c.document_text.ensures.ending
 
 pub returns-clause-kept : goal.returns-clause-kept
 returns-clause-kept g c = λ other. c.in_ok-reading.ensures.kept (λ e. cc)
 
 pub returns-clause-failed : goal.returns-clause-failed
-returns-clause-failed g c = λ fault. absurd (no_read_fault _ _ _ c.document_text.result c.document_text.ensures.ending fault)
+returns-clause-failed g c = λ fault. absurd (no_read_fault c.args.request.now c.in_ok-reading.reading.config c.in_ok-reading.reading.gathered c.document_text.result c.document_text.ensures.ending fault)
 
 pub returns-clause-files_kept : goal.returns-clause-files_kept
 returns-clause-files_kept g c = λ other another. c.in_ok-reading.ensures.files_kept (λ e. cc) (λ e. cc)
 
 pub returns-clause-files_failed : goal.returns-clause-files_failed
-returns-clause-files_failed g c = λ fault. absurd (no_file_fault _ _ _ c.document_text.result c.document_text.ensures.ending fault)
+returns-clause-files_failed g c = λ fault. absurd (no_file_fault c.args.request.now c.in_ok-reading.reading.config c.in_ok-reading.reading.gathered c.document_text.result c.document_text.ensures.ending fault)

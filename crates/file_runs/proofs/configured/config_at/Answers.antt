@@ -10,5 +10,5 @@ returns-clause-ending g c = (
   _,
   c.in-Some.is,
   told_there (g.F.Files.tells c.args.files.now) (g.F.Files.held c.args.files.now) _ _ _ _ c.as_str.ensures c.in_ok-read.ensures.bytes _ _ _ c.as_str-in-Err.ensures c.in-Err.ensures.refused c.ending_of.ensures,
-  λ fault. absurd (no_fault _ _ _ c.ending_of.ensures fault),
+  λ fault. absurd (no_fault _ _ _ _ c.ending_of.ensures fault),
 )

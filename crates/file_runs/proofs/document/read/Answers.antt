@@ -1,9 +1,9 @@
 use Rattle.std.proofs.Common.{◌≡◌, ℕ, List, true, codes, subst, inl, inr}
 use Rattle.std.proofs.lemmas.Result.{err_from_is_err_and}
-use Rattle.streams.specs.Faults.{CountsFault}
 use Rattle.texts.specs.Names.{is_in}
 use Rattle.file_runs.specs.Contents.{IsTextAt}
 use Rattle.file_runs.specs.Given.{AreFilesAt}
+use Rattle.streams.specs.Faults.{CountsFault}
 use Rattle.file_runs.specs.Words.{is_input}
 use Rattle.file_runs.proofs.Ended.{config_ends, input_ends, file_ends}
 use Rattle.file_runs.proofs.Paths.{each_other, held_back}
@@ -19,7 +19,7 @@ pub returns-in_err-config-clause-files_failed : goal.returns-in_err-config-claus
 returns-in_err-config-clause-files_failed g c =
     let p = err_from_is_err_and c.from_residual.result c.from_residual.ensures.1 in
     let told = c.in_err-config.ensures.ending in
-    rw (p.1, p.2) (λ fault. let failed = told.3 fault in (told.0, inl told.1, failed.0, failed.1))
+    rw (p.1, p.2) (λ fault. (told.0, inl told.1, told.3 fault))
 
 pub returns-in_err-contents-clause-ending : goal.returns-in_err-contents-clause-ending
 returns-in_err-contents-clause-ending g c =
@@ -45,8 +45,7 @@ returns-in_err-gathered-clause-files_failed g c =
     let failed = told.2 fault in (
       told.0,
       inr (subst (λ ps. is_in told.0 ps ≡ true) c.as_slice.ensures failed.0, failed.1),
-      subst (λ n. CountsFault n (g.F.Files.faults c.gather.new.files)) kept failed.2,
-      failed.3,
+      (subst (λ n. CountsFault n (g.F.Files.faults c.gather.new.files)) kept failed.2.0, failed.2.1, failed.2.2),
     ))
 
 pub returns-clause-gathered : goal.returns-clause-gathered
@@ -58,3 +57,12 @@ returns-clause-gathered g c =
     let made = c.in_ok-gathered.ensures.gathered had has (λ is. c.in_ok-contents.ensures.contents (subst (λ ps. is_in (codes "-") ps ≡ true) c.as_slice.ensures is)) in
     let back : (path text : List ℕ) → Has path text → Also path text = λ path text is. held_back (is_input path) _ _ _ _ had has text c.in_ok-config.ensures.tells_on (c.in_ok-config.ensures.same path) is in
     (made.0, each_other Has Also back c.args.request.now.files made.0 (subst (λ ps. AreFilesAt Has ps made.0) c.as_slice.ensures made.1), made.2)
+
+pub returns-in_err-contents-clause-unread_config : goal.returns-in_err-contents-clause-unread_config
+returns-in_err-contents-clause-unread_config g c = λ none. absurd (none _ c.in_ok-config.ensures.said)
+
+pub returns-in_err-gathered-clause-unread_config : goal.returns-in_err-gathered-clause-unread_config
+returns-in_err-gathered-clause-unread_config g c = λ none. absurd (none _ c.in_ok-config.ensures.said)
+
+pub returns-clause-unread_config : goal.returns-clause-unread_config
+returns-clause-unread_config g c = λ none. absurd (none _ c.in_ok-config.ensures.said)

@@ -4,14 +4,14 @@ use Rattle.file_runs.specs.Contents.{Begins}
 use Rattle.file_runs.specs.Owed.{IsEnding, status_of}
 use Rattle.file_runs.specs.Words.{IsOfInput}
 use Rattle.file_runs.proofs.Consequences.{one_request}
-use Rattle.file_runs.proofs.Ended.{words_end, words_name_none, words_fault_none, ending_at, status_is}
+use Rattle.file_runs.proofs.Ended.{words_end, words_name_none, words_fault_none, status_is}
 use Rattle.file_runs.proofs.program.end_of.Goals as goal
 
 pub returns-in-Ok-clause-owed : goal.returns-in-Ok-clause-owed
 returns-in-Ok-clause-owed g c =
     let begun = beginning_of g.S.Source g.F.Files c.args.words.now c.args.input.now c.args.files.now in
     let begins : Begins g.S.Source g.F.Files c.in-Ok.request c.args.input.now c.args.files.now begun = record { asked = c.in-Ok.ensures.asked; tells = refl; held = λ path. refl; left = refl } in
-    subst (IsEnding begun) (sym c.ending_of.ensures) (ending_at begun c.answer.result (c.answer.ensures.owed begun begins))
+    subst (IsEnding begun) (sym c.ending_of.ensures) (c.answer.ensures.owed begun begins)
 
 pub returns-in-Ok-clause-end : goal.returns-in-Ok-clause-end
 returns-in-Ok-clause-end g c = λ done named.
@@ -30,3 +30,9 @@ returns-in-Err-clause-failed g c = λ fault. absurd (words_fault_none c.args.wor
 
 pub returns-in-Err-clause-files_failed : goal.returns-in-Err-clause-files_failed
 returns-in-Err-clause-files_failed g c = λ fault. absurd (words_fault_none c.args.words.now _ c.in-Err.ensures.ending (inr fault))
+
+pub returns-in-Ok-clause-unread_config : goal.returns-in-Ok-clause-unread_config
+returns-in-Ok-clause-unread_config g c = λ none. c.answer.ensures.unread_config (λ config said. none config (c.in-Ok.request, c.in-Ok.ensures.asked, said))
+
+pub returns-in-Ok-clause-unread_files : goal.returns-in-Ok-clause-unread_files
+returns-in-Ok-clause-unread_files g c = λ none. absurd (none c.in-Ok.request c.in-Ok.ensures.asked)

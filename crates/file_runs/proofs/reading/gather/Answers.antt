@@ -2,10 +2,10 @@ use Rattle.std.proofs.Common.{◌≡◌, ◌∙◌, ◌<◌, ◌+◌, ℕ, List,
 use Rattle.std.proofs.lemmas.Grind.{common_steps}
 use Rattle.std.proofs.lemmas.List.{take_more}
 use Rattle.std.proofs.lemmas.Result.{err_from_is_err_and}
-use Rattle.streams.specs.Faults.{CountsFault}
 use Rattle.texts.specs.Names.{is_in}
 use Rattle.file_runs.specs.Contents.{IsTextAt}
 use Rattle.file_runs.specs.Given.{AreFilesAt}
+use Rattle.streams.specs.Faults.{CountsFault}
 use Rattle.file_runs.specs.Words.{is_input}
 use Rattle.file_runs.proofs.Paths.{one_more, held_back, is_at, input_at}
 use Rattle.file_runs.proofs.reading.gather.Goals as goal
@@ -54,5 +54,9 @@ returns-in_err-add_path-clause-ending g c =
     rw (p.1, p.2) (
       path,
       told.ending,
-      λ fault. let failed = told.failed fault in (among, told.named fault, subst (λ n. CountsFault n (g.F.Files.faults c.add_path.new.files)) c.loop-path.invariant.faults failed.0, failed.1),
+      λ fault. (
+        among,
+        told.named fault,
+        let failed = told.failed fault in (subst (λ n. CountsFault n (g.F.Files.faults c.add_path.new.files)) c.loop-path.invariant.faults failed.0, failed.1, failed.2),
+      ),
     )

@@ -15,11 +15,8 @@ returns c =
     let text = c.args.text.now in
     let place = c.args.place.now in
     let span = c.args.span in
-    let bytes = c.as_bytes-bytes.result.now in
     let front = in_front place text span.start in
     let back = from_on place text span.start in
-    let before : take c.min-2.result bytes ≡ take span.start text =
-    ap (λ n. take n bytes) c.min-2.ensures ∙ take_min span.start bytes ∙ ap (take span.start) c.as_bytes-bytes.ensures.value in
     let whole : c.as_str-2.result.now ≡ encode_utf8_all front ++ encode_utf8_all back =
     c.as_str-2.ensures ∙ c.in_ok-push.ensures.ok
     ∙ ap₂ (λ (a b : List ℕ). a ++ b)
@@ -35,7 +32,7 @@ returns c =
     ap (λ n. take n c.deref.result.now) least ∙ take_min c.saturating_sub-marked.result c.deref.result.now
     ∙ ap₂ (λ (n : ℕ) (cs : List ℕ). take n cs) size items in
     shown_same _ _ _ _ _ _ _ _
-    (c.line_behind.ensures ∙ ap (λ bs. min (line_behind place.line bs) (2 ^ 64 - 1)) before)
-    (c.column_behind.ensures ∙ ap (λ bs. min (column_behind place.column bs) (2 ^ 64 - 1)) before)
+    c.line_in.ensures
+    c.column_in.ensures
     (c.in_ok-new.ensures ∙ c.without_return.ensures ∙ ap without_return whole)
     (c.in_ok-marks.ensures ∙ ap₂ marks (c.as_slice.ensures.value ∙ c.in_ok-front.ensures) marked)

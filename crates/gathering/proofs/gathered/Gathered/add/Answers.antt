@@ -3,21 +3,22 @@ use Rattle.gathering.specs.Files.{file_of, IsToldOfFile, IfTold}
 use Rattle.gathering.specs.declared.gathered.Gathered.{Gathered}
 use Rattle.gathering.proofs.Taking.{gathers_file, gathers_told}
 use Rattle.gathering.proofs.gathered.Gathered.add.Goals as goal
-use Rattle.gathering.proofs.gathered.Gathered.add.Goals.{in-Ok+in_ok-append-in-Ok, in-Err-Told+in_ok-push-in-Err-Told}
+use Rattle.gathering.proofs.gathered.Gathered.add.Goals.{in-Ok+in_ok-append-in-Ok+in_ok-append-in-Ok-2, in-Err-Told+in_ok-push-in-Err-Told}
 
 pub returns : goal.returns
 returns c = λ files g.
     let f = file_of c.args.source.now in
     let before : Gathered = c.args.self.now in
-    let after : Gathered = record { names = c.push-2.new.self; items = c.match-items_of.self.items; faults = c.match-items_of.self.faults } in
+    let after : Gathered = record { names = c.push-2.new.self; items = c.match-items_of.self.items; impls = c.match-items_of.self.impls; faults = c.match-items_of.self.faults } in
     let named : c.push-2.new.self ≡ c.match-items_of.self.names ++ f.name ∷ [] = c.in_ok-push.ensures.ok ∙ ap (λ (n : List ℕ). c.match-items_of.self.names ++ n ∷ []) c.in_ok-new.ensures in
     elim c.match-items_of.branch [
-      | in-Ok+in_ok-append-in-Ok w ↦
+      | in-Ok+in_ok-append-in-Ok+in_ok-append-in-Ok-2 w ↦
           let names = named ∙ ap (λ (x : Gathered). x.names ++ f.name ∷ []) w.self-is in
           let items = ap (λ (x : Gathered). x.items) w.self-is ∙ w.in_ok-append-in-Ok.ensures.ok in
-          gathers_file files f before after c.len.result w.in-Ok.items c.len.ensures names items (ap (λ (x : Gathered). x.faults) w.self-is) w.in-Ok.ensures.items g
+          let impls = ap (λ (x : Gathered). x.impls) w.self-is ∙ w.in_ok-append-in-Ok-2.ensures.ok in
+          gathers_file files f before after c.len.result w.in-Ok.items w.in-Ok.impls c.len.ensures names items impls (ap (λ (x : Gathered). x.faults) w.self-is) w.in-Ok.ensures.items w.in-Ok.ensures.impls g
       | in-Err-Told+in_ok-push-in-Err-Told w ↦
           let names = named ∙ ap (λ (x : Gathered). x.names ++ f.name ∷ []) w.self-is in
           let faults = ap (λ (x : Gathered). x.faults) w.self-is ∙ w.in_ok-push-in-Err-Told.ensures.ok in
-          gathers_told files f before after w.in-Err-Told.told names (ap (λ (x : Gathered). x.items) w.self-is) faults (subst (IfTold (IsToldOfFile f)) w.in-Err-Told.field-0-is w.in-Err-Told.ensures.told) g
+          gathers_told files f before after w.in-Err-Told.told names (ap (λ (x : Gathered). x.items) w.self-is) (ap (λ (x : Gathered). x.impls) w.self-is) faults (subst (IfTold (IsToldOfFile f)) w.in-Err-Told.field-0-is w.in-Err-Told.ensures.told) g
     ]

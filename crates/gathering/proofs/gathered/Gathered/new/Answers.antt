@@ -1,5 +1,9 @@
-use Rattle.gathering.specs.Files.{no_files}
+use Rattle.gathering.specs.Files.{no_files, no_impls}
 use Rattle.gathering.proofs.gathered.Gathered.new.Goals as goal
 
 pub returns : goal.returns
-returns c = (c.new.ensures, rw (c.new-2.ensures, c.new-3.ensures) no_files)
+returns c = record {
+  named = c.new.ensures;
+  items = rw (c.new-2.ensures, c.new-4.ensures) no_files;
+  impls = rw c.new-3.ensures no_impls;
+}

@@ -1,0 +1,9 @@
+use Rattle.std.proofs.Common.{List, map}
+use Rattle.syntax.specs.Items.{declarations_view}
+use Rattle.telling.specs.declared.told.Told.{Told}
+use Rattle.file_derivation.specs.Warned.{AreWarned, AreFirst}
+use Rattle.file_derivation.proofs.warned.warnings_from.Given as goal
+
+-- the warnings of the declarations so far
+abbrev pub invariant-loop-at : goal.invariant-loop-at
+invariant-loop-at l = (all : List Told) × AreWarned l.names (declarations_view l.declarations) (map (λ i. i.now) l.from) l.at all × AreFirst all l.warnings

@@ -1,0 +1,4 @@
+pub mod Rules
+pub mod Before
+pub mod Types
+pub mod Warned
