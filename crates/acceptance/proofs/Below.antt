@@ -22,6 +22,7 @@ keyword-below keyword.property_names w x p q h = on_map-below _ _ (names-below p
 keyword-below keyword.prefix_items w x p q h = on_list-below _ _ h.prefix
 keyword-below keyword.items w x p q h = on_list-below _ _ (λ vs. list_all-below p.as_schema q.as_schema h.schema (drop (prefix_count w) vs))
 keyword-below keyword.all_of w x p q h = h.all
+keyword-below keyword.any_of w x p q h = h.one
 keyword-below keyword.one_of w x p q h = h.one
 keyword-below keyword.reference w x p q h = h.reference
 keyword-below _ w x p q h = λ v e. e

@@ -1,5 +1,5 @@
 -- When a JSON value, read as a schema of a document, accepts a JSON value (JSON Schema 2020-12: Core, 8.2.3.1 and 10; Validation, 6.1 to 6.5).
--- This project's reading: `oneOf` asks for at least one, a reference leads to a component of the document (OpenAPI 3.1, "Components Object"),
+-- This project's reading: `oneOf` asks for at least one, as `anyOf` does, a reference leads to a component of the document (OpenAPI 3.1, "Components Object"),
 -- and a member that is not of its stated form binds nothing, like every member that is no keyword here.
 use Rattle.std.specs.Prelude.{ℕ, zero, suc, ◌%◌, ℤ, pos, negsuc, List, [], ◌∷◌, Bool, true, false, not, ◌&&◌, ◌||◌, ◌==◌, Option, Some, None, option_map, option_and_then, nat_eq, int_le, length, drop, cond, codes, chars, IsTrue}
 use Rattle.std.specs.List.{list_all, list_any}
@@ -146,6 +146,7 @@ keyword_holds keyword.unique_items schema x r v = unique_holds x v
 keyword_holds keyword.min_items schema x r v = if_number x (λ n. on_list v (λ xs. int_le n (pos (length xs))))
 keyword_holds keyword.max_items schema x r v = if_number x (λ n. on_list v (λ xs. int_le (pos (length xs)) n))
 keyword_holds keyword.all_of schema x r v = r.as_all v
+keyword_holds keyword.any_of schema x r v = r.as_one v
 keyword_holds keyword.one_of schema x r v = r.as_one v
 keyword_holds keyword.reference schema x r v = r.as_reference v
 keyword_holds keyword.other schema x r v = true

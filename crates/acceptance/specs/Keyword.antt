@@ -7,7 +7,7 @@ pub data Keyword : Type 0 where
   min_length max_length : Keyword
   properties required additional_properties property_names min_properties max_properties : Keyword
   prefix_items items unique_items min_items max_items : Keyword
-  all_of one_of reference : Keyword
+  all_of any_of one_of reference : Keyword
   other : Keyword
 
 abbrev pub keywords : List (List ℕ × Keyword)
@@ -18,7 +18,7 @@ keywords =
     ∷ (codes "properties", properties) ∷ (codes "required", required) ∷ (codes "additionalProperties", additional_properties) ∷ (codes "propertyNames", property_names)
     ∷ (codes "minProperties", min_properties) ∷ (codes "maxProperties", max_properties)
     ∷ (codes "prefixItems", prefix_items) ∷ (codes "items", items) ∷ (codes "uniqueItems", unique_items) ∷ (codes "minItems", min_items) ∷ (codes "maxItems", max_items)
-    ∷ (codes "allOf", all_of) ∷ (codes "oneOf", one_of) ∷ (codes "$ref", reference) ∷ []
+    ∷ (codes "allOf", all_of) ∷ (codes "anyOf", any_of) ∷ (codes "oneOf", one_of) ∷ (codes "$ref", reference) ∷ []
 
 abbrev pub keyword_among : List ℕ → List (List ℕ × Keyword) → Keyword
 keyword_among k [] = other

@@ -18,6 +18,7 @@ AtKeyword keyword.property_names s p l r = s
 AtKeyword keyword.prefix_items s p l r = l
 AtKeyword keyword.items s p l r = s
 AtKeyword keyword.all_of s p l r = l
+AtKeyword keyword.any_of s p l r = l
 AtKeyword keyword.one_of s p l r = l
 AtKeyword keyword.reference s p l r = r
 AtKeyword _ s p l r = Unit {0}

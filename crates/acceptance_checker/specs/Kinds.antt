@@ -1,7 +1,7 @@
 -- The keyword that a member of a schema is, by what the program calls it (JSON Schema 2020-12: Core, 10; Validation, 6), and how numbers compare under it.
 use Rattle.std.specs.Prelude.{ℕ, ℤ, pos, Bool, int_le}
 use Rattle.acceptance.specs.Acceptance.{int_below, is_multiple}
-use Rattle.acceptance.specs.Keyword.{Keyword, other, types, enumeration, minimum, maximum, exclusive_minimum, exclusive_maximum, multiple_of, min_length, max_length, properties, required, additional_properties, property_names, min_properties, max_properties, prefix_items, items, unique_items, min_items, max_items, all_of, one_of, reference}
+use Rattle.acceptance.specs.Keyword.{Keyword, other, types, enumeration, minimum, maximum, exclusive_minimum, exclusive_maximum, multiple_of, min_length, max_length, properties, required, additional_properties, property_names, min_properties, max_properties, prefix_items, items, unique_items, min_items, max_items, all_of, any_of, one_of, reference}
 use Rattle.acceptance_checker.specs.declared.keyword.Keyword.{Keyword as Word}
 use Rattle.acceptance_checker.specs.declared.keyword.Keyword.TheVariants as word
 use Rattle.acceptance_checker.specs.declared.keyword.Assertion.{Assertion}
@@ -54,6 +54,7 @@ applicator_meant applicator.PropertyNames = property_names
 applicator_meant applicator.PrefixItems = prefix_items
 applicator_meant applicator.Items = items
 applicator_meant applicator.AllOf = all_of
+applicator_meant applicator.AnyOf = any_of
 applicator_meant applicator.OneOf = one_of
 applicator_meant applicator.Reference = reference
 

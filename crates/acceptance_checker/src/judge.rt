@@ -134,7 +134,7 @@ fn applicator_holds(
             Layer::List(schemas) => each_accepts(document, depth, schemas, value),
             _ => true,
         },
-        Applicator::OneOf => match x {
+        Applicator::AnyOf | Applicator::OneOf => match x {
             Layer::List(schemas) => some_accepts(document, depth, schemas, value),
             _ => true,
         },

@@ -49,6 +49,7 @@ pub enum Applicator {
     PrefixItems,
     Items,
     AllOf,
+    AnyOf,
     OneOf,
     Reference,
 }
@@ -78,6 +79,7 @@ pub fn keyword_named(name: &str) -> Keyword
         "minItems" => Keyword::Assertion(Assertion::Items(Limit::AtLeast)),
         "maxItems" => Keyword::Assertion(Assertion::Items(Limit::AtMost)),
         "allOf" => Keyword::Applicator(Applicator::AllOf),
+        "anyOf" => Keyword::Applicator(Applicator::AnyOf),
         "oneOf" => Keyword::Applicator(Applicator::OneOf),
         "$ref" => Keyword::Applicator(Applicator::Reference),
         _ => Keyword::Other,
