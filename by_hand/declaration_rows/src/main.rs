@@ -3,7 +3,7 @@
 
 use anyhow::bail;
 use gathering::{Selection, selected};
-use prepare::{FileItem, items};
+use prepare::{FileItem, file_parts};
 use rows::given::text_of;
 use rows::{Row, refusal_text, run};
 use serde_json::Value;
@@ -26,8 +26,8 @@ fn texts_of(alloc: Global, items: &[FileItem], serde: bool) -> Result<String, Al
 
 /// The texts of the file's declarations, or why it is refused.
 fn declared(alloc: Global, given: &Value, serde: bool) -> anyhow::Result<String> {
-    match items(alloc, 0, text_of(given)?) {
-        Ok(items) => Ok(texts_of(alloc, items.as_slice(), serde)?),
+    match file_parts(alloc, 0, text_of(given)?) {
+        Ok(parts) => Ok(texts_of(alloc, parts.items.as_slice(), serde)?),
         Err(error) => Ok(refusal_text(alloc, &error)?),
     }
 }

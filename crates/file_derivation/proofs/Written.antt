@@ -6,7 +6,7 @@ use Rattle.std.proofs.lemmas.List.{take_all}
 use Rattle.std.specs.Prelude.{filter, is_some}
 use Rattle.syntax.specs.Items.{DeclaredItem}
 use Rattle.scopes.specs.Names.{place_among}
-use Rattle.gathering.specs.declared.file_impls.FileImpl.{FileImpl}
+use Rattle.prepare.specs.declared.file_items.FileImpl.{FileImpl}
 use Rattle.file_derivation.specs.Warned.{told_impl, told_impls, is_declared, has_some}
 
 pub impls_more : (names : List (List ℕ)) (ds : List DeclaredItem) (x : FileImpl) (xs : List FileImpl) → told_impls names ds (x ∷ []) ++ told_impls names ds xs ≡ told_impls names ds (x ∷ xs)

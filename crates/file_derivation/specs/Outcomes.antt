@@ -19,7 +19,7 @@ use Rattle.renaming.specs.Rows.{AreRowsOf}
 use Rattle.telling.specs.declared.told.Told.{Told}
 use Rattle.prepare.specs.declared.file_items.FileItem.{FileItem}
 use Rattle.gathering.specs.Files.{FileOf, AreGathered, HaveImpls, most_bytes}
-use Rattle.gathering.specs.declared.file_impls.FileImpl.{FileImpl}
+use Rattle.prepare.specs.declared.file_items.FileImpl.{FileImpl}
 use Rattle.gathering.specs.Reading.{AreRead}
 use Rattle.gathering.specs.Selected.{AreSelected, unknown_in}
 use Rattle.gathering.specs.Telling.{told_plainly, told_unplaced}

@@ -8,28 +8,28 @@ use Rattle.scopes.specs.Names.{place_among}
 use Rattle.telling.specs.Told.{told_at}
 use Rattle.telling.specs.declared.told.Told.{Told}
 use Rattle.prepare.specs.declared.file_items.FileItem.{FileItem}
-use Rattle.prepare.specs.declared.hand_impl.SerdeTrait.{SerdeTrait}
-use Rattle.prepare.specs.declared.hand_impl.SerdeTrait.TheVariants.{Serialize, Deserialize}
+use Rattle.prepare.specs.declared.serde_trait.SerdeTrait.{SerdeTrait}
+use Rattle.prepare.specs.declared.serde_trait.SerdeTrait.TheVariants.{Serialize, Deserialize}
 use Rattle.warnings.specs.Rules.{WarningItem}
 use Rattle.warnings.specs.Warned.{warnings_of}
 use Rattle.gathering.specs.Reading.{file_name}
 use Rattle.gathering.specs.Telling.{told_plainly}
-use Rattle.gathering.specs.declared.file_impls.FileImpl.{FileImpl}
+use Rattle.prepare.specs.declared.file_items.FileImpl.{FileImpl}
 use Rattle.file_derivation.specs.declared.warned.Warnings.{Warnings}
 
 -- what is told of a warning of the text of a declaration in the file of the name
 abbrev pub told_warning : (name : List ℕ) → FileItem → WarningItem → Told
 told_warning name i w = told_at name i.place i.text w.span (codes "warning") w.message
 
--- what is told of the warnings of a declaration that is read from the item
-abbrev pub told_warnings : (names : List (List ℕ)) → FileItem → DeclaredItem → List Told
-told_warnings names i d = map (told_warning (file_name names i.file) i) (warnings_of d)
+-- what is told of the warnings of a declaration among these that is read from the item
+abbrev pub told_warnings : (names : List (List ℕ)) → List DeclaredItem → FileItem → DeclaredItem → List Told
+told_warnings names ds i d = map (told_warning (file_name names i.file) i) (warnings_of ds d)
 
 -- Of the first so many declarations, each read from the item at the same place, this is warned of, in order.
 pub data AreWarned (names : List (List ℕ)) (ds : List DeclaredItem) (from : List FileItem) : ℕ → List Told → Type 0 where
   none_yet : AreWarned names ds from 0 []
   one_more : {at : ℕ} {told : List Told} {d : DeclaredItem} {i : FileItem} → AreWarned names ds from at told → slice_get ds at ≡ Some d → slice_get from at ≡ Some i
-      → AreWarned names ds from (suc at) (told ++ told_warnings names i d)
+      → AreWarned names ds from (suc at) (told ++ told_warnings names ds i d)
 
 -- ---- impls by hand
 
@@ -48,7 +48,7 @@ from_zero n = omega arith
 abbrev pub whole_span : List ℕ → Span
 whole_span text = record { start = 0; end = length text; ordered = from_zero (length text) }
 
--- what is told of an impl by hand, under all of its first line
+-- what is told of an impl by hand, under its head
 abbrev pub told_impl : (names : List (List ℕ)) → FileImpl → Told
 told_impl names x = told_at (file_name names x.file) x.place x.text (whole_span x.text) (codes "warning") (impl_message x)
 

@@ -12,7 +12,7 @@ use crate::aliases::aliases_of;
 use crate::faults::faults_of;
 use crate::law::sound_are_not_told;
 use crate::rows::push_rows;
-use crate::warned::{Warnings, warnings_from};
+use crate::warned::{Warnings, warned_of};
 use compose::{Derived, derive_declarations};
 use configuration::Config;
 use diag::{DeriveError, Diagnostics};
@@ -201,8 +201,7 @@ fn derive(
         from,
         ..
     } = reading;
-    let mut warnings = warnings_from(alloc, names, from.as_slice(), &declarations)?;
-    warnings.add_impls(alloc, names, &declarations, impls)?;
+    let warnings = warned_of(alloc, names, from.as_slice(), &declarations, impls)?;
     let is_declared = !declarations.items.is_empty();
     match derive_declarations(alloc, declarations, &config) {
         Ok(derived) => Ok(with_warnings(alloc, derived, warnings, is_declared)?),

@@ -1,7 +1,7 @@
 //! What declarations that are read of files are warned of.
 
 ghost use Rattle.std.specs.Prelude.{◌≡◌, ◌≤◌, ◌++◌, [], ◌∷◌, List as AnyList, length, map, IfOk, OnOk};
-ghost use Rattle.syntax.specs.Items.{declaration_view, declarations_view};
+ghost use Rattle.syntax.specs.Items.{declarations_view};
 ghost use Rattle.telling.specs.declared.told.Told.{Told as AnyTold};
 ghost use Rattle.warnings.specs.Rules.{warning_view};
 ghost use Rattle.file_derivation.specs.Warned.{warning, told_warning, AreWarned, trait_name, impl_message, told_impl, told_impls, nothing_message, told_nothing, IsToldFirst, AreFirst};
@@ -107,21 +107,20 @@ impl Warnings {
     }
 
     /// Adds the impls by hand that are for one of the declarations.
-    pub(crate) fn add_impls(
+    fn add_impls(
         &mut self,
         alloc: Global,
         names: &[Text],
-        declarations: &Declarations,
+        places: &Places<'_>,
         impls: &[FileImpl],
     ) -> Result<(), AllocError>
         ensures { OnOk result ((all : AnyList AnyTold) → AreFirst all self.old
-            → AreFirst (all ++ told_impls names.now (declarations_view declarations.now)
-            impls.now) self.new) }
+            → AreFirst (all ++ told_impls names.now
+            (declarations_view places.now.declarations.now) impls.now) self.new) }
     {
-        let places = Places::new(alloc, declarations)?;
         let mut rest = impls;
         'impls: while let [first, after @ ..] = rest {
-            self.add_impl(alloc, names, &places, first)?;
+            self.add_impl(alloc, names, places, first)?;
             rest = after;
         }
         Ok(())
@@ -242,24 +241,47 @@ fn nothing_message(is_declared: bool) -> &'static str
 }
 
 /// What the declarations are warned of, each read from the text of the item at the same place.
-pub(crate) fn warnings_from(
+fn warnings_from(
+    alloc: Global,
+    names: &[Text],
+    from: &[&FileItem],
+    places: &Places<'_>,
+) -> Result<Warnings, AllocError>
+    requires many { length from.now ≡ length (declarations_view places.now.declarations.now) }
+    ensures { IfOk result (λ warnings. (all : AnyList AnyTold)
+        × AreWarned names.now (declarations_view places.now.declarations.now)
+        (map (λ i. i.now) from.now) (length (declarations_view places.now.declarations.now)) all
+        × AreFirst all warnings) }
+{
+    let mut warnings = Warnings::new(alloc);
+    let declared = places.declarations.items.as_slice();
+    for at in 0..from.len() {
+        let item = from[at];
+        let own = warnings_of(alloc, places, &declared[at])?;
+        let name = file_name(names, item.file);
+        warnings.add_all(alloc, name, item, own.as_slice())?;
+    }
+    Ok(warnings)
+}
+
+/// What the declarations, each read from the text of the item at the same place, and the impls by hand that are for them are
+/// warned of.
+pub(crate) fn warned_of(
     alloc: Global,
     names: &[Text],
     from: &[&FileItem],
     declarations: &Declarations,
+    impls: &[FileImpl],
 ) -> Result<Warnings, AllocError>
     requires many { length from.now ≡ length (declarations_view declarations.now) }
-    ensures { IfOk result (λ warnings. (all : AnyList AnyTold)
+    ensures { IfOk result (λ warnings. (own : AnyList AnyTold)
         × AreWarned names.now (declarations_view declarations.now) (map (λ i. i.now) from.now)
-        (length (declarations_view declarations.now)) all × AreFirst all warnings) }
+        (length (declarations_view declarations.now)) own
+        × AreFirst (own ++ told_impls names.now (declarations_view declarations.now) impls.now)
+        warnings) }
 {
-    let mut warnings = Warnings::new(alloc);
-    let declared = declarations.items.as_slice();
-    for at in 0..from.len() {
-        let item = from[at];
-        let own = warnings_of(alloc, &declared[at])?;
-        let name = file_name(names, item.file);
-        warnings.add_all(alloc, name, item, own.as_slice())?;
-    }
+    let places = Places::new(alloc, declarations)?;
+    let mut warnings = warnings_from(alloc, names, from, &places)?;
+    warnings.add_impls(alloc, names, &places, impls)?;
     Ok(warnings)
 }

@@ -1,11 +1,10 @@
 //! How words are taken, one after the other.
 
 ghost use Rattle.std.specs.Prelude.{◌≡◌, map, option_map, string_bytes};
-ghost use Rattle.texts.specs.Names.{is_in};
 ghost use Rattle.file_runs.specs.Words.{question_of, question_in, valued_of, given_of, is_option, with_value, with_file, with_given, with_option, with_word, at_end, nothing_asked, asked, Answers};
 
 use crate::request::{Misuse, Question, Request, Valued};
-use gathering::Selection;
+use gathering::{Selection, is_in};
 use std::alloc::{AllocError, Global};
 use texts::{List, Text};
 
@@ -101,20 +100,6 @@ fn is_option(word: &str) -> bool
     ensures { result ≡ is_option word.now }
 {
     word.starts_with("-") && word != "-"
-}
-
-/// Whether the word is one of these.
-pub(crate) fn is_in(word: &str, words: &[Text]) -> bool
-    ensures { result ≡ is_in word.now words.now }
-{
-    let mut rest = words;
-    'words: while let [first, after @ ..] = rest {
-        if word == first.as_str() {
-            return true;
-        }
-        rest = after;
-    }
-    false
 }
 
 /// What is asked for with the value of the option, too.

@@ -6,11 +6,11 @@ ghost use Rattle.file_runs.specs.Contents.{AreContents, TellsInput};
 ghost use Rattle.file_runs.specs.Owed.{status_at};
 ghost use Rattle.file_runs.specs.Words.{IsOfInput};
 
-use crate::arguments::is_in;
 use crate::ending::Ending;
 use crate::request::Request;
 use crate::status::Status;
 use files::FileBytes;
+use gathering::is_in;
 use std::alloc::Global;
 use streams::{ReadError, Source, read_all};
 

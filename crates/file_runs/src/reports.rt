@@ -31,7 +31,7 @@ for tests alone. All files together declare what is described, and no two of the
   --version        the version of the program, and the logic of the toolchain that proves it
 
 An option stands before or behind files, and its value behind a space or `=`. Standard output gets the document and
-nothing else; standard error gets the warnings: attributes by which the JSON is another than the schemas say. Status:
+nothing else; standard error gets the warnings: where the JSON is another than the schemas say. Status:
 0 written; 1 refused, each fault with its place where it has one, and no document; 2 other words; 3 standard input
 cannot be read; 4 the output cannot be written; 5 out of memory; 6 a file cannot be read.
 ";

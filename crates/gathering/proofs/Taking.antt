@@ -5,9 +5,8 @@ use Rattle.prepare.specs.declared.file_items.FileItem.{FileItem}
 use Rattle.telling.specs.declared.told.Told.{Told}
 use Rattle.prepare.specs.FileItems.{AreItemsOf}
 use Rattle.prepare.specs.FileTexts.{text_of_file}
-use Rattle.gathering.specs.Files.{FileOf, HasItems, IsToldOfFile, too_long, no_text, no_file, AreGathered, no_files, has_items, is_told, HaveImpls, no_impls, has_impls, none_told, Gathers}
-use Rattle.gathering.specs.Impls.{HasImpls}
-use Rattle.gathering.specs.declared.file_impls.FileImpl.{FileImpl}
+use Rattle.gathering.specs.Files.{FileOf, HasItems, HasImpls, IsToldOfFile, too_long, no_text, no_file, AreGathered, no_files, has_items, is_told, HaveImpls, no_impls, has_impls, none_told, Gathers}
+use Rattle.prepare.specs.declared.file_items.FileImpl.{FileImpl}
 use Rattle.gathering.specs.declared.gathered.Gathered.{Gathered}
 use Rattle.diag.specs.declared.diagnostics.DiangosticsInner.{DiangosticsInner}
 use Rattle.diag.specs.declared.error.DeriveError.{DeriveError}

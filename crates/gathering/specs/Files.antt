@@ -4,16 +4,15 @@ use Rattle.std.specs.Str.{IsUtf8, IsValidUpTo}
 use Rattle.diag.specs.declared.diagnostics.DiangosticsInner.{DiangosticsInner}
 use Rattle.diag.specs.declared.error.DeriveError.TheVariants.{Refused}
 use Rattle.lexing.specs.Cut.{IsDepthError, OpensTooDeep}
-use Rattle.prepare.specs.FileItems.{AreItemsOf}
+use Rattle.prepare.specs.FileItems.{AreItemsOf, AreImplsOf}
 use Rattle.prepare.specs.FileTexts.{text_of_file}
 use Rattle.prepare.specs.Prepared.{IsNoFile}
 use Rattle.prepare.specs.declared.file_items.FileItem.{FileItem}
+use Rattle.prepare.specs.declared.file_items.FileImpl.{FileImpl}
 use Rattle.telling.specs.declared.told.Told.{Told}
 use Rattle.texts.specs.declared.span.Span.{Span}
 use Rattle.gathering.specs.Stops.{IsHelpOfStop}
 use Rattle.gathering.specs.Telling.{whole, told_by, told_longer, told_broken}
-use Rattle.gathering.specs.Impls.{HasImpls}
-use Rattle.gathering.specs.declared.file_impls.FileImpl.{FileImpl}
 use Rattle.gathering.specs.declared.gathered.Gathered.{Gathered}
 use Rattle.gathering.specs.declared.gathered.Stop.{Stop}
 use Rattle.gathering.specs.declared.gathered.Stop.TheVariants as stop
@@ -37,6 +36,10 @@ pub record HasItems (file : ℕ) (bytes : List ℕ) (items : List FileItem) : Ty
   pub utf8 : IsUtf8 bytes
   pub items_are : AreItemsOf file (text_of_file bytes) items
   pub shallow : (span : Span) → ¬ (OpensTooDeep (text_of_file bytes) span)
+
+-- these are the impls by hand of the bytes, which are those of the file of this number
+abbrev pub HasImpls : ℕ → List ℕ → List FileImpl → Type 0
+HasImpls file bytes impls = AreImplsOf file (text_of_file bytes) impls
 
 -- the span is empty, and stands at the end of the text
 abbrev pub IsEndOf : List ℕ → Span → Type 0

@@ -1,5 +1,4 @@
 pub mod Files
-pub mod Impls
 pub mod Laws
 pub mod Reading
 pub mod Selected

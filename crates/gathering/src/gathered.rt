@@ -2,16 +2,14 @@
 
 ghost use Rattle.std.specs.Prelude.{◌≡◌, ◌<◌, ◌≤◌, ℕ, [], ◌∷◌, ◌++◌, length, List as AnyList, IfOk, IfErr, OnOk};
 ghost use Rattle.std.specs.Str.{IsUtf8, IsValidUpTo};
-ghost use Rattle.gathering.specs.Impls.{HasImpls};
 ghost use Rattle.gathering.specs.Telling.{told_longer};
-ghost use Rattle.gathering.specs.Files.{FileOf, file_of, most_bytes, HasItems, IsToldOfFile, IsTextOfFile, IfTold, Gathers};
+ghost use Rattle.gathering.specs.Files.{FileOf, file_of, most_bytes, HasItems, HasImpls, IsToldOfFile, IsTextOfFile, IfTold, Gathers};
 
 use crate::fault::{told_by, told_plainly, whole};
-use crate::file_impls::{FileImpl, file_impls};
 use crate::source::Source;
 use crate::stop_help::stop_help;
 use diag::DeriveError;
-use prepare::{FileItem, FileParts, file_parts, file_text};
+use prepare::{FileImpl, FileItem, FileParts, file_parts, file_text};
 use std::alloc::{AllocError, Global};
 use telling::{Told, told_in};
 use texts::{List, Span, Text};
@@ -106,21 +104,14 @@ fn text_of(alloc: Global, source: &Source<'_>) -> Result<Text, Stop>
 }
 
 /// The declarations of the file of this number, and its impls by hand.
-fn items_of(
-    alloc: Global,
-    file: usize,
-    source: &Source<'_>,
-) -> Result<(List<FileItem>, List<FileImpl>), Stop>
-    ensures items { IfOk result (λ p. HasItems file source.now.bytes.now p.0) }
-    ensures impls { IfOk result (λ p. HasImpls file source.now.bytes.now p.1) }
+fn parts_of(alloc: Global, file: usize, source: &Source<'_>) -> Result<FileParts, Stop>
+    ensures items { IfOk result (λ parts. HasItems file source.now.bytes.now parts.items) }
+    ensures impls { IfOk result (λ parts. HasImpls file source.now.bytes.now parts.impls) }
     ensures told { IfErr result (IfTold (IsToldOfFile (file_of source.now))) }
 {
     let text = text_of(alloc, source)?;
     match file_parts(alloc, file, text.as_str()) {
-        Ok(FileParts { items, impls }) => {
-            let impls = file_impls(alloc, file, text.as_str(), impls.as_slice())?;
-            Ok((items, impls))
-        }
+        Ok(parts) => Ok(parts),
         Err(DeriveError::Memory) => Err(Stop::Memory),
         Err(DeriveError::Refused(refusal)) => {
             let place = whole(alloc)?;
@@ -155,16 +146,17 @@ impl Gathered {
         Ok(())
     }
 
-    /// Adds the declarations of the file and its impls by hand, or what is told of it where it is refused: of more than 16,777,216 bytes, of bytes
-    /// that are no UTF-8, or of a text that nests too deep or is no file of Rust. Of the file nothing else is kept.
+    /// Adds the declarations of the file and its impls by hand, or what is told of it where it is refused: of more than
+    /// 16,777,216 bytes, of bytes that are no UTF-8, or of a text that nests too deep or is no file of Rust. Of the file nothing
+    /// else is kept.
     pub fn add(&mut self, alloc: Global, source: &Source<'_>) -> Result<(), AllocError>
         ensures { OnOk result ((files : AnyList FileOf) → Gathers files self.old
             → Gathers (files ++ file_of source.now ∷ []) self.new) }
     {
-        match items_of(alloc, self.names.len(), source) {
-            Ok((items, impls)) => {
-                self.items.append(items)?;
-                self.impls.append(impls)?;
+        match parts_of(alloc, self.names.len(), source) {
+            Ok(parts) => {
+                self.items.append(parts.items)?;
+                self.impls.append(parts.impls)?;
             }
             Err(Stop::Told(told)) => self.faults.push(told)?,
             Err(Stop::Memory) => return Err(AllocError),

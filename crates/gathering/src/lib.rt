@@ -3,7 +3,6 @@
 #![tactic(auto)]
 
 mod fault;
-mod file_impls;
 mod gathered;
 mod help;
 mod law;
@@ -14,11 +13,10 @@ mod source;
 mod stop_help;
 
 pub use fault::{told_by, told_plainly, told_unplaced};
-pub use file_impls::FileImpl;
 pub use gathered::Gathered;
 pub use help::unknown_type;
 pub use law::{one_gathering, one_reading_of_items};
-pub use prepare::SerdeTrait;
+pub use prepare::{FileImpl, SerdeTrait};
 pub use reading::{Reading, file_name, read_items};
 pub use selecting::selected;
 pub use selection::{Selection, is_in, unknown_name};

@@ -8,7 +8,7 @@ use Rattle.tokens.specs.Trees.{Tree, trees_of, tree_view, trees_view}
 use Rattle.words.specs.Words.{word_of, words_of, words_view}
 use Rattle.words.specs.Visibility.{is_restriction}
 use Rattle.lexing.proofs.Laws.{view_group}
-use Rattle.prepare.specs.Trees.{listed, inside, before}
+use Rattle.prepare.specs.Trees.{listed, inside, before, but_last}
 use Rattle.prepare.specs.Names.{names_in, names_of, all_names}
 
 pub listed_same : (ts : List Tree) → listed (trees_of ts) ≡ ts
@@ -31,6 +31,9 @@ names_view ts = sym (names_listed (map tree_view ts))
 pub before_view : (ts rest : List TokenTree) → map tree_view (take (length ts - length rest) ts) ≡ before (map tree_view ts) (map tree_view rest)
 before_view ts rest =
     sym (take-map tree_view (length ts - length rest) ts) ∙ ap₂ (λ n m. take (n - m) (map tree_view ts)) (sym (length-map ts tree_view)) (sym (length-map rest tree_view))
+
+pub but_last_view : (ts : List TokenTree) → map tree_view (take (length ts - 1) ts) ≡ but_last (map tree_view ts)
+but_last_view ts = sym (take-map tree_view (length ts - 1) ts) ∙ ap (λ n. take (n - 1) (map tree_view ts)) (sym (length-map ts tree_view))
 
 words_listed : (ts : List Tree) → words_of (trees_of ts) ≡ map word_of ts
 words_listed [] = refl

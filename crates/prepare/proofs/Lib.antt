@@ -2,8 +2,6 @@ mod Answered
 mod Behind
 mod Groups
 mod Feeds
-pub mod Ending
-mod ImplsLie
 mod Lying
 mod One
 mod Parts

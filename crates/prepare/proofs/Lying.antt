@@ -15,10 +15,11 @@ use Rattle.written_types.specs.declared.written.Ident.{Ident}
 use Rattle.words.specs.declared.vocabulary.Keyword.{Keyword}
 use Rattle.words.specs.Words.{name, underscore, cover, ident_of, keyword_of, keyword_or_name, identifier_word, token_word, word_of, opening, start_of}
 use Rattle.prepare.specs.declared.item.Standing.{Standing}
-use Rattle.prepare.specs.Trees.{listed, inside, span_of, extent, before}
+use Rattle.prepare.specs.Trees.{listed, inside, span_of, extent, before, but_last}
 use Rattle.prepare.specs.Attributes.{after_attributes, after_visibility, is_for_tests}
-use Rattle.prepare.specs.Forms.{Form, declares, uses, holds, passes, form_at}
-use Rattle.prepare.specs.Items.{Item, stands, passed, item_of, unless_for_tests, item_from, item_at, stop_at}
+use Rattle.prepare.specs.Forms.{Form, declares, implements, holds, passes, form_at}
+use Rattle.prepare.specs.Heads.{outside, Implemented, implemented}
+use Rattle.prepare.specs.Items.{Item, stands, passed, written_by, item_of, unless_for_tests, item_from, item_at, stop_at}
 use Rattle.prepare.specs.Items as item
 use Rattle.prepare.specs.Standing.{AreItems, no_items, more_items, StandIn, itself, nothing, StandInside, for_tests, items, StopAt, here, in_item, StopIn, in_module, StopInside, in_items}
 use Rattle.prepare.specs.Standing as standing
@@ -26,7 +27,7 @@ use Rattle.prepare.specs.Prepared.{IsFile}
 use Rattle.prepare.specs.FileItems.{IsSlice, AreSlices}
 use Rattle.prepare.proofs.Behind.{IsBehind, same, later, weakly}
 use Rattle.prepare.proofs.Answered.{StopsLie}
-use Rattle.prepare.proofs.Passed.{IsIn, further, item_past, item_held}
+use Rattle.prepare.proofs.Passed.{IsIn, further, keyword_behind, item_past, item_held}
 use Rattle.prepare.proofs.Passed as passed_trees
 use Rattle.prepare.proofs.Repeated.{attributes_behind, inner_behind}
 
@@ -85,7 +86,7 @@ module _ (source : List ℕ) (utf8 : IsUtf8 source) where
   front_in (suc n) (t ∷ ts) h = (h.0, front_in n ts h.1)
 
   -- ---- spans
-  pub tree_is_slice : (t : Tree) → LiesIn source t → IsSlice source (span_of t)
+  tree_is_slice : (t : Tree) → LiesIn source t → IsSlice source (span_of t)
   tree_is_slice (token t) h = h
   tree_is_slice (group b ts s) h = (h.0, h.1)
 
@@ -103,7 +104,7 @@ module _ (source : List ℕ) (utf8 : IsUtf8 source) where
   later_of : (a b : ℕ) → IsCharBoundary source a → IsCharBoundary source b → IsCharBoundary source (max a b)
   later_of a b h g = elim (max_is a b) [ inl e ↦ subst (IsCharBoundary source) (sym e) h | inr e ↦ subst (IsCharBoundary source) (sym e) g ]
 
-  pub cover_is_slice : (a b : Span) → IsSlice source a → IsSlice source b → IsSlice source (cover a b)
+  cover_is_slice : (a b : Span) → IsSlice source a → IsSlice source b → IsSlice source (cover a b)
   unfolding cover
   cover_is_slice a b h g = (h.0, later_of a.start b.end h.0 g.1)
 
@@ -118,11 +119,17 @@ module _ (source : List ℕ) (utf8 : IsUtf8 source) where
   IsSliceOf (item.holds held) = Unit {0}
   IsSliceOf passed = Unit {0}
 
-  form_slice : (ts start keyword : List Tree) (form : Form) (rest : List Tree) (s : Standing) → AllIn ts → item_of ts start keyword form rest ≡ stands s → IsSlice source s.span
-  form_slice ts start keyword (declares x behind) rest s h e = subst IsSliceOf e (extent_is_slice (before ts rest) (front_in _ ts h))
-  form_slice ts start keyword uses rest s h e = subst IsSliceOf e (extent_is_slice (before ts rest) (front_in _ ts h))
-  form_slice ts start keyword (holds inner) rest s h e = cc
-  form_slice ts start keyword passes rest s h e = cc
+  written_slice : (head : List Tree) (x : Option Implemented) (s : Standing) → AllIn head → written_by head x ≡ stands s → IsSlice source s.span
+  written_slice head None s h e = cc
+  written_slice head (Some x) s h e = subst IsSliceOf e (extent_is_slice head h)
+
+  form_slice : (ts start keyword : List Tree) (form : Form) (rest : List Tree) (s : Standing) → AllIn ts → AllIn keyword → item_of ts start keyword form rest ≡ stands s → IsSlice source s.span
+  form_slice ts start keyword (declares x behind) rest s h g e = subst IsSliceOf e (extent_is_slice (before ts rest) (front_in _ ts h))
+  form_slice ts start keyword implements rest s h g e =
+      let head = but_last (before keyword rest) in
+      written_slice head (implemented (outside head)) s (front_in _ (before keyword rest) (front_in _ keyword g)) e
+  form_slice ts start keyword (holds inner) rest s h g e = cc
+  form_slice ts start keyword passes rest s h g e = cc
 
   stands_itself : (b : Bool) (i : Item) (s : Standing) → cond b passed i ≡ stands s → i ≡ stands s
   stands_itself true i s e = cc
@@ -135,7 +142,7 @@ module _ (source : List ℕ) (utf8 : IsUtf8 source) where
       let keyword = after_visibility start in
       let m = mapped (item_from ts start keyword) (form_at keyword) _ e in
       let is : unless_for_tests (before ts start) (item_of ts start keyword m.0.0 m.0.1) ≡ stands s = ap (λ p. p.0) m.2 in
-      form_slice ts start keyword m.0.0 m.0.1 s h (stands_itself (is_for_tests (before ts start)) (item_of ts start keyword m.0.0 m.0.1) s is)
+      form_slice ts start keyword m.0.0 m.0.1 s h (behind_in (keyword_behind ts) h) (stands_itself (is_for_tests (before ts start)) (item_of ts start keyword m.0.0 m.0.1) s is)
 
   both_slices : (ss us : List Standing) → AreSlices source ss → AreSlices source us → AreSlices source (ss ++ us)
   both_slices [] us h g = g

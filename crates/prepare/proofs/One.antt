@@ -1,5 +1,5 @@
 -- What stands of a source is one thing.
-use Rattle.std.proofs.Common.{◌≡◌, ◌∙◌, ℕ, List, [], ◌∷◌, ◌++◌, refl, ap, ap₂, sym, subst, Some}
+use Rattle.std.proofs.Common.{◌≡◌, ◌∙◌, ℕ, List, [], ◌++◌, refl, ap, ap₂, sym, subst, Some}
 use Rattle.tokens.specs.Trees.{Tree}
 use Rattle.prepare.specs.declared.file_items.FileItem.{FileItem}
 use Rattle.prepare.specs.declared.item.Standing.{Standing}

@@ -6,13 +6,14 @@ use Rattle.written_types.specs.declared.written.Ident.{Ident}
 use Rattle.texts.proofs.Laws.{mapped}
 use Rattle.prepare.specs.declared.kind.Kind.{Kind}
 use Rattle.prepare.specs.declared.kind.Kind.TheVariants as kinds
-use Rattle.prepare.specs.Trees.{listed, word, is_word, is_sign, is_curly, is_group, is_path_part, inside, before}
+use Rattle.prepare.specs.Trees.{listed, word, is_word, is_sign, is_curly, is_group, is_path_part, inside, before, but_last}
 use Rattle.prepare.specs.Attributes.{is_scope, after_scope, after_visibility, after_attributes, is_for_tests}
 use Rattle.prepare.specs.declared.previous.Behind.{Behind}
 use Rattle.prepare.specs.declared.previous.Behind.TheVariants.{Other}
 use Rattle.prepare.specs.Ends.{is_declaration_word, behind, after_semicolon, begins_with_name, after_mut, after_line, is_end, angles, after_block, after_path, after_name, semicolon_at, after_group, behind_path, after_call}
-use Rattle.prepare.specs.Forms.{Form, declares, uses, holds, passes, Found, ending, ident, named_or_none, declared_at, declaration_at, held_at, module_at, form_of, kind_at, form_at}
-use Rattle.prepare.specs.Items.{Item, passed, item_of, unless_for_tests, item_from, item_at}
+use Rattle.prepare.specs.Forms.{Form, declares, implements, holds, passes, Found, ending, ident, named_or_none, declared_at, declaration_at, held_at, module_at, form_of, kind_at, form_at}
+use Rattle.prepare.specs.Heads.{outside, Implemented, implemented}
+use Rattle.prepare.specs.Items.{Item, passed, written_by, item_of, unless_for_tests, item_from, item_at}
 use Rattle.prepare.specs.Items as item
 use Rattle.prepare.proofs.Behind.{IsBehind, same, later, IsPast, past, weakly, then_behind, past_behind, depth_behind, GoesPast, some_same, either, not_none, first_past}
 use Rattle.prepare.proofs.Repeated.{attributes_behind}
@@ -113,9 +114,9 @@ passes_other : no_module passes
 unfolding no_module
 passes_other held e = cc
 
-uses_other : no_module uses
+implements_other : no_module implements
 unfolding no_module
-uses_other held e = cc
+implements_other held e = cc
 
 declares_other : (name : Ident) (ts : List Tree) → no_module (declares name ts)
 unfolding no_module
@@ -167,7 +168,8 @@ module_within (t ∷ u ∷ ts) found e = elim (either (is_some (word u)) e) [ in
 
 form_of_within : (k : Kind) (ts : List Tree) (found : Found) → form_of k ts ≡ Some found → IsWithin ts found
 form_of_within kinds.Declaration ts found e = declaration_within ts found e
-form_of_within kinds.Use ts found e = ending_within uses ts (after_semicolon ts) found uses_other (semicolon_past ts) e
+form_of_within kinds.Impl ts found e = ending_within implements ts (after_block Other 0 ts) found implements_other (block_past Other 0 ts) e
+form_of_within kinds.Use ts found e = ending_within passes ts (after_semicolon ts) found passes_other (semicolon_past ts) e
 form_of_within kinds.Module ts found e = module_within ts found e
 form_of_within kinds.Line ts found e = ending_within passes ts (after_line ts) found passes_other (line_past ts) e
 form_of_within kinds.Block ts found e = ending_within passes ts (after_block Other 0 ts) found passes_other (block_past Other 0 ts) e
@@ -179,9 +181,13 @@ form_within ts found e = form_of_within (kind_at ts) ts found e
 
 -- ---- items
 
+written_other : (head : List Tree) (x : Option Implemented) (held : List Tree) → written_by head x ≡ item.holds held → ⊥
+written_other head None held e = cc
+written_other head (Some x) held e = cc
+
 form_held : (ts start keyword : List Tree) (form : Form) (rest held : List Tree) → item_of ts start keyword form rest ≡ item.holds held → form ≡ holds held
 form_held ts start keyword (declares name behind) rest held e = cc
-form_held ts start keyword uses rest held e = cc
+form_held ts start keyword implements rest held e = let head = but_last (before keyword rest) in absurd (written_other head (implemented (outside head)) held e)
 form_held ts start keyword (holds inner) rest held e = cc
 form_held ts start keyword passes rest held e = cc
 
@@ -189,7 +195,7 @@ held_itself : (b : Bool) (i : Item) (held : List Tree) → cond b passed i ≡ i
 held_itself true i held e = cc
 held_itself false i held e = e
 
-keyword_behind : (ts : List Tree) → IsBehind (after_visibility (after_attributes ts)) ts
+pub keyword_behind : (ts : List Tree) → IsBehind (after_visibility (after_attributes ts)) ts
 keyword_behind ts = then_behind (visibility_behind (after_attributes ts)) (attributes_behind ts)
 
 pub item_past : (ts : List Tree) (i : Item) (rest : List Tree) → item_at ts ≡ Some (i, rest) → IsPast rest ts

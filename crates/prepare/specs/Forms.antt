@@ -16,10 +16,10 @@ use Rattle.prepare.specs.Trees.{word, is_curly, inside}
 use Rattle.prepare.specs.Kinds.{kind_of}
 use Rattle.prepare.specs.Ends.{after_semicolon, after_line, after_block, semicolon_at, after_call}
 
--- a declaration, by its name and what follows that, a `use` line, a module, by what stands in its brackets, and any other item
+-- a declaration, by its name and what follows that, an impl, a module, by what stands in its brackets, and any other item
 pub data Form : Type 0 where
   declares : Ident → List Tree → Form
-  uses : Form
+  implements : Form
   holds : List Tree → Form
   passes : Form
 
@@ -30,7 +30,7 @@ Found = Form × List Tree
 -- what the program's values are
 abbrev pub form_view : program.Form → Form
 form_view (forms.Declares name ts) = declares (ident_of name.now) (map tree_view ts.now)
-form_view forms.Uses = uses
+form_view forms.Implements = implements
 form_view (forms.Holds ts) = holds (map tree_view ts.now)
 form_view forms.Passes = passes
 
@@ -56,9 +56,6 @@ kind_at (t ∷ ts) = kind_by (word t) (first_word ts)
 abbrev pub ending : Form → Option (List Tree) → Option Found
 ending form None = None
 ending form (Some rest) = Some (form, rest)
-
-abbrev pub passing : Option (List Tree) → Option Found
-passing rest = ending passes rest
 
 -- a keyword of editions after that of 2015, in which it is a name
 abbrev pub is_later_keyword : List ℕ → Bool
@@ -93,23 +90,21 @@ declaration_at (keyword ∷ ts) = declared_at ts
 -- keyword name (curly-group | ";")
 abbrev pub held_at : List Tree → Option Found
 held_at [] = None
-held_at (t ∷ ts) = cond (is_curly t) (Some (holds (inside t), ts)) (passing (semicolon_at (t ∷ ts)))
+held_at (t ∷ ts) = cond (is_curly t) (Some (holds (inside t), ts)) (ending passes (semicolon_at (t ∷ ts)))
 
 abbrev pub module_at : List Tree → Option Found
 module_at [] = None
 module_at (keyword ∷ []) = None
 module_at (keyword ∷ name ∷ ts) = cond (is_some (word name)) (held_at ts) None
 
-abbrev pub use_at : List Tree → Option Found
-use_at ts = ending uses (after_semicolon ts)
-
 abbrev pub form_of : Kind → List Tree → Option Found
 form_of kinds.Declaration ts = declaration_at ts
-form_of kinds.Use ts = use_at ts
+form_of kinds.Impl ts = ending implements (after_block Other 0 ts)
+form_of kinds.Use ts = ending passes (after_semicolon ts)
 form_of kinds.Module ts = module_at ts
-form_of kinds.Line ts = passing (after_line ts)
-form_of kinds.Block ts = passing (after_block Other 0 ts)
-form_of kinds.Call ts = passing (after_call ts)
+form_of kinds.Line ts = ending passes (after_line ts)
+form_of kinds.Block ts = ending passes (after_block Other 0 ts)
+form_of kinds.Call ts = ending passes (after_call ts)
 
 unfoldable pub form_at : List Tree → Option Found
 form_at ts = form_of (kind_at ts) ts

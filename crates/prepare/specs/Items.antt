@@ -9,15 +9,17 @@ use Rattle.words.specs.Words.{word_of, start_of}
 use Rattle.written_types.specs.declared.written.Ident.{Ident}
 use Rattle.reaching.specs.declared.node.Node.{Node}
 use Rattle.prepare.specs.declared.item.Standing.{Standing}
+use Rattle.prepare.specs.declared.item.Stands.TheVariants.{Declared, Written}
 use Rattle.prepare.specs.declared.item.Stop.{Stop}
 use Rattle.prepare.specs.declared.item.Stop.TheVariants as stop
 use Rattle.prepare.specs.declared.item.Item as program
 use Rattle.prepare.specs.declared.item.Item.TheVariants as items
-use Rattle.prepare.specs.Trees.{before, extent}
+use Rattle.prepare.specs.Trees.{before, but_last, extent}
 use Rattle.prepare.specs.Attributes.{after_attributes, after_visibility, is_for_tests}
 use Rattle.prepare.specs.Fields.{declared_names}
 use Rattle.prepare.specs.Traits.{are_deriving}
-use Rattle.prepare.specs.Forms.{Form, declares, uses, form_at}
+use Rattle.prepare.specs.Heads.{outside, Implemented, implemented}
+use Rattle.prepare.specs.Forms.{Form, declares, implements, form_at}
 use Rattle.prepare.specs.Forms as form
 
 -- what stands, a module, by what stands in its brackets, and an item that does not stand
@@ -40,11 +42,19 @@ read_view p = (item_view p.0, map tree_view p.1.now)
 abbrev pub declared_of : Ident → (attributes keyword behind : List Tree) → Node
 declared_of name attributes keyword behind = record { name = name.text; is_first = are_deriving attributes; names = declared_names keyword behind }
 
+-- an impl with that head of one of serde's traits, for the type of that name; any other does not stand
+abbrev pub written_by : (head : List Tree) → Option Implemented → Item
+written_by head None = passed
+written_by head (Some x) = stands (record { what = Written x.0 x.1.text; span = extent head })
+
+abbrev pub written_of : (head : List Tree) → Item
+written_of head = written_by head (implemented (outside head))
+
 -- The item of the form among these trees, from its start, behind its attributes, and from its keyword on; it ends before the rest.
 abbrev pub item_of : (ts start keyword : List Tree) → Form → List Tree → Item
 item_of ts start keyword (declares name behind) rest =
-    stands (record { declared = Some (declared_of name (before ts start) keyword (before behind rest)); span = extent (before ts rest) })
-item_of ts start keyword uses rest = stands (record { declared = None; span = extent (before ts rest) })
+    stands (record { what = Declared (declared_of name (before ts start) keyword (before behind rest)); span = extent (before ts rest) })
+item_of ts start keyword implements rest = written_of (but_last (before keyword rest))
 item_of ts start keyword (form.holds inside) rest = holds inside
 item_of ts start keyword form.passes rest = passed
 

@@ -20,9 +20,10 @@ weak_kind (Some word) = kinds.Block
 unfoldable pub kind_of : List ℕ → Option (List ℕ) → Kind
 kind_of first next =
     cond (is_among first (codes "struct" ∷ codes "enum" ∷ [])) kinds.Declaration
+    (cond (is_among first (codes "impl" ∷ [])) kinds.Impl
     (cond (is_among first (codes "use" ∷ [])) kinds.Use
     (cond (is_among first (codes "mod" ∷ [])) kinds.Module
     (cond (is_among first (codes "type" ∷ codes "static" ∷ [])) kinds.Line
-    (cond (is_among first (codes "fn" ∷ codes "impl" ∷ codes "trait" ∷ codes "unsafe" ∷ codes "async" ∷ codes "extern" ∷ codes "macro" ∷ [])) kinds.Block
+    (cond (is_among first (codes "fn" ∷ codes "trait" ∷ codes "unsafe" ∷ codes "async" ∷ codes "extern" ∷ codes "macro" ∷ [])) kinds.Block
     (cond (is_among first (codes "const" ∷ [])) (const_kind next)
-    (cond (is_among first (codes "union" ∷ codes "auto" ∷ codes "safe" ∷ codes "default" ∷ codes "gen" ∷ [])) (weak_kind next) kinds.Call))))))
+    (cond (is_among first (codes "union" ∷ codes "auto" ∷ codes "safe" ∷ codes "default" ∷ codes "gen" ∷ [])) (weak_kind next) kinds.Call)))))))

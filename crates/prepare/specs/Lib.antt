@@ -4,7 +4,6 @@ pub mod Fields
 pub mod FileItems
 pub mod FileTexts
 pub mod Forms
-pub mod HandImpls
 pub mod Heads
 pub mod Items
 pub mod Kinds

@@ -105,3 +105,7 @@ extent (t ∷ ts) = cover (span_of t) (span_of (get_or (t ∷ ts) (length ts) t)
 -- the trees that stand before the rest
 abbrev pub before : List Tree → List Tree → List Tree
 before ts rest = take (length ts - length rest) ts
+
+-- the trees but for the last
+abbrev pub but_last : List Tree → List Tree
+but_last ts = take (length ts - 1) ts

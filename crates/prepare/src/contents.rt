@@ -1,44 +1,101 @@
-//! What a file has for schemas.
+//! What a file has for schemas, each by its own text and its place.
 
-ghost use Rattle.std.specs.Prelude.{◌≡◌, ◌⊎◌, IfOk};
+ghost use Rattle.std.specs.Prelude.{◌≡◌, ◌⊎◌, ◌++◌, IfOk, OnOk};
 ghost use Rattle.diag.specs.Refusal.{Refuses};
 ghost use Rattle.texts.specs.declared.span.Span.{Span as AnySpan};
 ghost use Rattle.lexing.specs.Cut.{IsDepthError, OpensTooDeep};
-ghost use Rattle.prepare.specs.FileItems.{AreItemsOf};
-ghost use Rattle.prepare.specs.HandImpls.{AreHandImpls, AreSlicedImpls};
+ghost use Rattle.prepare.specs.FileItems.{IsSlice, AreSlices, item_of_span, items_in, AreItemsOf, impl_of_span, impls_in, AreImplsOf};
 ghost use Rattle.prepare.specs.Prepared.{IsNoFile};
 
-use crate::file::standing_of;
-use crate::file_items::{FileItem, items_in};
-use crate::hand_impl::HandImpl;
-use crate::impls::impls_of;
+use crate::file::standing_in;
+use crate::file_items::{FileImpl, FileItem};
+use crate::item::{Standing, Stands};
 use diag::DeriveError;
-use lexing::{lex, trees_lie};
-use std::alloc::Global;
-use texts::List;
+use std::alloc::{AllocError, Global};
+use telling::Places;
+use texts::{List, Text};
 
 /// The declarations of a file, and its impls of serde's traits that are written by hand.
 #[derive(Debug, Drop)]
 pub struct FileParts {
     pub items: List<FileItem>,
-    pub impls: List<HandImpl>,
+    pub impls: List<FileImpl>,
 }
 
-/// The declarations of the file of this number, as `items` finds them, and its impls of serde's traits that are written by
-/// hand, as `hand_impls` does. The source is cut once.
+/// Adds what stands.
+fn push_part(
+    alloc: Global,
+    parts: &mut FileParts,
+    places: &mut Places<'_>,
+    file: usize,
+    source: &str,
+    standing: &Standing,
+) -> Result<(), AllocError>
+    requires source { places.old ≡ source.now }
+    requires slice { IsSlice source.now standing.now.span }
+    ensures items { OnOk result (parts.new.items
+        ≡ parts.old.items ++ item_of_span file source.now standing.now.span standing.now.what) }
+    ensures impls { OnOk result (parts.new.impls
+        ≡ parts.old.impls ++ impl_of_span file source.now standing.now.span standing.now.what) }
+    ensures source { places.new ≡ places.old }
+{
+    let (start, end) = (standing.span.start, standing.span.end);
+    let place = places.place(alloc, start, end)?;
+    let text = Text::new(alloc, &source[start..end])?;
+    match &standing.what {
+        Stands::Declared(node) => parts.items.push(FileItem {
+            file,
+            declared: node.copy(alloc)?,
+            text,
+            place,
+        }),
+        Stands::Written(of, name) => parts.impls.push(FileImpl {
+            file,
+            of: *of,
+            name: name.copy(alloc)?,
+            text,
+            place,
+        }),
+    }
+}
+
+/// The declarations and the impls among what stands.
+fn parts_in(
+    alloc: Global,
+    file: usize,
+    source: &str,
+    standing: &[Standing],
+) -> Result<FileParts, AllocError>
+    requires { AreSlices source.now standing.now }
+    ensures items { IfOk result
+        (λ parts. parts.items ≡ items_in file source.now standing.now) }
+    ensures impls { IfOk result
+        (λ parts. parts.impls ≡ impls_in file source.now standing.now) }
+{
+    let mut parts = FileParts {
+        items: List::new(alloc),
+        impls: List::new(alloc),
+    };
+    let mut places = Places::new(source);
+    for standing in standing {
+        push_part(alloc, &mut parts, &mut places, file, source, standing)?;
+    }
+    Ok(parts)
+}
+
+/// The declarations of the file of this number, and its impls of serde's traits that are written by hand for a path, modules
+/// looked into, in its order. What is for tests alone is none of them: an item with an attribute `cfg(test)`, or
+/// `cfg(all(..))` in which `test` stands; nor is what stands in a block, as that of a function.
 ///
-/// It refuses what `items` refuses.
+/// A refusal of kind `Syntax` has a span of the source: where it cannot be cut, as `lexing::lex` says; or that of the first
+/// token or opening bracket, behind attributes and doc comments, of what is no item. One of kind `TooDeep` has the span of
+/// the first bracket that opens inside 64 others.
 pub fn file_parts(alloc: Global, file: usize, source: &str) -> Result<FileParts, DeriveError>
     ensures items { IfOk result (λ parts. AreItemsOf file source.now parts.items) }
-    ensures impls { IfOk result (λ parts. AreHandImpls source.now parts.impls) }
-    ensures slices { IfOk result (λ parts. AreSlicedImpls source.now parts.impls) }
+    ensures impls { IfOk result (λ parts. AreImplsOf file source.now parts.impls) }
     ensures shallow { IfOk result (λ _. (span : AnySpan) → ¬ (OpensTooDeep source.now span)) }
     ensures refused { Refuses result (λ e. IsDepthError source.now e ⊎ IsNoFile source.now e) }
 {
-    trees_lie();
-    let trees = lex(alloc, source)?;
-    let standing = standing_of(alloc, source, trees.as_slice())?;
-    let items = items_in(alloc, file, source, standing.as_slice())?;
-    let impls = impls_of(alloc, trees.as_slice())?;
-    Ok(FileParts { items, impls })
+    let standing = standing_in(alloc, source)?;
+    Ok(parts_in(alloc, file, source, standing.as_slice())?)
 }

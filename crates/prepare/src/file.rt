@@ -27,7 +27,7 @@ fn refusal(alloc: Global, stop: Stop) -> DeriveError
 }
 
 /// What stands of the trees of the source, which is a file.
-pub(crate) fn standing_of(
+fn standing_of(
     alloc: Global,
     source: &str,
     trees: &[TokenTree],

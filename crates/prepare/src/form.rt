@@ -3,7 +3,7 @@
 ghost use Rattle.std.specs.Prelude.{◌≡◌, map, option_map};
 ghost use Rattle.tokens.specs.Trees.{tree_view};
 ghost use Rattle.words.specs.Words.{ident_of};
-ghost use Rattle.prepare.specs.Forms.{first_word, kind_at, found_view, is_later_keyword, ident, named_at, declared_at, declaration_at, held_at, module_at, passing, use_at, form_at};
+ghost use Rattle.prepare.specs.Forms.{form_view, found_view, first_word, kind_at, ending, is_later_keyword, ident, named_at, declared_at, declaration_at, held_at, module_at, form_at};
 
 use crate::ends::{after_block, after_call, after_line, after_semicolon, semicolon_at};
 use crate::kind::{Kind, kind_of};
@@ -16,7 +16,8 @@ use words::{Word, word_of};
 pub enum Form<'t> {
     /// A declaration, by its name and what follows that.
     Declares(&'t Token, &'t [TokenTree]),
-    Uses,
+    /// An impl.
+    Implements,
     /// A module, by what stands in its brackets.
     Holds(&'t [TokenTree]),
     /// Any other.
@@ -46,14 +47,22 @@ fn kind_at(trees: &[TokenTree]) -> Kind
     }
 }
 
+/// An item of the form, where it ends before the rest.
+fn ending<'t>(form: Form<'t>, rest: Option<&'t [TokenTree]>) -> Option<(Form<'t>, &'t [TokenTree])>
+    ensures { option_map found_view result
+        ≡ ending (form_view form.entry) (option_map (λ rest. map tree_view rest.now) rest.entry) }
+{
+    match rest {
+        Some(rest) => Some((form, rest)),
+        None => None,
+    }
+}
+
 /// The declaration of the name, with what follows the name.
 fn named_at<'t>(name: &'t Token, trees: &'t [TokenTree]) -> Option<(Form<'t>, &'t [TokenTree])>
     ensures { option_map found_view result ≡ named_at (ident_of name.now) (map tree_view trees.now) }
 {
-    match after_block(trees) {
-        Some(rest) => Some((Form::Declares(name, trees), rest)),
-        None => None,
-    }
+    ending(Form::Declares(name, trees), after_block(trees))
 }
 
 /// Whether the text is a keyword of editions after that of 2015, in which it is a name.
@@ -106,7 +115,7 @@ fn held_at(trees: &[TokenTree]) -> Option<(Form<'_>, &[TokenTree])>
 {
     match trees {
         [first, rest @ ..] if is_curly(first) => Some((Form::Holds(inside(first)), rest)),
-        _ => passing(semicolon_at(trees)),
+        _ => ending(Form::Passes, semicolon_at(trees)),
     }
 }
 
@@ -120,27 +129,6 @@ fn module_at(trees: &[TokenTree]) -> Option<(Form<'_>, &[TokenTree])>
     }
 }
 
-/// An item that passes, where it ends.
-fn passing<'t>(rest: Option<&'t [TokenTree]>) -> Option<(Form<'t>, &'t [TokenTree])>
-    ensures { option_map found_view result
-        ≡ passing (option_map (λ rest. map tree_view rest.now) rest.entry) }
-{
-    match rest {
-        Some(rest) => Some((Form::Passes, rest)),
-        None => None,
-    }
-}
-
-/// A `use` line.
-fn use_at(trees: &[TokenTree]) -> Option<(Form<'_>, &[TokenTree])>
-    ensures { option_map found_view result ≡ use_at (map tree_view trees.now) }
-{
-    match after_semicolon(trees) {
-        Some(rest) => Some((Form::Uses, rest)),
-        None => None,
-    }
-}
-
 /// What the item is that the trees begin with, behind its attributes and visibility, and what follows it.
 #[tactic(auto, unfolding(crate::specs::Forms::form_at))]
 pub(crate) fn form_at(trees: &[TokenTree]) -> Option<(Form<'_>, &[TokenTree])>
@@ -148,10 +136,11 @@ pub(crate) fn form_at(trees: &[TokenTree]) -> Option<(Form<'_>, &[TokenTree])>
 {
     match kind_at(trees) {
         Kind::Declaration => declaration_at(trees),
-        Kind::Use => use_at(trees),
+        Kind::Impl => ending(Form::Implements, after_block(trees)),
+        Kind::Use => ending(Form::Passes, after_semicolon(trees)),
         Kind::Module => module_at(trees),
-        Kind::Line => passing(after_line(trees)),
-        Kind::Block => passing(after_block(trees)),
-        Kind::Call => passing(after_call(trees)),
+        Kind::Line => ending(Form::Passes, after_line(trees)),
+        Kind::Block => ending(Form::Passes, after_block(trees)),
+        Kind::Call => ending(Form::Passes, after_call(trees)),
     }
 }

@@ -1,30 +1,46 @@
-//! The heads of impls: what stands between the word `impl` and the block, outside of `<` and `>`.
+//! The heads of impls: what stands in front of their blocks.
 
-ghost use Rattle.std.specs.Prelude.{◌≡◌, ◌++◌, ◌∷◌, [], List as Items, cond, option_map, OnOk};
-ghost use Rattle.tokens.specs.Trees.{Tree, tree_view, trees_view};
+ghost use Rattle.std.specs.Prelude.{◌≡◌, None, map, option_map, IfOk};
+ghost use Rattle.tokens.specs.Trees.{tree_view};
 ghost use Rattle.words.specs.Words.{ident_of, word_of};
 ghost use Rattle.words.specs.Reading.{as_name};
-ghost use Rattle.prepare.specs.HandImpls.{trait_of, is_type_part, newer, is_outside, is_block, head, hand_impl, impl_of};
-ghost use Rattle.prepare.specs.Heads.{says};
+ghost use Rattle.prepare.specs.Heads.{is_outside, outside, trait_of, is_type_part, newer, last_name, implemented};
 
 use crate::ends::angles;
-use crate::hand_impl::{HandImpl, SerdeTrait};
 use crate::previous::Behind;
-use crate::trees::{is_curly, is_path_part, is_sign, is_word, span_of};
+use crate::serde_trait::SerdeTrait;
+use crate::trees::{is_path_part, is_sign, is_word};
 use std::alloc::{AllocError, Global};
-use texts::{List, Span};
+use texts::List;
 use tokens::{Token, TokenTree};
-use words::{Word, covering, ident_of, word_of};
+use words::{Word, word_of};
 
-/// How far a head is read.
-#[derive(Clone, Copy)]
-pub enum Reading<'t> {
-    /// In front of `for`, right behind the trait of serde's, if one stands there.
-    Trait(Option<SerdeTrait>),
-    /// In the path behind `for`, with its last name so far.
-    Path(SerdeTrait, Option<&'t Token>),
-    /// Behind the path, with its last name; or where no path stands, without one.
-    Done(SerdeTrait, Option<&'t Token>),
+/// Whether the tree stands outside of `<` and `>` where so many `<` are open before it.
+fn is_outside(tree: &TokenTree, opened: usize) -> bool
+    ensures { result ≡ is_outside opened (tree_view tree.now) }
+{
+    opened == 0 && !is_sign(tree, "<")
+}
+
+/// The trees that stand outside of `<` and `>`.
+#[tactic(auto, unfolding(crate::specs::Heads::outside))]
+pub(crate) fn outside(alloc: Global, trees: &[TokenTree]) -> Result<List<&TokenTree>, AllocError>
+    ensures { IfOk result (λ kept. map (λ tree. tree_view tree.now) kept
+        ≡ outside (map tree_view trees.now)) }
+{
+    let mut kept = List::new(alloc);
+    let mut opened: usize = 0;
+    let mut was = Behind::Other;
+    let mut rest = trees;
+    'trees: while let [first, after @ ..] = rest {
+        if is_outside(first, opened) {
+            kept.push(first)?;
+        }
+        opened = angles(first, was, opened);
+        was = was.past(first);
+        rest = after;
+    }
+    Ok(kept)
 }
 
 /// The trait of serde's that the tree names.
@@ -59,119 +75,39 @@ fn newer<'t>(found: Option<&'t Token>, tree: &'t TokenTree) -> Option<&'t Token>
     }
 }
 
-/// The reading in a path, past the tree.
-fn path_past<'t>(of: SerdeTrait, found: Option<&'t Token>, tree: &'t TokenTree) -> Reading<'t>
-    ensures { (trees : Items Tree) → says result trees
-        ≡ says (Reading.Path of found.entry) (tree_view tree.now ∷ trees) }
+/// The last name of the path that goes to `where` or to the end; no other type has one.
+fn last_name<'t>(trees: &[&'t TokenTree]) -> Option<&'t Token>
+    ensures { option_map (λ token. ident_of token.now) result
+        ≡ last_name None (map (λ tree. tree_view tree.now) trees.now) }
 {
-    if is_word(tree, "where") {
-        Reading::Done(of, found)
-    } else if is_type_part(tree) {
-        Reading::Path(of, newer(found, tree))
-    } else {
-        Reading::Done(of, None)
-    }
-}
-
-/// The reading in front of `for`, past the tree, behind that trait or none.
-fn trait_past<'t>(seen: Option<SerdeTrait>, tree: &'t TokenTree) -> Reading<'t>
-    ensures { (trees : Items Tree) → says result trees
-        ≡ says (Reading.Trait seen) (tree_view tree.now ∷ trees) }
-{
-    match seen {
-        Some(of) if is_word(tree, "for") => Reading::Path(of, None),
-        _ => Reading::Trait(trait_of(tree)),
-    }
-}
-
-/// The reading past the tree.
-fn past<'t>(reading: Reading<'t>, tree: &'t TokenTree) -> Reading<'t>
-    ensures { (trees : Items Tree) → says result trees
-        ≡ says reading.entry (tree_view tree.now ∷ trees) }
-{
-    match reading {
-        Reading::Trait(seen) => trait_past(seen, tree),
-        Reading::Path(of, found) => path_past(of, found, tree),
-        Reading::Done(of, found) => Reading::Done(of, found),
-    }
-}
-
-/// Whether the tree stands outside of `<` and `>` where so many `<` are open before it.
-fn is_outside(tree: &TokenTree, opened: usize) -> bool
-    ensures { result ≡ is_outside opened (tree_view tree.now) }
-{
-    opened == 0 && !is_sign(tree, "<")
-}
-
-/// Whether the tree is the block of an impl, where so many `<` are open before it.
-fn is_block(tree: &TokenTree, opened: usize) -> bool
-    ensures { result ≡ is_block opened (tree_view tree.now) }
-{
-    opened == 0 && is_curly(tree)
-}
-
-/// The reading past the tree, if it stands outside of `<` and `>`.
-fn past_outside<'t>(reading: Reading<'t>, tree: &'t TokenTree, opened: usize) -> Reading<'t>
-    ensures { (trees : Items Tree) → says result trees
-        ≡ says reading.entry
-        (cond (is_outside opened (tree_view tree.now)) (tree_view tree.now ∷ trees) trees) }
-{
-    if is_outside(tree, opened) {
-        past(reading, tree)
-    } else {
-        reading
-    }
-}
-
-/// Adds the impl of the span, if its head, which is read to its end, says that it is one of serde's traits for a path.
-fn push_read(
-    alloc: Global,
-    impls: &mut List<HandImpl>,
-    reading: Reading<'_>,
-    span: Span,
-) -> Result<(), AllocError>
-    ensures { OnOk result (impls.new
-        ≡ impls.old ++ hand_impl span (says reading.entry [])) }
-{
-    match reading {
-        Reading::Path(of, Some(name)) | Reading::Done(of, Some(name)) => {
-            let name = ident_of(alloc, name)?;
-            impls.push(HandImpl {
-                of,
-                name: name.text,
-                span,
-            })
-        }
-        _ => Ok(()),
-    }
-}
-
-/// Adds the impl that a word `impl` of the span begins and the trees go on with, if it is one of serde's traits for a path.
-#[tactic(auto, using(crate::proofs::Ending::stops_at, crate::proofs::Ending::ends_at, crate::proofs::Ending::goes_on))]
-pub(crate) fn push_impl(
-    alloc: Global,
-    impls: &mut List<HandImpl>,
-    start: Span,
-    trees: &[TokenTree],
-) -> Result<(), AllocError>
-    ensures { OnOk result (impls.new
-        ≡ impls.old ++ impl_of start (head (trees_view trees.now))) }
-{
-    let mut reading = Reading::Trait(None);
-    let mut opened: usize = 0;
-    let mut was = Behind::Other;
+    let mut found = None;
     let mut rest = trees;
     'trees: while let [first, after @ ..] = rest {
-        if is_word(first, "impl") {
-            return Ok(());
+        if is_word(first, "where") {
+            return found;
         }
-        if is_block(first, opened) {
-            return push_read(alloc, impls, reading, covering(start, span_of(first)));
+        if !is_type_part(first) {
+            return None;
         }
-        reading = past_outside(reading, first, opened);
-        opened = angles(first, was, opened);
-        was = was.past(first);
+        found = newer(found, first);
         rest = after;
     }
-    Ok(())
+    found
+}
+
+/// The first of serde's traits with `for` behind it, and the last name of the path that stands there.
+pub(crate) fn implemented<'t>(trees: &[&'t TokenTree]) -> Option<(SerdeTrait, &'t Token)>
+    ensures { option_map (λ found. (found.0, ident_of found.1.now)) result
+        ≡ implemented (map (λ tree. tree_view tree.now) trees.now) }
+{
+    let mut rest = trees;
+    'trees: while let [first, after @ ..] = rest {
+        if let (Some(of), [next, path @ ..]) = (trait_of(first), after) {
+            if is_word(next, "for") {
+                return last_name(path).map(|name| (of, name));
+            }
+        }
+        rest = after;
+    }
+    None
 }

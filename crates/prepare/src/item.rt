@@ -1,14 +1,24 @@
+use crate::serde_trait::SerdeTrait;
 use reaching::Node;
 use std::alloc::AllocError;
-use texts::Span;
+use texts::{Span, Text};
 use tokens::TokenTree;
 
-/// What stands of a file: a declaration of a struct or an enum, or without one a `use` line. A declaration is a node: it is
-/// first where it derives one of the traits by which declarations are chosen, and it names the identifiers in the types of its
-/// fields, but for those that serde skips. The span goes from the first attribute or doc comment to the end.
+/// What stands of a file.
+#[derive(Debug, Drop)]
+pub enum Stands {
+    /// A declaration of a struct or an enum. It is first where it derives one of the traits by which declarations are chosen,
+    /// and it names the identifiers in the types of its fields, but for those that serde skips.
+    Declared(Node),
+    /// An impl of the trait that is written by hand, with the last name of the path of the type that it is for.
+    Written(SerdeTrait, Text),
+}
+
+/// What stands, with its bytes: of a declaration from the first attribute or doc comment to the end, of an impl from the word
+/// `impl` to the end of what stands before its block.
 #[derive(Debug, Drop)]
 pub struct Standing {
-    pub declared: Option<Node>,
+    pub what: Stands,
     pub span: Span,
 }
 

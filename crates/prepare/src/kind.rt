@@ -8,6 +8,7 @@ ghost use Rattle.prepare.specs.Kinds.{is_function_word, const_kind, weak_kind, k
 pub enum Kind {
     /// A struct or an enum.
     Declaration,
+    Impl,
     Use,
     Module,
     /// What goes to a semicolon, as a type alias.
@@ -55,10 +56,11 @@ pub(crate) fn kind_of(first: &str, next: Option<&str>) -> Kind
 {
     match first {
         "struct" | "enum" => Kind::Declaration,
+        "impl" => Kind::Impl,
         "use" => Kind::Use,
         "mod" => Kind::Module,
         "type" | "static" => Kind::Line,
-        "fn" | "impl" | "trait" | "unsafe" | "async" | "extern" | "macro" => Kind::Block,
+        "fn" | "trait" | "unsafe" | "async" | "extern" | "macro" => Kind::Block,
         "const" => const_kind(next),
         "union" | "auto" | "safe" | "default" | "gen" => weak_kind(next),
         _ => Kind::Call,

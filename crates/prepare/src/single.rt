@@ -5,14 +5,15 @@ ghost use Rattle.tokens.specs.Trees.{tree_view};
 ghost use Rattle.words.specs.Words.{ident_of};
 ghost use Rattle.prepare.specs.declared.item.Stop.TheVariants.{At};
 ghost use Rattle.prepare.specs.Forms.{form_view};
-ghost use Rattle.prepare.specs.Items.{declared_of, item_view, read_view, item_of, item_at, stop_at, ReadsItem};
+ghost use Rattle.prepare.specs.Items.{declared_of, item_view, read_view, written_of, item_of, item_at, stop_at, ReadsItem};
 
 use crate::attributes::{after_attributes, after_visibility, is_for_tests};
 use crate::fields::push_declared;
 use crate::form::{Form, form_at};
-use crate::item::{Item, Standing, Stop};
+use crate::heads::{implemented, outside};
+use crate::item::{Item, Standing, Stands, Stop};
 use crate::traits::are_deriving;
-use crate::trees::{before, extent};
+use crate::trees::{before, but_last, extent};
 use reaching::Node;
 use std::alloc::{AllocError, Global};
 use texts::{List, Span};
@@ -43,6 +44,21 @@ fn declared_of(
     })
 }
 
+/// What is done with the impl of the head: it stands where it is of one of serde's traits and for a path.
+fn written_of<'t>(alloc: Global, head: &[TokenTree]) -> Result<Item<'t>, AllocError>
+    ensures { IfOk result (λ item. item_view item ≡ written_of (map tree_view head.now)) }
+{
+    let outside = outside(alloc, head)?;
+    let Some((of, name)) = implemented(outside.as_slice()) else {
+        return Ok(Item::Passed);
+    };
+    let ident = ident_of(alloc, name)?;
+    Ok(Item::Stands(Standing {
+        what: Stands::Written(of, ident.text),
+        span: extent(head),
+    }))
+}
+
 /// What is done with the item of the form, which is not for tests and ends before the rest.
 fn item_of<'t>(
     alloc: Global,
@@ -56,20 +72,16 @@ fn item_of<'t>(
         ≡ item_of (map tree_view trees.now) (map tree_view start.now) (map tree_view keyword.now)
         (form_view form.entry) (map tree_view rest.now)) }
 {
-    let span = extent(before(trees, rest));
     match form {
         Form::Declares(name, behind) => {
             let attributes = before(trees, start);
             let declared = declared_of(alloc, name, attributes, keyword, before(behind, rest))?;
             Ok(Item::Stands(Standing {
-                declared: Some(declared),
-                span,
+                what: Stands::Declared(declared),
+                span: extent(before(trees, rest)),
             }))
         }
-        Form::Uses => Ok(Item::Stands(Standing {
-            declared: None,
-            span,
-        })),
+        Form::Implements => written_of(alloc, but_last(before(keyword, rest))),
         Form::Holds(trees) => Ok(Item::Holds(trees)),
         Form::Passes => Ok(Item::Passed),
     }

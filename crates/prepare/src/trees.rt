@@ -2,7 +2,7 @@
 
 ghost use Rattle.std.specs.Prelude.{◌≡◌, map, option_map};
 ghost use Rattle.tokens.specs.Trees.{tree_view};
-ghost use Rattle.prepare.specs.Trees.{word, sign, doc, is_text, is_word, is_sign, is_inner_doc, is_outer_doc, is_round, is_square, is_curly, is_group, is_path_part, inside, span_of, before, extent};
+ghost use Rattle.prepare.specs.Trees.{word, sign, doc, is_text, is_word, is_sign, is_inner_doc, is_outer_doc, is_round, is_square, is_curly, is_group, is_path_part, inside, span_of, before, but_last, extent};
 
 use texts::Span;
 use tokens::{Bracket, TokenKind, TokenTree};
@@ -149,7 +149,7 @@ pub(crate) fn inside(tree: &TokenTree) -> &[TokenTree]
 }
 
 /// The bytes of the tree.
-pub(crate) fn span_of(tree: &TokenTree) -> Span
+fn span_of(tree: &TokenTree) -> Span
     ensures { result ≡ span_of (tree_view tree.now) }
 {
     match tree {
@@ -163,6 +163,13 @@ pub(crate) fn before<'t>(trees: &'t [TokenTree], rest: &[TokenTree]) -> &'t [Tok
     ensures { map tree_view result.now ≡ before (map tree_view trees.now) (map tree_view rest.now) }
 {
     &trees[..trees.len().saturating_sub(rest.len())]
+}
+
+/// The trees but for the last.
+pub(crate) fn but_last(trees: &[TokenTree]) -> &[TokenTree]
+    ensures { map tree_view result.now ≡ but_last (map tree_view trees.now) }
+{
+    &trees[..trees.len().saturating_sub(1)]
 }
 
 /// From the start of the first of the trees to the end of the last.

@@ -2,7 +2,7 @@
 use Rattle.std.proofs.Common.{suc, ◌-◌, ◌≤◌, ◌≡◌, List, [], ◌∷◌, Some, length, get_or, ap, ◌∙◌, arith, unwrap_or}
 use Rattle.written_types.specs.declared.written.PathSegment.{PathSegment}
 use Rattle.written_types.specs.Written.{segment_view, segments_view}
-use Rattle.warnings.specs.Types.{last_segment}
+use Rattle.warnings.specs.Through.{last_segment}
 
 pub last_segment-at : (ss : List PathSegment) (s : PathSegment) → 1 ≤ length ss → s ≡ get_or ss (length ss - 1) s → Some (segment_view s) ≡ last_segment (segments_view ss)
 last_segment-at [] s h is = absurd (omega arith)

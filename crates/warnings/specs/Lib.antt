@@ -1,4 +1,5 @@
 pub mod Rules
 pub mod Before
+pub mod Through
 pub mod Types
 pub mod Warned

@@ -47,9 +47,10 @@ is_of_form forms.NoDoubleOption (Some literal) = not (is_double_option literal.t
 -- the place is one of the site
 abbrev pub stands_at : Site → Place → Bool
 stands_at sites.Declaration places.Struct = true
-stands_at sites.Declaration places.Tuple = true
+stands_at sites.Declaration (places.Tuple several) = true
 stands_at sites.Declaration (places.Enum content named) = true
 stands_at sites.Struct places.Struct = true
+stands_at sites.SeveralUnnamed (places.Tuple several) = several
 stands_at sites.Naming places.Struct = true
 stands_at sites.Naming (places.Enum content named) = true
 stands_at sites.Naming (places.Variant named) = named
@@ -95,7 +96,7 @@ is_among names item = list_any (λ name. is_named name item) names
 
 -- what is said of an item where none is read
 abbrev pub unread : Place → SerdeItem → List WarningItem
-unread places.Tuple item = cond (is_among harmless item || is_among known_on_tuple item) [] (warning_at item.name.span UNREAD_ON_TUPLE.now ∷ [])
+unread (places.Tuple several) item = cond (is_among harmless item || is_among known_on_tuple item) [] (warning_at item.name.span UNREAD_ON_TUPLE.now ∷ [])
 unread places.Unnamed item = cond (is_among harmless item) [] (warning_at item.name.span UNREAD_ON_UNNAMED.now ∷ [])
 unread _ item = []
 

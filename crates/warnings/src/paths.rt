@@ -4,7 +4,7 @@ ghost use Rattle.std.specs.Prelude.{◌≡◌, ◌++◌, map, OnOk};
 ghost use Rattle.tokens.specs.Trees.{tree_view, trees_view};
 ghost use Rattle.attributes.specs.Attributes.{attribute_view, meta_view};
 ghost use Rattle.warnings.specs.Rules.{warning_view};
-ghost use Rattle.warnings.specs.Before.{is_serde, begin_with_group, hold_serde, holds_serde, is_of_field, warnings_of_path};
+ghost use Rattle.warnings.specs.Before.{is_serde, is_group, hold_serde, has_serde_inside, holds_serde, is_of_field, warnings_of_path};
 
 use crate::rules::Place;
 use crate::warning::Warning;
@@ -13,7 +13,7 @@ use std::alloc::AllocError;
 use texts::List;
 use tokens::TokenTree;
 
-/// What is said of `cfg_attr` with a list of serde's.
+/// What is said of `cfg_attr` with a list of serde's, also inside another `cfg_attr`.
 pub const INSIDE_CFG_ATTR: &str = "serde's attributes inside `cfg_attr` are not read";
 
 /// What is said of `serde_as` before a field.
@@ -30,31 +30,40 @@ fn is_serde(tree: &TokenTree) -> bool
     }
 }
 
-/// Whether the first tree is a group.
-fn begin_with_group(trees: &[TokenTree]) -> bool
-    ensures { result ≡ begin_with_group (trees_view trees.now) }
+/// Whether the tree is a group.
+fn is_group(tree: &TokenTree) -> bool
+    ensures { result ≡ is_group (tree_view tree.now) }
 {
-    match trees {
-        [TokenTree::Group(_), ..] => true,
-        _ => false,
-    }
+    matches!(tree, TokenTree::Group(_))
 }
 
-/// Whether the word `serde` stands before a group.
+/// Whether the word `serde` stands before a group, at any depth.
+#[cycle(serde)]
 fn hold_serde(trees: &[TokenTree]) -> bool
     ensures { result ≡ hold_serde (trees_view trees.now) }
 {
-    let mut rest = trees;
-    'trees: while let [first, after @ ..] = rest {
-        if is_serde(first) && begin_with_group(after) {
+    let mut after_word = false;
+    for tree in trees {
+        if after_word && is_group(tree) || has_serde_inside(tree) {
             return true;
         }
-        rest = after;
+        after_word = is_serde(tree);
     }
     false
 }
 
-/// Whether the word `serde` stands before a group in what stands behind a path.
+/// Whether that word does so inside the tree.
+#[cycle(serde)]
+fn has_serde_inside(tree: &TokenTree) -> bool
+    ensures { result ≡ has_serde_inside (tree_view tree.now) }
+{
+    match tree {
+        TokenTree::Token(_) => false,
+        TokenTree::Group(group) => hold_serde(group.trees.as_slice()),
+    }
+}
+
+/// Whether the word `serde` stands before a group, at any depth, in what stands behind a path.
 fn holds_serde(meta: &Meta) -> bool
     ensures { result ≡ holds_serde (meta_view meta.now) }
 {

@@ -26,8 +26,10 @@ pub enum Form {
 pub enum Place {
     /// Before a struct with named fields.
     Struct,
-    /// Before a struct with unnamed fields, or without fields.
-    Tuple,
+    /// Before a struct with unnamed fields, or without fields: whether it has several.
+    Tuple {
+        several: bool,
+    },
     /// Before an enum: whether it has a `content`, and whether a variant that is kept has named fields.
     Enum {
         content: bool,
@@ -55,6 +57,8 @@ pub enum Site {
     Declaration,
     /// Structs with named fields.
     Struct,
+    /// Structs with several unnamed fields.
+    SeveralUnnamed,
     /// Enums, and structs and variants with named fields.
     Naming,
     /// Enums of which a variant that is kept has named fields.
@@ -79,7 +83,7 @@ pub enum Site {
 pub type Rule = (&'static str, Form, Site, &'static str);
 
 /// What is said of serde's items.
-pub const RULES: [Rule; 30] = [
+pub const RULES: [Rule; 31] = [
     (
         "rename",
         Form::NoText,
@@ -157,6 +161,12 @@ pub const RULES: [Rule; 30] = [
         Form::Any,
         Site::Struct,
         "serde's JSON is that of the field; the schema is an object with this member",
+    ),
+    (
+        "transparent",
+        Form::Any,
+        Site::SeveralUnnamed,
+        "serde's JSON is that of one field; the schema is a list of all",
     ),
     (
         "from",
@@ -263,19 +273,18 @@ pub const RULES: [Rule; 30] = [
 ];
 
 /// The items that change no JSON where no item is read.
-pub const HARMLESS: [&str; 8] = [
+pub const HARMLESS: [&str; 7] = [
     "crate",
     "bound",
     "borrow",
     "expecting",
-    "transparent",
     "deny_unknown_fields",
     "remote",
     "getter",
 ];
 
 /// The items beside them that change none before a struct with unnamed fields or without fields, or of which a rule speaks there.
-pub const KNOWN_ON_TUPLE: [&str; 4] = ["rename", "from", "try_from", "into"];
+pub const KNOWN_ON_TUPLE: [&str; 5] = ["rename", "from", "try_from", "into", "transparent"];
 
 /// What is said of others before a struct with unnamed fields, or without fields.
 pub const UNREAD_ON_TUPLE: &str = "serde's items on a struct with unnamed fields are not read";
@@ -303,8 +312,9 @@ pub(crate) fn stands_at(site: Site, place: Place) -> bool
     ensures { result ≡ stands_at site place }
 {
     match (site, place) {
-        (Site::Declaration, Place::Struct | Place::Tuple | Place::Enum { .. }) => true,
+        (Site::Declaration, Place::Struct | Place::Tuple { .. } | Place::Enum { .. }) => true,
         (Site::Struct, Place::Struct) => true,
+        (Site::SeveralUnnamed, Place::Tuple { several }) => several,
         (Site::Naming, Place::Struct | Place::Enum { .. }) => true,
         (Site::Naming, Place::Variant { named }) => named,
         (Site::NamedEnum, Place::Enum { named, .. }) => named,

@@ -5,33 +5,23 @@ ghost use Rattle.std.specs.List.{flat_map};
 ghost use Rattle.attributes.specs.Attributes.{attribute_view};
 ghost use Rattle.written_types.specs.Written.{written_view};
 ghost use Rattle.serde_rules.specs.Value.{is_required};
-ghost use Rattle.syntax.specs.Items.{field_view, fields_view, variant_view, body_view, declaration_view};
+ghost use Rattle.syntax.specs.Items.{field_view, fields_view, variant_view, body_view, declaration_view, declarations_view};
 ghost use Rattle.warnings.specs.Rules.{warning_view};
-ghost use Rattle.warnings.specs.Warned.{stands_before, field_place, warnings_of_member, warnings_of_field, warnings_of_named, warnings_of_unnamed, warnings_of_fields, have_names, warnings_of_variant, has_named_variant, struct_place, enum_place, warnings_of_body, warnings_of};
+ghost use Rattle.warnings.specs.Through.{declarations_of};
+ghost use Rattle.warnings.specs.Warned.{field_place, warnings_of_member, warnings_of_field, warnings_of_named, warnings_of_unnamed, warnings_of_fields, have_names, warnings_of_variant, has_named_variant, struct_place, enum_place, warnings_of_body, warnings_of};
 
-use crate::items::push_attributes;
+use crate::items::{push_attributes, stands_before};
 use crate::keys::push_keys;
 use crate::rules::Place;
 use crate::types::{is_option, push_option};
 use crate::warning::Warning;
 use attributes::Attribute;
-use serde_rules::{SerdeValue, has_item, parse_value};
+use scopes::Places;
+use serde_rules::{SerdeValue, parse_value};
 use std::alloc::{AllocError, Global};
 use syntax::{Body, Declaration, Field, Fields, Variant};
 use texts::List;
 use written_types::WrittenType;
-
-/// Whether an item of the name stands before something.
-fn stands_before(attributes: &[Attribute], name: &str) -> bool
-    ensures { result ≡ stands_before (map attribute_view attributes.now) name.now }
-{
-    for attribute in attributes {
-        if has_item(attribute.items.as_slice(), name) {
-            return true;
-        }
-    }
-    false
-}
 
 /// Where serde's items stand before a named field that they say this of.
 fn field_place(denied: bool, default: bool, value: &SerdeValue, ty: &WrittenType) -> Place
@@ -54,20 +44,23 @@ fn is_required(value: &SerdeValue, default: bool) -> bool
 /// Adds what is said of the type of a named field that is kept, in what has a `default` or not.
 fn push_member(
     warnings: &mut List<Warning>,
+    places: &Places<'_>,
     default: bool,
     value: &SerdeValue,
     ty: &WrittenType,
 ) -> Result<(), AllocError>
     ensures { OnOk result (map warning_view warnings.new ≡ map warning_view warnings.old
-        ++ warnings_of_member default value.now (written_view ty.now)) }
+        ++ warnings_of_member (declarations_of places.now) default value.now
+        (written_view ty.now)) }
 {
     push_option(
         warnings,
+        places,
         is_required(value, default),
         value.double_option,
         ty,
     )?;
-    push_keys(warnings, ty)
+    push_keys(warnings, places, ty)
 }
 
 /// Adds what is said of a named field that is not skipped, where others are denied beside it or not, and where what has it has
@@ -75,12 +68,14 @@ fn push_member(
 fn push_field(
     alloc: Global,
     warnings: &mut List<Warning>,
+    places: &Places<'_>,
     denied: bool,
     default: bool,
     field: &Field,
 ) -> Result<(), AllocError>
     ensures { OnOk result (map warning_view warnings.new
-        ≡ map warning_view warnings.old ++ warnings_of_field denied default (field_view field.now)) }
+        ≡ map warning_view warnings.old
+        ++ warnings_of_field (declarations_of places.now) denied default (field_view field.now)) }
 {
     let attributes = field.attrs.as_slice();
     let value = parse_value(alloc, attributes)?;
@@ -92,7 +87,7 @@ fn push_field(
     if value.skip {
         Ok(())
     } else {
-        push_member(warnings, default, &value, &field.ty)
+        push_member(warnings, places, default, &value, &field.ty)
     }
 }
 
@@ -100,17 +95,19 @@ fn push_field(
 fn push_unless_skipped(
     alloc: Global,
     warnings: &mut List<Warning>,
+    places: &Places<'_>,
     denied: bool,
     default: bool,
     field: &Field,
 ) -> Result<(), AllocError>
     ensures { OnOk result (map warning_view warnings.new
-        ≡ map warning_view warnings.old ++ warnings_of_named denied default (field_view field.now)) }
+        ≡ map warning_view warnings.old
+        ++ warnings_of_named (declarations_of places.now) denied default (field_view field.now)) }
 {
     if stands_before(field.attrs.as_slice(), "skip") {
         Ok(())
     } else {
-        push_field(alloc, warnings, denied, default, field)
+        push_field(alloc, warnings, places, denied, default, field)
     }
 }
 
@@ -118,27 +115,34 @@ fn push_unless_skipped(
 fn push_named(
     alloc: Global,
     warnings: &mut List<Warning>,
+    places: &Places<'_>,
     denied: bool,
     default: bool,
     fields: &[Field],
 ) -> Result<(), AllocError>
     ensures { OnOk result (map warning_view warnings.new ≡ map warning_view warnings.old
-        ++ flat_map (warnings_of_named denied default) (map field_view fields.now)) }
+        ++ flat_map (warnings_of_named (declarations_of places.now) denied default)
+        (map field_view fields.now)) }
 {
     for field in fields {
-        push_unless_skipped(alloc, warnings, denied, default, field)?;
+        push_unless_skipped(alloc, warnings, places, denied, default, field)?;
     }
     Ok(())
 }
 
 /// Adds what is said of unnamed fields.
-fn push_unnamed(warnings: &mut List<Warning>, fields: &[Field]) -> Result<(), AllocError>
+fn push_unnamed(
+    warnings: &mut List<Warning>,
+    places: &Places<'_>,
+    fields: &[Field],
+) -> Result<(), AllocError>
     ensures { OnOk result (map warning_view warnings.new
-        ≡ map warning_view warnings.old ++ flat_map warnings_of_unnamed (map field_view fields.now)) }
+        ≡ map warning_view warnings.old
+        ++ flat_map (warnings_of_unnamed (declarations_of places.now)) (map field_view fields.now)) }
 {
     for field in fields {
         push_attributes(warnings, Place::Unnamed, field.attrs.as_slice())?;
-        push_keys(warnings, &field.ty)?;
+        push_keys(warnings, places, &field.ty)?;
     }
     Ok(())
 }
@@ -147,19 +151,21 @@ fn push_unnamed(warnings: &mut List<Warning>, fields: &[Field]) -> Result<(), Al
 fn push_fields(
     alloc: Global,
     warnings: &mut List<Warning>,
+    places: &Places<'_>,
     around: &[Attribute],
     fields: &Fields,
 ) -> Result<(), AllocError>
     ensures { OnOk result (map warning_view warnings.new ≡ map warning_view warnings.old
-        ++ warnings_of_fields (map attribute_view around.now) (fields_view fields.now)) }
+        ++ warnings_of_fields (declarations_of places.now) (map attribute_view around.now)
+        (fields_view fields.now)) }
 {
     match fields {
         Fields::Named(fields) => {
             let denied = stands_before(around, "deny_unknown_fields");
             let default = stands_before(around, "default");
-            push_named(alloc, warnings, denied, default, fields.as_slice())
+            push_named(alloc, warnings, places, denied, default, fields.as_slice())
         }
-        Fields::Unnamed(fields) => push_unnamed(warnings, fields.as_slice()),
+        Fields::Unnamed(fields) => push_unnamed(warnings, places, fields.as_slice()),
         Fields::Unit => Ok(()),
     }
 }
@@ -175,10 +181,12 @@ fn have_names(fields: &Fields) -> bool
 fn push_variant(
     alloc: Global,
     warnings: &mut List<Warning>,
+    places: &Places<'_>,
     variant: &Variant,
 ) -> Result<(), AllocError>
     ensures { OnOk result (map warning_view warnings.new
-        ≡ map warning_view warnings.old ++ warnings_of_variant (variant_view variant.now)) }
+        ≡ map warning_view warnings.old
+        ++ warnings_of_variant (declarations_of places.now) (variant_view variant.now)) }
 {
     let attributes = variant.attrs.as_slice();
     if stands_before(attributes, "skip") {
@@ -186,20 +194,22 @@ fn push_variant(
     }
     let named = have_names(&variant.fields);
     push_attributes(warnings, Place::Variant { named }, attributes)?;
-    push_fields(alloc, warnings, attributes, &variant.fields)
+    push_fields(alloc, warnings, places, attributes, &variant.fields)
 }
 
 /// Adds what is said of variants.
 fn push_variants(
     alloc: Global,
     warnings: &mut List<Warning>,
+    places: &Places<'_>,
     variants: &[Variant],
 ) -> Result<(), AllocError>
     ensures { OnOk result (map warning_view warnings.new ≡ map warning_view warnings.old
-        ++ flat_map warnings_of_variant (map variant_view variants.now)) }
+        ++ flat_map (warnings_of_variant (declarations_of places.now))
+        (map variant_view variants.now)) }
 {
     for variant in variants {
-        push_variant(alloc, warnings, variant)?;
+        push_variant(alloc, warnings, places, variant)?;
     }
     Ok(())
 }
@@ -221,10 +231,12 @@ fn has_named_variant(alloc: Global, variants: &[Variant]) -> Result<bool, AllocE
 fn struct_place(fields: &Fields) -> Place
     ensures { result ≡ struct_place (fields_view fields.now) }
 {
-    if have_names(fields) {
-        Place::Struct
-    } else {
-        Place::Tuple
+    match fields {
+        Fields::Named(_) => Place::Struct,
+        Fields::Unnamed(fields) => Place::Tuple {
+            several: fields.len() > 1,
+        },
+        Fields::Unit => Place::Tuple { several: false },
     }
 }
 
@@ -246,35 +258,43 @@ fn enum_place(
 fn push_body(
     alloc: Global,
     warnings: &mut List<Warning>,
+    places: &Places<'_>,
     attributes: &[Attribute],
     body: &Body,
 ) -> Result<(), AllocError>
     ensures { OnOk result (map warning_view warnings.new ≡ map warning_view warnings.old
-        ++ warnings_of_body (map attribute_view attributes.now) (body_view body.now)) }
+        ++ warnings_of_body (declarations_of places.now) (map attribute_view attributes.now)
+        (body_view body.now)) }
 {
     match body {
         Body::Struct(fields) => {
             push_attributes(warnings, struct_place(fields), attributes)?;
-            push_fields(alloc, warnings, attributes, fields)
+            push_fields(alloc, warnings, places, attributes, fields)
         }
         Body::Enum(variants) => {
             let place = enum_place(alloc, attributes, variants.as_slice())?;
             push_attributes(warnings, place, attributes)?;
-            push_variants(alloc, warnings, variants.as_slice())
+            push_variants(alloc, warnings, places, variants.as_slice())
         }
     }
 }
 
 /// What the declaration is warned of, in the order of the source: of each item of serde's lists, by each rule that it falls
-/// under, and of the types of fields.
-pub fn warnings_of(alloc: Global, declaration: &Declaration) -> Result<List<Warning>, AllocError>
+/// under, and of the types of fields, with the names at these places.
+pub fn warnings_of(
+    alloc: Global,
+    places: &Places<'_>,
+    declaration: &Declaration,
+) -> Result<List<Warning>, AllocError>
     ensures { IfOk result
-        (λ ws. map warning_view ws ≡ warnings_of (declaration_view declaration.now)) }
+        (λ ws. map warning_view ws ≡ warnings_of (declarations_view places.now.declarations.now)
+        (declaration_view declaration.now)) }
 {
     let mut warnings = List::new(alloc);
     push_body(
         alloc,
         &mut warnings,
+        places,
         declaration.attrs.as_slice(),
         &declaration.body,
     )?;

@@ -26,8 +26,8 @@ returns-then-not-is_empty-clause-told c = λ files names declared.
     let read = read_for names (ap shown c.as_slice-chosen.ensures) refl c.in_ok-reading.ensures.read in
     of_items declared c.in_ok-chosen.ensures.selects c.in_ok-chosen.ensures.few read (some_told c.is_empty.result c.is_empty.ensures c.if-not-is_empty.true)
 
-pub warnings_from-requires : goal.warnings_from-requires
-warnings_from-requires c = record { many = ap length c.as_slice-2.ensures ∙ sym (length-map c.in_ok-reading.reading.from (λ i. i.now)) ∙ as_many c.in_ok-reading.ensures.read }
+pub warned_of-requires : goal.warned_of-requires
+warned_of-requires c = record { many = ap length c.as_slice-2.ensures ∙ sym (length-map c.in_ok-reading.reading.from (λ i. i.now)) ∙ as_many c.in_ok-reading.ensures.read }
 
 pub returns-in-Ok-derive_declarations-clause-derived : goal.returns-in-Ok-derive_declarations-clause-derived
 returns-in-Ok-derive_declarations-clause-derived c = λ files names declared written.
@@ -67,7 +67,7 @@ returns-in-Ok-derive_declarations-clause-derived c = λ files names declared wri
       warned = record { own = own; warned = warned; whole = whole };
     } in
     let given = c.in_ok-with_warnings-in-Ok-derive_declarations.ensures in
-    (all, subst (λ (v : Derived). AreDerivedFrom s config files v.components all) (sym given.derived) found, given.warned before (c.in_ok-add_impls.ensures own c.in_ok-warnings.ensures.2))
+    (all, subst (λ (v : Derived). AreDerivedFrom s config files v.components all) (sym given.derived) found, given.warned before c.in_ok-warnings.ensures.2)
 
 pub returns-clause-told : goal.returns-clause-told
 returns-clause-told c = λ files names declared.

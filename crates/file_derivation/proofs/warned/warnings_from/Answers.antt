@@ -20,8 +20,8 @@ loop-at-init c = ([], none_yet, c.new-warnings.ensures)
 pub loop-at-preserved : goal.loop-at-preserved
 loop-at-preserved c =
     let names = c.args.names.now in
-    let items = c.args.declarations.now.items in
-    let ds = declarations_view c.args.declarations.now in
+    let items = c.args.places.now.declarations.now.items in
+    let ds = declarations_view c.args.places.now.declarations.now in
     let read = c.args.from.now in
     let from = map (λ (v : Bor FileItem). v.now) read in
     let at = c.loop-at.at in
@@ -36,7 +36,7 @@ loop-at-preserved c =
     subst (λ (v : List Declaration). slice_get v at ≡ Some c.index-declared-at.result) c.as_slice-declared.ensures (slice_get_read c.as_slice-declared.result.now (length c.as_slice-declared.result.now) at c.index-declared-at.result refl within_slice c.index-declared-at.is) in
     let found : slice_get ds at ≡ Some d = slice_get-map declaration_view items at ∙ ap (option_map declaration_view) declared in
     let before = c.loop-at.invariant in
-    let told = told_warnings names i d in
+    let told = told_warnings names ds i d in
     let own : map (told_warning c.file_name-name.result.now i) (map warning_view c.as_slice.result.now) ≡ told =
     ap₂ (λ (name : List ℕ) (ws : List WarningItem). map (told_warning name i) ws) c.file_name-name.ensures (ap (map warning_view) c.as_slice.ensures ∙ c.in_ok-own.ensures) in
     let first = subst (λ (ts : List Told). AreFirst (before.0 ++ ts) c.add_all.new.self) own (c.in_ok-add_all.ensures before.0 before.2) in

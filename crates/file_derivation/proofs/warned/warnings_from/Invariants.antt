@@ -6,4 +6,4 @@ use Rattle.file_derivation.proofs.warned.warnings_from.Given as goal
 
 -- the warnings of the declarations so far
 abbrev pub invariant-loop-at : goal.invariant-loop-at
-invariant-loop-at l = (all : List Told) × AreWarned l.names (declarations_view l.declarations) (map (λ i. i.now) l.from) l.at all × AreFirst all l.warnings
+invariant-loop-at l = (all : List Told) × AreWarned l.names (declarations_view l.places.declarations.now) (map (λ i. i.now) l.from) l.at all × AreFirst all l.warnings

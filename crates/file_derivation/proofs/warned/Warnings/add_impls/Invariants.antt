@@ -8,7 +8,7 @@ use Rattle.file_derivation.proofs.warned.Warnings.add_impls.Given as goal
 abbrev pub invariant-impls : goal.invariant-impls
 invariant-impls l =
     (all : List Told) → AreFirst all l.fn.self → (done : List Told) × AreFirst (all ++ done) l.self
-    × (done ++ told_impls l.names (declarations_view l.declarations) l.rest ≡ told_impls l.names (declarations_view l.declarations) l.impls)
+    × (done ++ told_impls l.names (declarations_view l.places.declarations.now) l.rest ≡ told_impls l.names (declarations_view l.places.declarations.now) l.impls)
 
 abbrev pub decreases-impls : goal.decreases-impls
 decreases-impls l = length l.rest

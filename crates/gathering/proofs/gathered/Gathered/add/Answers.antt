@@ -9,14 +9,14 @@ pub returns : goal.returns
 returns c = λ files g.
     let f = file_of c.args.source.now in
     let before : Gathered = c.args.self.now in
-    let after : Gathered = record { names = c.push-2.new.self; items = c.match-items_of.self.items; impls = c.match-items_of.self.impls; faults = c.match-items_of.self.faults } in
-    let named : c.push-2.new.self ≡ c.match-items_of.self.names ++ f.name ∷ [] = c.in_ok-push.ensures.ok ∙ ap (λ (n : List ℕ). c.match-items_of.self.names ++ n ∷ []) c.in_ok-new.ensures in
-    elim c.match-items_of.branch [
+    let after : Gathered = record { names = c.push-2.new.self; items = c.match-parts_of.self.items; impls = c.match-parts_of.self.impls; faults = c.match-parts_of.self.faults } in
+    let named : c.push-2.new.self ≡ c.match-parts_of.self.names ++ f.name ∷ [] = c.in_ok-push.ensures.ok ∙ ap (λ (n : List ℕ). c.match-parts_of.self.names ++ n ∷ []) c.in_ok-new.ensures in
+    elim c.match-parts_of.branch [
       | in-Ok+in_ok-append-in-Ok+in_ok-append-in-Ok-2 w ↦
           let names = named ∙ ap (λ (x : Gathered). x.names ++ f.name ∷ []) w.self-is in
           let items = ap (λ (x : Gathered). x.items) w.self-is ∙ w.in_ok-append-in-Ok.ensures.ok in
           let impls = ap (λ (x : Gathered). x.impls) w.self-is ∙ w.in_ok-append-in-Ok-2.ensures.ok in
-          gathers_file files f before after c.len.result w.in-Ok.items w.in-Ok.impls c.len.ensures names items impls (ap (λ (x : Gathered). x.faults) w.self-is) w.in-Ok.ensures.items w.in-Ok.ensures.impls g
+          gathers_file files f before after c.len.result w.in-Ok.parts.items w.in-Ok.parts.impls c.len.ensures names items impls (ap (λ (x : Gathered). x.faults) w.self-is) w.in-Ok.ensures.items w.in-Ok.ensures.impls g
       | in-Err-Told+in_ok-push-in-Err-Told w ↦
           let names = named ∙ ap (λ (x : Gathered). x.names ++ f.name ∷ []) w.self-is in
           let faults = ap (λ (x : Gathered). x.faults) w.self-is ∙ w.in_ok-push-in-Err-Told.ensures.ok in

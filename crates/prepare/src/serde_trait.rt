@@ -1,0 +1,6 @@
+/// One of serde's traits.
+#[derive(Clone, Copy, Debug, PartialEq, Eq)]
+pub enum SerdeTrait {
+    Serialize,
+    Deserialize,
+}
