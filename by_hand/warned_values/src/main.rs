@@ -163,7 +163,7 @@ fn keys() {
     row(Rejected, Id(1), &[]);
     row(Rejected, KeysOfOneNumber { a: [(Id(1), true)].into() }, &[]);
     row(Rejected, BoxedNumbersAsKeys { a: [(1.into(), true)].into() }, &[]);
-    row(Never, GenericNumbersAsKeys { a: Keyed { a: [(1, true)].into() } }, &[]);
+    row(Rejected, GenericNumbersAsKeys { a: Keyed { a: [(1, true)].into() } }, &[]);
     row(Rejected, CharactersAsKeys { a: [('a', true)].into() }, &[]);
 }
 

@@ -11,7 +11,8 @@ use Rattle.warnings.specs.declared.rules.Place.{Place}
 use Rattle.warnings.specs.declared.rules.Place.TheVariants.{Struct, Tuple, Enum, Variant, Field, Unnamed}
 use Rattle.warnings.specs.Rules.{WarningItem}
 use Rattle.warnings.specs.Before.{stands_before, warnings_before}
-use Rattle.warnings.specs.Types.{is_option, option_warnings, keys_in}
+use Rattle.warnings.specs.Types.{is_option, option_warnings}
+use Rattle.warnings.specs.Keys.{warnings_of_keys}
 
 -- ---- fields
 
@@ -25,7 +26,7 @@ field_place denied default value t = Field denied (is_option t) (default || valu
 
 -- of the type of a named field that is kept
 abbrev pub warnings_of_member : List DeclaredItem → (default : Bool) → SerdeValue → Written → List WarningItem
-warnings_of_member ds default value t = option_warnings ds (is_required value default) value.double_option t ++ keys_in ds t
+warnings_of_member ds default value t = option_warnings ds (is_required value default) value.double_option t ++ warnings_of_keys ds t
 
 -- of a named field, where others are denied beside it or not, and where what has it has a `default` or not
 abbrev pub warnings_of_field : List DeclaredItem → (denied default : Bool) → FieldItem → List WarningItem
@@ -34,7 +35,7 @@ warnings_of_field ds denied default f =
     ++ cond (is_kept f) (warnings_of_member ds default (value_of f) f.ty) []
 
 abbrev pub warnings_of_unnamed : List DeclaredItem → FieldItem → List WarningItem
-warnings_of_unnamed ds f = warnings_before Unnamed f.attrs ++ keys_in ds f.ty
+warnings_of_unnamed ds f = warnings_before Unnamed f.attrs ++ warnings_of_keys ds f.ty
 
 abbrev pub warnings_of_named : List DeclaredItem → (denied default : Bool) → FieldItem → List WarningItem
 warnings_of_named ds denied default f = unless_skipped f.attrs (warnings_of_field ds denied default f)

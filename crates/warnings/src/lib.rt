@@ -1,8 +1,9 @@
 //! What a declaration is warned of: attributes and types where the JSON that serde reads or writes is another than the
 //! schema says. A warning is a place and a sentence. What is said of serde's items is the table `RULES`; what is said of
-//! types looks through references, pointers and structs with one unnamed field.
+//! types looks through references, pointers and structs with one unnamed field, and of keys into declared generic types.
 #![tactic(auto)]
 
+mod applications;
 mod items;
 mod keys;
 mod paths;

@@ -1,12 +1,13 @@
 //! What written types stand for to serde, which passes over references, pointers and structs with one unnamed field. Names
 //! are looked up among the declarations, of which the first of the name counts. Neither aliases nor type parameters are
-//! looked up: a type parameter that is called as a declaration is taken for it.
+//! looked up: a type parameter that is called as a declaration is taken for it, and a struct `Id<T>(T)` stands for `T`,
+//! whatever its argument is.
 
 ghost use Rattle.std.specs.Prelude.{◌≡◌, option_map};
 ghost use Rattle.texts.specs.Names.{is_in};
 ghost use Rattle.written_types.specs.Written.{written_view, segment_view, segments_view, arguments_view};
 ghost use Rattle.syntax.specs.Items.{field_view, body_view, declaration_view};
-ghost use Rattle.warnings.specs.Through.{last_segment, last_name, argument_in, argument_of, first_argument, pointers, declarations_of, only_field, is_passed_over, content_of, declared, next_of_segment, next, through};
+ghost use Rattle.warnings.specs.Through.{last_segment, last_of, last_name, argument_in, argument_of, first_argument, pointers, declarations_of, only_field, is_passed_over, content_of, declared, next_of_segment, next, through};
 
 use crate::items::stands_before;
 use scopes::Places;
@@ -28,7 +29,8 @@ pub(crate) enum Role {
 
 /// The segment that a path goes by.
 fn last_segment(segments: &[PathSegment]) -> Option<&PathSegment>
-    ensures { option_map (λ s. segment_view s.now) result ≡ last_segment (segments_view segments.now) }
+    ensures { option_map (λ s. segment_view s.now) result
+        ≡ last_segment (segments_view segments.now) }
 {
     match segments {
         [] => None,
@@ -37,8 +39,9 @@ fn last_segment(segments: &[PathSegment]) -> Option<&PathSegment>
 }
 
 /// The first type among the arguments.
-pub(crate) fn argument_in(arguments: &[GenericArgument]) -> Option<&WrittenType>
-    ensures { option_map (λ t. written_view t.now) result ≡ argument_in (arguments_view arguments.now) }
+fn argument_in(arguments: &[GenericArgument]) -> Option<&WrittenType>
+    ensures { option_map (λ t. written_view t.now) result
+        ≡ argument_in (arguments_view arguments.now) }
 {
     for argument in arguments {
         if let GenericArgument::Ty(ty) = argument {
@@ -49,32 +52,34 @@ pub(crate) fn argument_in(arguments: &[GenericArgument]) -> Option<&WrittenType>
 }
 
 /// The first type argument of the segment.
-fn argument_of(segment: &PathSegment) -> Option<&WrittenType>
+pub(crate) fn argument_of(segment: &PathSegment) -> Option<&WrittenType>
     ensures { option_map (λ t. written_view t.now) result ≡ argument_of (segment_view segment.now) }
 {
     argument_in(segment.arguments.as_ref()?.as_slice())
+}
+
+/// The segment that a type goes by, where it is a path.
+fn last_of(ty: &WrittenType) -> Option<&PathSegment>
+    ensures { option_map (λ s. segment_view s.now) result ≡ last_of (written_view ty.now) }
+{
+    match ty {
+        WrittenType::Path(path) => last_segment(path.segments.as_slice()),
+        _ => None,
+    }
 }
 
 /// The name that a type goes by, where it is a path.
 pub(crate) fn last_name(ty: &WrittenType) -> Option<&str>
     ensures { option_map (λ name. name.now) result ≡ last_name (written_view ty.now) }
 {
-    let WrittenType::Path(path) = ty else {
-        return None;
-    };
-    let segment = last_segment(path.segments.as_slice())?;
-    Some(segment.ident.text.as_str())
+    Some(last_of(ty)?.ident.text.as_str())
 }
 
 /// The first type argument of a type.
 pub(crate) fn first_argument(ty: &WrittenType) -> Option<&WrittenType>
     ensures { option_map (λ t. written_view t.now) result ≡ first_argument (written_view ty.now) }
 {
-    let WrittenType::Path(path) = ty else {
-        return None;
-    };
-    let segment = last_segment(path.segments.as_slice())?;
-    argument_of(segment)
+    argument_of(last_of(ty)?)
 }
 
 /// Whether the name is that of a pointer or of a cell that serde passes over.
@@ -120,7 +125,7 @@ fn content_of(role: Role, declaration: &Declaration) -> Option<&WrittenType>
 }
 
 /// The first declaration of the name.
-fn declared<'a>(places: &'a Places<'_>, name: &Ident) -> Option<&'a Declaration>
+pub(crate) fn declared<'a>(places: &'a Places<'_>, name: &Ident) -> Option<&'a Declaration>
     ensures { option_map (λ d. declaration_view d.now) result
         ≡ declared (declarations_of places.now) name.now.text }
 {
@@ -151,10 +156,7 @@ fn next<'a>(role: Role, places: &'a Places<'_>, ty: &'a WrittenType) -> Option<&
 {
     match (role, ty) {
         (Role::Key, WrittenType::Reference(of)) => Some(of),
-        (_, WrittenType::Path(path)) => {
-            next_of_segment(role, places, last_segment(path.segments.as_slice())?)
-        }
-        _ => None,
+        _ => next_of_segment(role, places, last_of(ty)?),
     }
 }
 

@@ -43,6 +43,7 @@ fn is_required(value: &SerdeValue, default: bool) -> bool
 
 /// Adds what is said of the type of a named field that is kept, in what has a `default` or not.
 fn push_member(
+    alloc: Global,
     warnings: &mut List<Warning>,
     places: &Places<'_>,
     default: bool,
@@ -60,7 +61,7 @@ fn push_member(
         value.double_option,
         ty,
     )?;
-    push_keys(warnings, places, ty)
+    push_keys(alloc, warnings, places, ty)
 }
 
 /// Adds what is said of a named field that is not skipped, where others are denied beside it or not, and where what has it has
@@ -87,7 +88,7 @@ fn push_field(
     if value.skip {
         Ok(())
     } else {
-        push_member(warnings, places, default, &value, &field.ty)
+        push_member(alloc, warnings, places, default, &value, &field.ty)
     }
 }
 
@@ -132,17 +133,19 @@ fn push_named(
 
 /// Adds what is said of unnamed fields.
 fn push_unnamed(
+    alloc: Global,
     warnings: &mut List<Warning>,
     places: &Places<'_>,
     fields: &[Field],
 ) -> Result<(), AllocError>
     ensures { OnOk result (map warning_view warnings.new
         ≡ map warning_view warnings.old
-        ++ flat_map (warnings_of_unnamed (declarations_of places.now)) (map field_view fields.now)) }
+        ++ flat_map (warnings_of_unnamed (declarations_of places.now))
+        (map field_view fields.now)) }
 {
     for field in fields {
         push_attributes(warnings, Place::Unnamed, field.attrs.as_slice())?;
-        push_keys(warnings, places, &field.ty)?;
+        push_keys(alloc, warnings, places, &field.ty)?;
     }
     Ok(())
 }
@@ -165,7 +168,7 @@ fn push_fields(
             let default = stands_before(around, "default");
             push_named(alloc, warnings, places, denied, default, fields.as_slice())
         }
-        Fields::Unnamed(fields) => push_unnamed(warnings, places, fields.as_slice()),
+        Fields::Unnamed(fields) => push_unnamed(alloc, warnings, places, fields.as_slice()),
         Fields::Unit => Ok(()),
     }
 }

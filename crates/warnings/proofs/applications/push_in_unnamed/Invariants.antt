@@ -1,0 +1,7 @@
+use Rattle.std.proofs.Common.{◌≡◌, ◌++◌, map, drop}
+use Rattle.syntax.specs.Items.{field_view}
+use Rattle.warnings.specs.Applications.{applications_view, in_each}
+use Rattle.warnings.proofs.applications.push_in_unnamed.Given as goal
+
+abbrev pub invariant-loop-field : goal.invariant-loop-field
+invariant-loop-field l = applications_view l.found ++ in_each (map field_view (drop l.field-index l.fields)) ≡ applications_view l.initial.found ++ in_each (map field_view l.fields)
