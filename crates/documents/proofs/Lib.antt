@@ -1,0 +1,5 @@
+mod DifferenceLaws
+mod MergeLaws
+mod Names
+mod NewLine
+mod TextLaws

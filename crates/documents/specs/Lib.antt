@@ -1,0 +1,4 @@
+pub mod Components
+pub mod Difference
+pub mod Merge
+pub mod Text
