@@ -2,7 +2,7 @@
 # Sources of 2.5, 5, 10 and 20 MB in 50, 100, 200 and 400 files, of which a twentieth derives serde's traits and the rest is
 # functions: the time of `schema_gen_file --serde` from the files to the document, its peak memory, the ratio of the time to that of
 # the half before, and beside it the time that `cat` takes for the same files, and the time and the memory of bench/plain for the
-# declarations alone, in one file. By hand; no test rests on it.
+# declarations alone, in one file; then the time of the largest with options. By hand; no test rests on it.
 #
 #     bench/files.sh
 #
@@ -77,4 +77,22 @@ for many in (50, 100, 200, 400):
     size, cat, other = sum(os.path.getsize(p) for p in paths[:many]), run(["cat", *paths[:many]])[0], run([plain], f"{folder}/declared.rs")
     print("%6d %10d %10.3f %10.1f %8s %10.3f %10.3f %10.1f" % (many, size, took, peak, ratio, cat, *other))
     before = took
+
+# with each option that changes what is done with the document, and the ratio of the time to that of half of the files
+with open(f"{folder}/openapi.json", "w") as file:
+    file.write('{"openapi":"3.1.0","info":{"title":"Bench","version":"1"},"paths":{}}')
+with open(f"{folder}/document.json", "w") as file:
+    subprocess.run([program, "--serde", *paths], stdout=file, check=True)
+options = {
+    "--any-of": ["--any-of"],
+    "--pretty": ["--pretty"],
+    "--openapi": ["--openapi", f"{folder}/openapi.json"],
+    "--check": ["--check", f"{folder}/document.json"],
+    "--skip-refused": ["--skip-refused"],
+}
+print("\n%-16s %10s %10s %8s" % ("of all files", "seconds", "peak MiB", "ratio"))
+for name, words in options.items():
+    half = 0 if name == "--check" else run([program, "--serde", *words, *paths[:200]])[0]
+    took, peak = run([program, "--serde", *words, *paths])
+    print("%-16s %10.3f %10.1f %8s" % (name, took, peak, "%.2f" % (took / half) if half else ""))
 PY

@@ -1,7 +1,8 @@
 #!/usr/bin/env bash
 # Derives the sources of two services, examples/shop.rs and examples/jobs.rs, with their configurations and as whole files without
 # one, and examples/generics.rs, and as a whole file with its configuration examples/aliases.rs, and compares each document with the
-# components beside it by bytes. Before that it compares the Rust that README.md quotes with its files.
+# components beside it by bytes; and the OpenAPI document of the shop, of which it asks with --check, too, whether it is still that.
+# Before that it compares the Rust that README.md quotes with its files.
 # Ends with 0 where all are equal, with 1 where some differ, and else with the program's own status.
 set -u
 cd "$(dirname "${BASH_SOURCE[0]}")/.." || exit 1
@@ -49,3 +50,8 @@ compare $? schema_gen examples/generics.rs examples/generics_components.json
 compare $? schema_gen_file examples/aliases.rs examples/aliases_components.json
 check examples/shop.rs examples/config.json examples/components.json
 check examples/jobs.rs examples/jobs_config.json examples/jobs_components.json
+
+./schema_gen_file --any-of --pretty --openapi examples/openapi.json examples/shop.rs > "$found"
+compare $? schema_gen_file examples/shop.rs examples/shop_openapi.json
+./schema_gen_file --any-of --openapi examples/openapi.json --check examples/shop_openapi.json examples/shop.rs > "$found"
+compare $? "schema_gen_file --check" examples/shop_openapi.json /dev/null

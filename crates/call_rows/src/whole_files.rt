@@ -19,6 +19,7 @@ pub(crate) fn document(alloc: Global, given: &Value) -> anyhow::Result<String> {
         serde: false,
         only: List::new(alloc),
         exclude: List::new(alloc),
+        skip_refused: false,
     };
     match derive_files(alloc, &[source], &selection, Config::new(alloc))? {
         Outcome::Derived(derived, _) => {

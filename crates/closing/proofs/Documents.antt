@@ -13,8 +13,10 @@ use Rattle.texts.specs.Names.{is_in, IsDistinct}
 use Rattle.schema_trees.specs.declared.tree.RefLeaf.{RefLeaf}
 use Rattle.schema_trees.specs.declared.annotations.AnnotationKeywords.{AnnotationKeywords}
 use Rattle.schema_trees.specs.Schema.{SchemaOf, leaf, EachLeaf}
-use Rattle.schema_core.specs.Form.{form}
-use Rattle.schema_core.specs.Document.{Entry, document}
+use Rattle.schema_core.specs.declared.alternatives.Alternatives.{Alternatives}
+use Rattle.schema_core.specs.declared.alternatives.Alternatives.TheVariants.{OneOf}
+use Rattle.schema_core.specs.Form.{form, form_by}
+use Rattle.schema_core.specs.Document.{Entry, document_by}
 use Rattle.schema_core.specs.Entries.{entry_names, find, IsInOrder}
 use Rattle.schema_core.specs.Meaning.{FormsAccept, FormsRefer, DocumentsHold}
 use Rattle.closing.specs.Described.{HasComponent}
@@ -30,8 +32,8 @@ distinct [] o = tt
 distinct (n ∷ ns) o = (absent n ns o.0, distinct ns o.1)
 
 -- the document has under each name the form of its component
-pub schema_under : DocumentsHold → (cs : List Entry) → IsInOrder (entry_names cs) → (name : List ℕ) → component_schema (document cs) name ≡ option_map form (find name cs)
-schema_under holds cs order = holds cs (distinct (entry_names cs) order)
+pub schema_under : DocumentsHold → (keyword : Alternatives) (cs : List Entry) → IsInOrder (entry_names cs) → (name : List ℕ) → component_schema (document_by keyword cs) name ≡ option_map (form_by keyword) (find name cs)
+schema_under holds keyword cs order = holds keyword cs (distinct (entry_names cs) order)
 
 -- ---- references
 
@@ -43,7 +45,7 @@ reference-accepts forms doc name annotations s v e = (there, back)
     reference = leaf (record { name = name; annotations = annotations })
 
     at : (depth : ℕ) → accepts doc (form reference) v depth ≡ component_accepts doc depth name v
-    at depth = forms (component_accepts doc depth) reference tt v
+    at depth = forms OneOf (component_accepts doc depth) reference tt v
 
     there : Accepts doc (form reference) v → Accepts doc s v
     there (zero, h) = let never : IsTrue false = subst IsTrue (at zero) h in cc
@@ -53,11 +55,11 @@ reference-accepts forms doc name annotations s v e = (there, back)
     back a = (suc a.0, subst IsTrue (sym (at (suc a.0) ∙ (λ i. json.there (e i) (λ t. accepts_with (component_accepts doc a.0) t v)))) a.1)
 
 -- each reference has its component where the leaves of each component's schema name components
-pub references-found : FormsRefer → DocumentsHold → (cs : List Entry) → IsInOrder (entry_names cs) →
-    ((name : List ℕ) (t : SchemaOf RefLeaf) → find name cs ≡ Some t → EachLeaf (λ r. HasComponent (document cs) r.name) t) →
-    (name : List ℕ) (s : Json) → component_schema (document cs) name ≡ Some s → EachReference (HasComponent (document cs)) s
-references-found refer holds cs order found name s e = by (find name cs) refl (sym (schema_under holds cs order name) ∙ e)
+pub references-found : FormsRefer → DocumentsHold → (keyword : Alternatives) (cs : List Entry) → IsInOrder (entry_names cs) →
+    ((name : List ℕ) (t : SchemaOf RefLeaf) → find name cs ≡ Some t → EachLeaf (λ r. HasComponent (document_by keyword cs) r.name) t) →
+    (name : List ℕ) (s : Json) → component_schema (document_by keyword cs) name ≡ Some s → EachReference (HasComponent (document_by keyword cs)) s
+references-found refer holds keyword cs order found name s e = by (find name cs) refl (sym (schema_under holds keyword cs order name) ∙ e)
   where
-    by : (o : Option (SchemaOf RefLeaf)) → find name cs ≡ o → option_map form o ≡ Some s → EachReference (HasComponent (document cs)) s
+    by : (o : Option (SchemaOf RefLeaf)) → find name cs ≡ o → option_map (form_by keyword) o ≡ Some s → EachReference (HasComponent (document_by keyword cs)) s
     by None f is = absurd (none-some s is)
-    by (Some t) f is = subst (EachReference (HasComponent (document cs))) (same_Some (form t) s is) (refer (λ n. is_some (component_schema (document cs) n)) t (found name t f))
+    by (Some t) f is = subst (EachReference (HasComponent (document_by keyword cs))) (same_Some (form_by keyword t) s is) (refer keyword (λ n. is_some (component_schema (document_by keyword cs) n)) t (found name t f))

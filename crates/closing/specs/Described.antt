@@ -6,8 +6,9 @@ use Rattle.acceptance.specs.References.{EachReference}
 use Rattle.schema_trees.specs.declared.annotations.AnnotationKeywords.{AnnotationKeywords}
 use Rattle.schema_trees.specs.declared.tree.RefLeaf.{RefLeaf}
 use Rattle.schema_trees.specs.Schema.{SchemaOf, leaf, bind}
+use Rattle.schema_core.specs.declared.alternatives.Alternatives.{Alternatives}
 use Rattle.schema_core.specs.Form.{form}
-use Rattle.schema_core.specs.Document.{Entry, document}
+use Rattle.schema_core.specs.Document.{Entry, document, document_by}
 use Rattle.schema_core.specs.Entries.{find, entry_names, IsInOrder}
 use Rattle.open_types.specs.Open.{Open, named, no_types}
 use Rattle.component.specs.Places.{inside, place}
@@ -54,10 +55,10 @@ pub record Describes (ss : List DeclarationOf) (all : Bool) (doc : Json) : Type 
   pub references : (name : List ℕ) (s : Json) → component_schema doc name ≡ Some s → EachReference (HasComponent doc) s
   pub accepts : (t : Open) → IsReachable ss t → IsPlain ss t → (s v : Json) → component_schema doc (instance_name ss t) ≡ Some s → Accepts doc s v ↔ HasShape ss t v
 
--- The law: a document of components describes the declarations, where names are apart and no inline path is longer than it may be.
+-- The law: a document of components describes the declarations, under either keyword of alternatives, where names are apart and no inline path is longer than it may be.
 abbrev pub ComponentsDescribe : Type 0
 ComponentsDescribe = (ss : List DeclarationOf) (all : Bool) (components : List Entry) → AreApartBodies ss → NamesDiffer ss → AreShallow ss → AreComponents ss all components →
-    Describes ss all (document components)
+    (by : Alternatives) → Describes ss all (document_by by components)
 
 -- ---- any instance
 

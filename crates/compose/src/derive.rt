@@ -2,7 +2,8 @@
 
 ghost use Rattle.std.specs.Prelude.{◌≡◌, map, IfOk};
 ghost use Rattle.diag.specs.Refusal.{Refuses};
-ghost use Rattle.schema_core.specs.Document.{document};
+ghost use Rattle.schema_core.specs.declared.alternatives.Alternatives.{Alternatives};
+ghost use Rattle.schema_core.specs.Document.{document, document_by};
 ghost use Rattle.schema_core.specs.Entries.{entry_names};
 ghost use Rattle.open_types.specs.Open.{open_view};
 ghost use Rattle.syntax.specs.Items.{declarations_view};
@@ -83,11 +84,11 @@ pub fn derive_declarations(
     ensures derived { IfOk result
         (λ d. AreDerived config.now (declarations_view declarations) d.components) }
     ensures refused { Refuses result (AreRefused config.now (declarations_view declarations)) }
-    // The document of the components describes the declarations.
+    // The document of the components describes the declarations, with alternatives under either keyword.
     ensures describes { IfOk result
         (λ d. (made : AreDerived config.now (declarations_view declarations) d.components)
-        × Describes made.resolved (collects_all config.now.collect)
-        (document d.components)) }
+        × ((by : Alternatives) → Describes made.resolved (collects_all config.now.collect)
+        (document_by by d.components))) }
     ensures types { IfOk result
         (λ d. (made : AreDerived config.now (declarations_view declarations) d.components)
         × AreTypesOf made.resolved (collects_all config.now.collect) (entry_names d.components)

@@ -1,7 +1,8 @@
 -- The first hundred of what is warned of, with one more.
-use Rattle.std.proofs.Common.{◌≡◌, ◌∙◌, ◌<◌, ◌≤◌, ◌⊎◌, ◌+◌, ℕ, List, [], ◌∷◌, ◌++◌, length, take, Option, Some, None, ap, sym, inl, inr, arith}
+use Rattle.std.proofs.Common.{◌≡◌, ◌∙◌, ◌<◌, ◌≤◌, ◌⊎◌, ◌+◌, ◌-◌, refl, ℕ, zero, suc, List, [], ◌∷◌, ◌++◌, length, take, drop, Option, Some, None, ap, sym, inl, inr, append-nil, arith}
 use Rattle.std.proofs.lemmas.Bool.{cases_lt}
 use Rattle.std.proofs.lemmas.List.{take_all, take-append-le, length-append}
+use Rattle.std.specs.List.{remove}
 use Rattle.std.proofs.lemmas.Option.{none-some, same_Some}
 use Rattle.telling.specs.declared.told.Told.{Told}
 use Rattle.file_derivation.specs.Warned.{IsToldFirst}
@@ -36,3 +37,23 @@ told_full all told one count o first is first_one none = by (cases_lt count 100)
     by : (count < 100) ⊎ (100 ≤ count) → told ≡ take 100 (all ++ one ∷ [])
     by (inl few) = absurd (none-some one (sym none ∙ first_one.0 few))
     by (inr full) = first_full all told one first (omega arith)
+
+-- of the first so many fewer are the first
+pub take_fewer : {A : Type 0} (m n : ℕ) (xs : List A) → m ≤ n → take m (take n xs) ≡ take m xs
+take_fewer zero n xs l = refl
+take_fewer (suc m) zero xs l = absurd (omega arith)
+take_fewer (suc m) (suc n) [] l = refl
+take_fewer (suc m) (suc n) (x ∷ xs) l = ap (λ v. x ∷ v) (take_fewer m n xs (omega arith))
+
+-- behind all of a list nothing stands
+pub drop_past : {A : Type 0} (n : ℕ) (xs : List A) → length xs ≤ n → drop n xs ≡ []
+drop_past zero [] l = refl
+drop_past (suc n) [] l = refl
+drop_past zero (x ∷ xs) l = absurd (omega arith)
+drop_past (suc n) (x ∷ xs) l = drop_past n xs (omega arith)
+
+-- without the last
+pub last_off : {A : Type 0} (xs ys : List A) (n : ℕ) → n ≡ length xs → 0 < length xs → ys ≡ remove xs (n - 1) → ys ≡ take (length xs - 1) xs
+last_off xs ys n is some removed =
+    let past : drop (suc (length xs - 1)) xs ≡ [] = drop_past (suc (length xs - 1)) xs (omega arith) in
+    removed ∙ ap (λ m. remove xs (m - 1)) is ∙ ap (λ v. take (length xs - 1) xs ++ v) past ∙ append-nil (take (length xs - 1) xs)

@@ -1,13 +1,14 @@
 -- Of sound files nothing is told.
-use Rattle.std.proofs.Common.{◌≡◌, ◌∙◌, ◌⊎◌, inl, inr, refl, ap, sym, subst, ℕ, zero, suc, List, [], ◌∷◌, length, Bool, true, false, cond, bytes_eq, Some, None, option_map, arith, ◌<◌}
+use Rattle.std.proofs.Common.{◌≡◌, ◌∙◌, ◌⊎◌, inl, inr, refl, ap, ap₂, sym, subst, ℕ, zero, suc, List, [], ◌∷◌, ◌++◌, length, replicate, Bool, true, false, not, cond, bytes_eq, Some, None, option_map, arith, ◌<◌}
 use Rattle.std.specs.Prelude.{slice_get}
-use Rattle.std.proofs.lemmas.Bool.{or_left, or_right}
+use Rattle.std.proofs.lemmas.Bool.{false≢true, false_from_ne_true, or_left, or_right}
 use Rattle.std.proofs.lemmas.Option.{none-some, same_Some}
 use Rattle.std.proofs.lemmas.Slice.Eq.{bytes_eq-Decides}
 use Rattle.diag.specs.Diagnostics.{diagnostic}
 use Rattle.diag.specs.declared.error.DeriveError.{DeriveError}
 use Rattle.diag.specs.declared.error.DeriveError.TheVariants.{Refused}
 use Rattle.diag.specs.declared.kind.Kind.TheVariants.{DuplicateName}
+use Rattle.diag.specs.declared.rename_row.RenameRow.{RenameRow}
 use Rattle.texts.specs.Lists.{Somewhere}
 use Rattle.texts.specs.Names.{is_in, IsDistinct, place_in}
 use Rattle.written_types.specs.declared.written.Ident.{Ident}
@@ -23,15 +24,22 @@ use Rattle.compose.specs.Faults.{AreClear, AreRefused}
 use Rattle.telling.specs.declared.told.Told.{Told}
 use Rattle.prepare.specs.declared.file_items.FileItem.{FileItem}
 use Rattle.gathering.specs.Files.{FileOf, AreGathered, most_bytes}
-use Rattle.gathering.specs.Reading.{AreRead}
+use Rattle.gathering.specs.Reading.{IsReadAs, told_of, AreRead, nothing_read, is_read, is_refused}
 use Rattle.gathering.specs.Laws.{GatheredAsOne, ReadAsOne}
 use Rattle.gathering.specs.Selected.{AreThose, no_others, one_holds, one_fails, AreSelected, unknown_in}
 use Rattle.gathering.specs.declared.selection.Selection.{Selection}
-use Rattle.file_derivation.specs.Faults.{AreFaults, none_yet, one_more}
-use Rattle.file_derivation.specs.Helps.{Origin}
+use Rattle.file_derivation.specs.Faults.{AreFaults}
+use Rattle.file_derivation.specs.Faults as faults
+use Rattle.file_derivation.specs.Helps.{Origin, origin_of}
+use Rattle.file_derivation.specs.LeftOut.{faulty_name, faulty_names, IsLeftOut, at_fault, needs_one, kept_by, IsRound}
+use Rattle.file_derivation.specs.Rounds.{IsTextVerdict, AreTexts, no_text, one_text, IsVerdictAt, AreVerdicts, none_yet, one_more, LeavesFaults, nothing_more, one_round}
+use Rattle.file_derivation.specs.declared.judged.Judged.{Judged}
+use Rattle.file_derivation.specs.declared.judged.Verdict.{Verdict}
+use Rattle.file_derivation.specs.declared.judged.Verdict.TheVariants.{Fault, Sound}
+use Rattle.file_derivation.proofs.Judging.{names_behind}
 use Rattle.serde_names.specs.Asked.{asked_of}
 use Rattle.renaming.specs.Rows.{AreRowsOf}
-use Rattle.file_derivation.specs.Outcomes.{names_of, origin_of, AreDeclaredIn, aliases_of, Selects, AreTold, of_files, of_only, of_exclude, of_length, of_items, of_declarations, of_bounds, bytes_of, AreSound, SoundAreNotTold}
+use Rattle.file_derivation.specs.Outcomes.{names_of, AreDeclaredIn, aliases_of, Selects, AreTold, of_files, of_only, of_exclude, of_length, of_items, of_declarations, of_bounds, AreLeft, all_are, some_are, bytes_of, AreSound, SoundAreNotTold}
 
 -- ---- names
 
@@ -85,13 +93,21 @@ module _ (decide : RepeatOrNot) (c : Configuration) (ds : List DeclaredItem) (cl
   none_at at e (d, found, inr itself) = clear.faultless e (inr (somewhere_at (λ x. IsFaultyItem (around_of c ds x.ident.text x.generics) x e) ds at d found itself.1))
 
   no_faults : {o : Origin} {n : ℕ} {faults : List Told} → AreFaults c ds o n faults → faults ≡ []
-  no_faults none_yet = refl
-  no_faults (one_more None more none) = no_faults more
-  no_faults (one_more {at = at} (Some told) more (x, i, d, found, from, fault, is)) = absurd (none_at at (Refused d) fault)
+  no_faults faults.none_yet = refl
+  no_faults (faults.one_more None more none) = no_faults more
+  no_faults (faults.one_more {at = at} (Some told) more (x, i, d, found, from, fault, is)) = absurd (none_at at (Refused d) fault)
+
+  sound_at : (o : Origin) (at : ℕ) (d : DeclaredItem) (i : FileItem) (v : Verdict) → IsVerdictAt c ds o at d v → faulty_name i v ≡ []
+  sound_at o at d i (Fault told) (x, j, refusal, found, from, fault, is) = absurd (none_at at (Refused refusal) fault)
+  sound_at o at d i (Sound span) is = refl
+
+  no_verdicts : {o : Origin} {n : ℕ} {judged : List Judged} → AreVerdicts c ds o n judged → faulty_names judged ≡ []
+  no_verdicts none_yet = refl
+  no_verdicts {o = o} (one_more {at = at} {judged = judged} {d = d} j more found placed is) = names_behind judged j ∙ ap₂ (λ (a b : List (List ℕ)). a ++ b) (no_verdicts more) (sound_at o at d j.item.now j.verdict is)
 
   not_refused : BoundedAreNotRefused → ((ss : List DeclarationOf) → resolved_declarations c ds ≡ Some ss → AreBounded c ss) → (e : DeriveError) → AreRefused c ds e → ⊥
   not_refused law bounded e (inl (inl (span, other, refusal))) = absurd (none-some span (sym clear.derivable ∙ other))
-  not_refused law bounded e (inl (inr at_fault)) = clear.faultless e at_fault.1
+  not_refused law bounded e (inl (inr faulty)) = clear.faultless e faulty.1
   not_refused law bounded e (inr beyond) = law c (declared_idents ds) beyond.1.0 e (bounded beyond.1.0 beyond.1.1) beyond.1.2
 
 -- ---- what is selected is one thing
@@ -103,37 +119,89 @@ same_those (one_holds h more) (one_fails g rest) = absurd (g h)
 same_those (one_fails h more) (one_holds g rest) = absurd (h g)
 same_those (one_fails h more) (one_fails g rest) = same_those more rest
 
+-- ---- nothing is left out
+
+no_one_out : {items : List FileItem} {name : List ℕ} → IsLeftOut items [] name → ⊥
+no_one_out (at_fault e) = false≢true e
+no_one_out (needs_one i one named more) = no_one_out more
+
+all_kept : (is_out : List ℕ → Bool) (items : List FileItem) → ((name : List ℕ) → is_out name ≡ false) → kept_by is_out items ≡ items
+all_kept is_out [] none = refl
+all_kept is_out (i ∷ items) none = ap₂ (λ (b : Bool) (rest : List FileItem). cond (not b) (i ∷ rest) rest) (none i.declared.name) (all_kept is_out items none)
+
+-- a round without a fault keeps all
+round_keeps : {names : List (List ℕ)} {items kept : List FileItem} {judged : List Judged} {told : List Told} → IsRound names items judged told kept → faulty_names judged ≡ [] → kept ≡ items
+round_keeps {items = items} {judged = judged} round none =
+    round.others ∙ all_kept round.is_out items (λ name. false_from_ne_true (round.is_out name) (λ out. no_one_out (subst (λ v. IsLeftOut items v name) none ((round.decides name).0 out))))
+
+-- a text that is read is not refused
+sound_text : ReadAsOne → (names : List (List ℕ)) (i : FileItem) (es : List DeclaredItem) (v : Verdict) → IsReadAs i.text es → IsTextVerdict names i v → faulty_name i v ≡ []
+sound_text law names i es (Fault told) r (d, refused, is) =
+    let all = law names (i ∷ []) (replicate (length es) i ++ []) [] (es ++ []) [] (told_of names i d ∷ []) (is_read r nothing_read) (is_refused refused nothing_read) in
+    let none : told_of names i d ∷ [] ≡ [] = all.2 in
+    cc
+sound_text law names i es (Sound span) r is = refl
+
+sound_texts : ReadAsOne → {names : List (List ℕ)} {items from : List FileItem} {ds : List DeclaredItem} {told : List Told} {judged : List Judged} → AreRead names items from ds told → told ≡ [] → AreTexts names items judged → faulty_names judged ≡ []
+sound_texts law nothing_read e no_text = refl
+sound_texts law {names = names} (is_read {i = i} {es = es} r more) e (one_text j is rest) = ap₂ (λ (a b : List (List ℕ)). a ++ b) (sound_text law names i es j.verdict r is) (sound_texts law more e rest)
+sound_texts law (is_refused r more) e (one_text j is rest) = cc
+
 -- ---- all stages
 
 module _ (law : BoundedAreNotRefused) (decide : RepeatOrNot) (gathered : GatheredAsOne) (read : ReadAsOne) (s : Selection) (c : Configuration) (files : List FileOf) (h : AreSound s c files) where
   same_all : {all : List FileItem} {faults : List Told} → AreGathered 0 files all faults → (h.all ≡ all) × (faults ≡ [])
   same_all {all = all} {faults = faults} g = gathered 0 files h.all all faults h.declared g
 
-  same_chosen : {all chosen : List FileItem} → AreDeclaredIn files all → Selects s c all chosen → h.chosen ≡ chosen
+  same_chosen : {all chosen : List FileItem} {faults : List Told} → AreGathered 0 files all faults → Selects s c all chosen → h.chosen ≡ chosen
   same_chosen {chosen = chosen} g selects = same_those h.selects.1 (subst (λ v. AreSelected s (aliases_of c) v chosen) (sym (same_all g).0) selects.1)
 
-  same_read : {all chosen from : List FileItem} {ds : List DeclaredItem} {faults : List Told} → AreDeclaredIn files all → Selects s c all chosen → AreRead (names_of files) chosen from ds faults → (h.declarations ≡ ds) × (faults ≡ [])
-  same_read {from = from} {ds = ds} {faults = faults} g selects r =
-      let all = read (names_of files) h.chosen h.from from h.declarations ds faults h.read (subst (λ v. AreRead (names_of files) v from ds faults) (sym (same_chosen g selects)) r) in
+  read_as_one : {chosen from : List FileItem} {ds : List DeclaredItem} {faults : List Told} → h.chosen ≡ chosen → AreRead (names_of files) chosen from ds faults → (h.declarations ≡ ds) × (faults ≡ [])
+  read_as_one {from = from} {ds = ds} {faults = faults} same r =
+      let all = read (names_of files) h.chosen h.from from h.declarations ds faults h.read (subst (λ v. AreRead (names_of files) v from ds faults) (sym same) r) in
       (all.1, all.2)
 
+  same_read : {all chosen from : List FileItem} {ds : List DeclaredItem} {faults : List Told} → AreDeclaredIn files all → Selects s c all chosen → AreRead (names_of files) chosen from ds faults → (h.declarations ≡ ds) × (faults ≡ [])
+  same_read g selects r = read_as_one (same_chosen g selects) r
+
+  -- what is read so is clear, and refused for no bound
+  none_refused : {ds : List DeclaredItem} {rows : List RenameRow} → h.declarations ≡ ds → AreRowsOf (asked_of h.declarations) rows → (e : DeriveError) → AreRefused (with_rows c rows) ds e → ⊥
+  none_refused {rows = rows} same rows_are e refused =
+      not_refused decide (with_rows c rows) h.declarations (h.clear rows rows_are) law (h.bounded rows rows_are) e (subst (λ v. AreRefused (with_rows c rows) v e) (sym same) refused)
+
+  -- by rounds nothing is left out
+  same_last : {items last : List FileItem} {told : List Told} (rows : List RenameRow) → h.chosen ≡ items → AreRowsOf (asked_of h.declarations) rows → LeavesFaults s (with_rows c rows) (names_of files) items told last → h.chosen ≡ last
+  same_last rows same rows_are (nothing_more judged none) = same
+  same_last rows same rows_are (one_round {judged = judged} all some round more) =
+      let one : h.declarations ≡ all.declarations = (read_as_one same all.read).0 in
+      let verdicts = subst (λ v. AreVerdicts (with_rows c rows) v (origin_of (names_of files) s all.from) (length v) judged) (sym one) all.verdicts in
+      absurd (some (no_verdicts decide (with_rows c rows) h.declarations (h.clear rows rows_are) verdicts))
+
+  left_refused : {chosen from : List FileItem} {ds : List DeclaredItem} {rows : List RenameRow} {told : List Told} → h.chosen ≡ chosen → AreLeft s c (names_of files) chosen told from ds rows → (e : DeriveError) → AreRefused (with_rows c rows) ds e → ⊥
+  left_refused {rows = rows} same (all_are whole r) e refused =
+      let one = (read_as_one same r.read).0 in
+      none_refused one (subst (λ v. AreRowsOf (asked_of v) rows) (sym one) r.rows_are) e refused
+  left_refused {chosen = chosen} {rows = rows} same (some_are {readable = readable} skip few (judged, texts, round) first rows_are faulty last) e refused =
+      let own = subst (λ v. AreRead (names_of files) v h.from h.declarations []) same h.read in
+      let kept : h.chosen ≡ readable = same ∙ sym (round_keeps round (sound_texts read own refl texts)) in
+      let one = (read_as_one kept first).0 in
+      let all_rows = subst (λ v. AreRowsOf (asked_of v) rows) (sym one) rows_are in
+      none_refused (read_as_one (same_last rows kept all_rows faulty) last).0 all_rows e refused
+
   not_told : (told : List Told) → AreTold s c files told → ⊥
-  not_told told (of_files g some) = some (same_all g).1
-  not_told told (of_only {name = name} g found) = absurd (none-some name (sym h.selects.0.0 ∙ subst (λ v. unknown_in v s.only ≡ Some name) (sym (same_all g).0) found))
-  not_told told (of_exclude {name = name} g known found) = absurd (none-some name (sym h.selects.0.1 ∙ subst (λ v. unknown_in v s.exclude ≡ Some name) (sym (same_all g).0) found))
-  not_told told (of_length g selects long) =
+  not_told told (of_files whole g some) = some (same_all g).1
+  not_told told (of_only {name = name} taken found) = absurd (none-some name (sym h.selects.0.0 ∙ subst (λ v. unknown_in v s.only ≡ Some name) (sym (same_all taken.0).0) found))
+  not_told told (of_exclude {name = name} taken known found) = absurd (none-some name (sym h.selects.0.1 ∙ subst (λ v. unknown_in v s.exclude ≡ Some name) (sym (same_all taken.0).0) found))
+  not_told told (of_length taken selects long) =
       let short = h.few in
-      let longer : most_bytes < bytes_of h.chosen = subst (λ v. most_bytes < bytes_of v) (sym (same_chosen g selects)) long in
+      let longer : most_bytes < bytes_of h.chosen = subst (λ v. most_bytes < bytes_of v) (sym (same_chosen taken.0 selects)) long in
       absurd (omega arith)
-  not_told told (of_items g selects few r some) = some (same_read g selects r).1
-  not_told told (of_declarations {from = from} {ds = ds} {rows = rows} g selects r faults some) =
+  not_told told (of_items whole g selects few r some) = some (same_read g selects r).1
+  not_told told (of_declarations {from = from} {ds = ds} {rows = rows} whole g selects r faults some) =
       let same : h.declarations ≡ ds = (same_read g selects r.read).0 in
       let rows_are = subst (λ v. AreRowsOf (asked_of v) rows) (sym same) r.rows_are in
       some (no_faults decide (with_rows c rows) h.declarations (h.clear rows rows_are) (subst (λ v. AreFaults (with_rows c rows) v (origin_of (names_of files) s from) (length v) told) (sym same) faults))
-  not_told told (of_bounds {ds = ds} {rows = rows} {d = d} g selects r faults refused) =
-      let same : h.declarations ≡ ds = (same_read g selects r.read).0 in
-      let rows_are = subst (λ v. AreRowsOf (asked_of v) rows) (sym same) r.rows_are in
-      not_refused decide (with_rows c rows) h.declarations (h.clear rows rows_are) law (h.bounded rows rows_are) (Refused d) (subst (λ v. AreRefused (with_rows c rows) v (Refused d)) (sym same) refused)
+  not_told told (of_bounds {d = d} taken selects left faults refused) = left_refused (same_chosen taken.0 selects) left (Refused d) refused
 
 pub sound : BoundedAreNotRefused → RepeatOrNot → GatheredAsOne → ReadAsOne → SoundAreNotTold
 sound law decide gathered read s c files told h is = not_told law decide gathered read s c files h told is

@@ -1,5 +1,5 @@
 -- Impls by hand one by one, and lists that are empty.
-use Rattle.std.proofs.Common.{◌≡◌, ◌∙◌, ◌↔◌, ℕ, List, [], ◌∷◌, ◌++◌, length, take, drop, map, Bool, true, false, not, cond, IsTrue, Some, None, ◌==◌, refl, ap, ap₂, sym, arith, ◌≤◌, ◌-◌}
+use Rattle.std.proofs.Common.{◌≡◌, ◌∙◌, ◌↔◌, ℕ, List, [], ◌∷◌, ◌++◌, length, take, drop, map, Bool, true, false, not, cond, IsTrue, Some, None, ◌==◌, refl, ap, ap₂, sym, arith, ◌<◌, ◌≤◌, ◌-◌}
 use Rattle.std.specs.Prelude.{get_or}
 use Rattle.std.proofs.lemmas.Grind.{common_steps}
 use Rattle.std.proofs.lemmas.List.{take_all}
@@ -49,3 +49,7 @@ split_first [] x l e = absurd (omega arith)
 split_first (y ∷ ys) x l e =
     let rest : take (length (y ∷ ys) - 1) ys ≡ ys = take_all (length (y ∷ ys) - 1) ys (omega arith) in
     ap₂ (λ a b. a ∷ b) (sym e) (sym rest)
+
+pub none_first : {A : Type 0} (xs : List A) → length xs < 1 → xs ≡ []
+none_first [] l = refl
+none_first (x ∷ xs) l = absurd (omega arith)

@@ -14,6 +14,7 @@ use Rattle.telling.specs.declared.told.Told.{Told}
 use Rattle.prepare.specs.declared.file_items.FileItem.{FileItem}
 use Rattle.gathering.specs.Reading.{file_name, told_of}
 use Rattle.gathering.specs.Telling.{unknown_type}
+use Rattle.gathering.specs.declared.selection.Selection.{Selection}
 use Rattle.file_derivation.specs.declared.helps.Around.{Around}
 
 -- what declarations are read from: the names of the files, the names that are excluded, and the items
@@ -21,6 +22,10 @@ pub record Origin : Type 0 where
   pub names : List (List ℕ)
   pub excluded : List (List ℕ)
   pub from : List FileItem
+
+-- the origin of declarations that are read of these files and selected so
+abbrev pub origin_of : List (List ℕ) → Selection → List FileItem → Origin
+origin_of names s from = record { names = names; excluded = s.exclude; from = from }
 
 -- the declaration that is read from the item has its name first
 abbrev pub first_help : Origin → Option DeclaredItem → Option FileItem → Option (List ℕ)

@@ -1,9 +1,10 @@
 -- What is derived of files, and what is told where nothing is.
-use Rattle.std.specs.Prelude.{◌≡◌, ◌≢◌, ◌<◌, ◌≤◌, ◌⊎◌, ℕ, List, [], ◌∷◌, ◌++◌, length, map, codes, sum_by, false, Some, None}
+use Rattle.std.specs.Prelude.{◌≡◌, ◌≢◌, ◌<◌, ◌≤◌, ◌⊎◌, ℕ, List, [], ◌∷◌, ◌++◌, length, map, codes, sum_by, true, false, Some, None}
 use Rattle.diag.specs.declared.diagnostics.DiangosticsInner.{DiangosticsInner}
 use Rattle.diag.specs.declared.error.DeriveError.TheVariants.{Refused}
 use Rattle.diag.specs.declared.rename_row.RenameRow.{RenameRow}
-use Rattle.schema_core.specs.Document.{Entry, document}
+use Rattle.schema_core.specs.Document.{Entry, document_by}
+use Rattle.schema_core.specs.declared.alternatives.Alternatives.{Alternatives}
 use Rattle.configuration.specs.Aliases.{last_names}
 use Rattle.configuration.specs.Configuration.{Configuration, with_rows}
 use Rattle.configuration.specs.Configuration as configured
@@ -25,7 +26,9 @@ use Rattle.gathering.specs.Selected.{AreSelected, unknown_in}
 use Rattle.gathering.specs.Telling.{told_plainly, told_unplaced}
 use Rattle.gathering.specs.declared.selection.Selection.{Selection}
 use Rattle.file_derivation.specs.Faults.{AreFaults}
-use Rattle.file_derivation.specs.Helps.{Origin}
+use Rattle.file_derivation.specs.Helps.{origin_of}
+use Rattle.file_derivation.specs.LeftOut.{told_of_file}
+use Rattle.file_derivation.specs.Rounds.{LeavesTexts, LeavesFaults}
 use Rattle.file_derivation.specs.Warned.{AreAllWarned, AreFirst}
 use Rattle.file_derivation.specs.declared.derive.Outcome.{Outcome}
 use Rattle.file_derivation.specs.declared.derive.Outcome.TheVariants as outcomes
@@ -40,6 +43,10 @@ names_of files = map (λ f. f.name) files
 -- each file has its declarations, and these are all
 abbrev pub AreDeclaredIn : List FileOf → List FileItem → Type 0
 AreDeclaredIn files all = AreGathered 0 files all []
+
+-- these are all declarations of the files, and this is told of those that have none; without skip_refused each has its own
+abbrev pub AreTaken : Selection → List FileOf → (all : List FileItem) → (faults : List Told) → Type 0
+AreTaken s files all faults = AreGathered 0 files all faults × (s.skip_refused ≡ false → faults ≡ [])
 
 -- each name of the selection is that of a declaration
 abbrev pub AreKnown : Selection → List FileItem → Type 0
@@ -66,27 +73,32 @@ pub record AreReadWhole (names : List (List ℕ)) (chosen from : List FileItem) 
   pub read : AreRead names chosen from ds []
   pub rows_are : AreRowsOf (asked_of ds) rows
 
--- the origin of declarations that are read of these files and selected so
-abbrev pub origin_of : List (List ℕ) → Selection → List FileItem → Origin
-origin_of names s from = record { names = names; excluded = s.exclude; from = from }
+-- Of what is selected these declarations are left, each read from one of these items, and these are the rows of names. Without skip_refused all are left, and the rows are those of their names. With it what cannot be read is left out, and then by rounds what is at fault, and this is told of it; the rows are those of the names of all that stood before these rounds.
+pub data AreLeft (s : Selection) (c : Configuration) (names : List (List ℕ)) (chosen : List FileItem) : (told : List Told) → (from : List FileItem) → List DeclaredItem → List RenameRow → Type 0 where
+  all_are : {from : List FileItem} {ds : List DeclaredItem} {rows : List RenameRow} → s.skip_refused ≡ false → AreReadWhole names chosen from ds rows → AreLeft s c names chosen [] from ds rows
+  some_are : {readable first last from : List FileItem} {es ds : List DeclaredItem} {rows : List RenameRow} {unread faulty : List Told} → s.skip_refused ≡ true → bytes_of chosen ≤ most_bytes → LeavesTexts names chosen unread readable
+      → AreRead names readable first es [] → AreRowsOf (asked_of es) rows → LeavesFaults s (with_rows c rows) names readable faulty last → AreRead names last from ds []
+      → AreLeft s c names chosen (unread ++ faulty) from ds rows
 
 -- ---- the answers
 
--- The components are those of the declarations that are selected of the files, each read from its own text, with the rows of their names behind those of the configuration; their document describes what the declarations are resolved to, and these are the warnings.
+-- The components are those of the declarations that are selected of the files and left, each read from its own text, with the rows of names behind those of the configuration; their document, with alternatives under either keyword, describes what the declarations are resolved to, and these are the warnings, behind what is told of what is left out.
 pub record AreDerivedFrom (s : Selection) (c : Configuration) (files : List FileOf) (components : List Entry) (warnings : List Told) : Type 0 where
   pub all : List FileItem
-  pub declared : AreDeclaredIn files all
+  pub faults : List Told
+  pub taken : AreTaken s files all faults
   pub chosen : List FileItem
   pub selects : Selects s c all chosen
+  pub told : List Told
   pub from : List FileItem
   pub declarations : List DeclaredItem
   pub rows : List RenameRow
-  pub read : AreReadWhole (names_of files) chosen from declarations rows
+  pub left : AreLeft s c (names_of files) chosen told from declarations rows
   pub derived : AreDerived (with_rows c rows) declarations components
-  pub describes : Describes derived.resolved (collects_all c.collect) (document components)
+  pub describes : (by : Alternatives) → Describes derived.resolved (collects_all c.collect) (document_by by components)
   pub impls : List FileImpl
   pub written : HaveImpls 0 files impls
-  pub warned : AreAllWarned (names_of files) declarations from impls components warnings
+  pub warned : AreAllWarned (names_of files) declarations from impls components (map told_of_file faults ++ told) warnings
 
 abbrev pub unknown_message : List ℕ → List ℕ
 unknown_message name = codes "no declaration has the name " ++ name
@@ -94,20 +106,20 @@ unknown_message name = codes "no declaration has the name " ++ name
 abbrev pub long_message : List ℕ
 long_message = codes "the declarations are longer than 16777216 bytes"
 
--- There are no components, and this is told: of files, or else of a name by which declarations are selected, or else that these are too long, or else of those that cannot be read, or else of those at fault, or else of a bound.
+-- There are no components, and this is told: of files, or else of a name by which declarations are selected, or else that these are too long, or else of those that cannot be read, or else of those at fault, or else of a bound. With skip_refused no fault of a file or a declaration is among these.
 pub data AreTold (s : Selection) (c : Configuration) (files : List FileOf) : List Told → Type 0 where
-  of_files : {all : List FileItem} {faults : List Told} → AreGathered 0 files all faults → faults ≢ [] → AreTold s c files faults
-  of_only : {all : List FileItem} {name : List ℕ} → AreDeclaredIn files all → unknown_in all s.only ≡ Some name
+  of_files : {all : List FileItem} {faults : List Told} → s.skip_refused ≡ false → AreGathered 0 files all faults → faults ≢ [] → AreTold s c files faults
+  of_only : {all : List FileItem} {faults : List Told} {name : List ℕ} → AreTaken s files all faults → unknown_in all s.only ≡ Some name
       → AreTold s c files (told_plainly (codes "--only") [] (unknown_message name) ∷ [])
-  of_exclude : {all : List FileItem} {name : List ℕ} → AreDeclaredIn files all → unknown_in all s.only ≡ None → unknown_in all s.exclude ≡ Some name
+  of_exclude : {all : List FileItem} {faults : List Told} {name : List ℕ} → AreTaken s files all faults → unknown_in all s.only ≡ None → unknown_in all s.exclude ≡ Some name
       → AreTold s c files (told_plainly (codes "--exclude") [] (unknown_message name) ∷ [])
-  of_length : {all chosen : List FileItem} → AreDeclaredIn files all → Selects s c all chosen → most_bytes < bytes_of chosen
+  of_length : {all chosen : List FileItem} {faults : List Told} → AreTaken s files all faults → Selects s c all chosen → most_bytes < bytes_of chosen
       → AreTold s c files (told_plainly [] (codes "TooLong") long_message ∷ [])
-  of_items : {all chosen from : List FileItem} {ds : List DeclaredItem} {faults : List Told} → AreDeclaredIn files all → Selects s c all chosen → bytes_of chosen ≤ most_bytes → AreRead (names_of files) chosen from ds faults → faults ≢ []
+  of_items : {all chosen from : List FileItem} {ds : List DeclaredItem} {faults : List Told} → s.skip_refused ≡ false → AreDeclaredIn files all → Selects s c all chosen → bytes_of chosen ≤ most_bytes → AreRead (names_of files) chosen from ds faults → faults ≢ []
       → AreTold s c files faults
-  of_declarations : {all chosen from : List FileItem} {ds : List DeclaredItem} {rows : List RenameRow} {faults : List Told} → AreDeclaredIn files all → Selects s c all chosen → AreReadWhole (names_of files) chosen from ds rows
+  of_declarations : {all chosen from : List FileItem} {ds : List DeclaredItem} {rows : List RenameRow} {faults : List Told} → s.skip_refused ≡ false → AreDeclaredIn files all → Selects s c all chosen → AreReadWhole (names_of files) chosen from ds rows
       → AreFaults (with_rows c rows) ds (origin_of (names_of files) s from) (length ds) faults → faults ≢ [] → AreTold s c files faults
-  of_bounds : {all chosen from : List FileItem} {ds : List DeclaredItem} {rows : List RenameRow} {d : List DiangosticsInner} → AreDeclaredIn files all → Selects s c all chosen → AreReadWhole (names_of files) chosen from ds rows
+  of_bounds : {all chosen from : List FileItem} {ds : List DeclaredItem} {rows : List RenameRow} {faults told : List Told} {d : List DiangosticsInner} → AreTaken s files all faults → Selects s c all chosen → AreLeft s c (names_of files) chosen told from ds rows
       → AreFaults (with_rows c rows) ds (origin_of (names_of files) s from) (length ds) [] → AreRefused (with_rows c rows) ds (Refused d) → AreTold s c files (told_unplaced [] d ∷ [])
 
 -- Nothing refuses the files: each has its declarations, the selection is of known names, what is selected is read, and with the rows of its names no declaration is at fault and nothing is beyond a bound.
@@ -140,7 +152,7 @@ IfToldIs Is (refusals.Told told) = Is told
 
 -- what is told of files whose declarations these are
 abbrev pub IfToldOf : Selection → Configuration → List FileItem → Refusal → Type 0
-IfToldOf s c all refusal = IfToldIs (λ told. (files : List FileOf) → AreDeclaredIn files all → AreTold s c files told) refusal
+IfToldOf s c all refusal = IfToldIs (λ told. (files : List FileOf) (faults : List Told) → AreTaken s files all faults → AreTold s c files told) refusal
 
 -- what is told of the declarations that these items read as: their faults, or else this refusal
 abbrev pub AreToldOf : Selection → Configuration → List (List ℕ) → List FileItem → List DiangosticsInner → List Told → Type 0

@@ -72,7 +72,7 @@ has_some (x ∷ xs) = true
 -- a document without a component says nothing of any declaration
 abbrev pub nothing_message : (is_declared : Bool) → List ℕ
 nothing_message true = codes "nothing is described: each declaration that is chosen has type parameters"
-nothing_message false = codes "nothing is described: no file has a declaration that is chosen"
+nothing_message false = codes "nothing is described: no file has a declaration that is chosen and not left out"
 
 abbrev pub told_nothing : (is_declared is_described : Bool) → List Told
 told_nothing is_declared true = []
@@ -80,11 +80,11 @@ told_nothing is_declared false = warning (nothing_message is_declared) ∷ []
 
 -- ---- all warnings
 
--- all that is warned of: declarations, the impls by hand that are for them, and their document
-pub record AreAllWarned (names : List (List ℕ)) (ds : List DeclaredItem) (from : List FileItem) (impls : List FileImpl) (components : List Entry) (warnings : List Told) : Type 0 where
+-- all that is warned of: what is left out, declarations, the impls by hand that are for them, and their document
+pub record AreAllWarned (names : List (List ℕ)) (ds : List DeclaredItem) (from : List FileItem) (impls : List FileImpl) (components : List Entry) (left_out warnings : List Told) : Type 0 where
   pub own : List Told
   pub warned : AreWarned names ds from (length ds) own
-  pub whole : warnings ≡ (own ++ told_impls names ds impls) ++ told_nothing (has_some ds) (has_some components)
+  pub whole : warnings ≡ ((left_out ++ own) ++ told_impls names ds impls) ++ told_nothing (has_some ds) (has_some components)
 
 -- these are the first hundred of all, and how many there are
 abbrev pub AreFirst : List Told → Warnings → Type 0

@@ -1,17 +1,27 @@
 //! From files to components, or to what is told.
 
-ghost use Rattle.std.specs.Prelude.{◌≡◌, ◌<◌, ◌≤◌, [], ◌∷◌, ◌++◌, List as AnyList, map, MatchBool, IfOk, IfErr};
+ghost use Rattle.std.specs.Prelude.{◌≡◌, ◌<◌, ◌≤◌, [], ◌∷◌, ◌++◌, List as AnyList, length, map, true, false, MatchBool, IfOk, IfErr};
+ghost use Rattle.closing.specs.Described.{Describes};
+ghost use Rattle.compose.specs.Bounds.{collects_all};
+ghost use Rattle.compose.specs.Faults.{AreDerived, AreRefused};
 ghost use Rattle.configuration.specs.Configuration.{Configuration};
-ghost use Rattle.gathering.specs.Files.{FileOf, file_of, Gathers, HaveImpls, most_bytes};
+ghost use Rattle.diag.specs.Refusal.{Refuses};
+ghost use Rattle.schema_core.specs.Document.{document_by};
+ghost use Rattle.schema_core.specs.declared.alternatives.Alternatives.{Alternatives};
+ghost use Rattle.syntax.specs.Items.{declarations_view};
+ghost use Rattle.syntax.specs.Named.{AreNamed};
+ghost use Rattle.gathering.specs.Files.{FileOf, file_of, Gathers, AreGathered, HaveImpls, most_bytes};
 ghost use Rattle.gathering.specs.Telling.{told_plainly};
 ghost use Rattle.telling.specs.declared.told.Told.{Told as AnyTold};
-ghost use Rattle.file_derivation.specs.Warned.{has_some, told_nothing, AreFirst};
+ghost use Rattle.file_derivation.specs.Warned.{has_some, told_nothing, AreAllWarned, AreFirst};
 ghost use Rattle.file_derivation.specs.Outcomes.{names_of, AreDeclaredIn, AreKnown, Selects, bytes_of, unknown_message, AreDerivedFrom, AreTold, AreToldOf, IfToldIs, IfToldOf, IsOutcome, IfDerived, IfRefused, IsDerivation, AreSound};
 
 use crate::aliases::aliases_of;
 use crate::faults::faults_of;
 use crate::law::sound_are_not_told;
-use crate::rows::push_rows;
+use crate::left_out::told_of_files;
+use crate::rounds::{leave_faults, leave_texts, read_whole};
+use crate::rows::push_rows_of;
 use crate::warned::{Warnings, warned_of};
 use compose::{Derived, derive_declarations};
 use configuration::Config;
@@ -21,8 +31,8 @@ use gathering::{
     told_plainly, told_unplaced, unknown_name,
 };
 use prepare::FileItem;
-use renaming::rows_of;
 use std::alloc::{AllocError, Global};
+use syntax::Declarations;
 use telling::Told;
 use texts::{List, Text};
 
@@ -169,7 +179,35 @@ fn with_warnings(
     Ok((derived, warnings))
 }
 
-/// What is derived of the declarations that are selected, and what they are warned of.
+/// What is derived of the declarations, each read from the text of the item at the same place, and what they are warned of
+/// behind these warnings.
+fn derive_read(
+    alloc: Global,
+    names: &[Text],
+    from: &[&FileItem],
+    declarations: Declarations,
+    impls: &[FileImpl],
+    config: &Config,
+    warnings: Warnings,
+) -> Result<(Derived, Warnings), DeriveError>
+    requires many { length from.now ≡ length (declarations_view declarations) }
+    requires named { AreNamed (declarations_view declarations) }
+    ensures derived { IfOk result (λ d. (made : AreDerived config.now
+        (declarations_view declarations) d.0.components)
+        × ((by : Alternatives) → Describes made.resolved (collects_all config.now.collect)
+        (document_by by d.0.components))) }
+    ensures warned { IfOk result (λ d. (front : AnyList AnyTold) → AreFirst front warnings
+        → (all : AnyList AnyTold) × AreAllWarned names.now (declarations_view declarations)
+        (map (λ i. i.now) from.now) impls.now d.0.components front all × AreFirst all d.1) }
+    ensures refused { Refuses result (AreRefused config.now (declarations_view declarations)) }
+{
+    let warnings = warned_of(alloc, names, from, &declarations, impls, warnings)?;
+    let is_declared = !declarations.items.is_empty();
+    let derived = derive_declarations(alloc, declarations, config)?;
+    Ok(with_warnings(alloc, derived, warnings, is_declared)?)
+}
+
+/// What is derived of the declarations that are selected, and what they are warned of, where nothing is left out.
 fn derive(
     alloc: Global,
     names: &[Text],
@@ -178,11 +216,12 @@ fn derive(
     selection: &Selection,
     mut config: Config,
 ) -> Result<(Derived, Warnings), Refusal>
-    ensures derived { IfOk result (λ d. (files : AnyList FileOf) → names.now ≡ names_of files
-        → AreDeclaredIn files items.now → HaveImpls 0 files impls.now → (all : AnyList AnyTold)
+    ensures derived { IfOk result (λ d. selection.now.skip_refused ≡ false
+        → (files : AnyList FileOf) → names.now ≡ names_of files → AreDeclaredIn files items.now
+        → HaveImpls 0 files impls.now → (all : AnyList AnyTold)
         × AreDerivedFrom selection.now config files d.0.components all × AreFirst all d.1) }
-    ensures told { IfErr result (IfToldIs (λ told. (files : AnyList FileOf)
-        → names.now ≡ names_of files → AreDeclaredIn files items.now
+    ensures told { IfErr result (IfToldIs (λ told. selection.now.skip_refused ≡ false
+        → (files : AnyList FileOf) → names.now ≡ names_of files → AreDeclaredIn files items.now
         → AreTold selection.now config files told)) }
 {
     let chosen = select(alloc, selection, &config, items)?;
@@ -191,26 +230,92 @@ fn derive(
     if !reading.faults.is_empty() {
         return Err(Refusal::Told(reading.faults));
     }
-    // The names have rows, so that only memory can be wanted.
-    let Ok(rows) = rows_of(alloc, &reading.declarations) else {
-        return Err(Refusal::Memory);
-    };
-    push_rows(alloc, &mut config, rows.as_slice())?;
+    push_rows_of(alloc, &mut config, &reading.declarations)?;
     let Reading {
         declarations,
         from,
         ..
     } = reading;
-    let warnings = warned_of(alloc, names, from.as_slice(), &declarations, impls)?;
-    let is_declared = !declarations.items.is_empty();
-    match derive_declarations(alloc, declarations, &config) {
-        Ok(derived) => Ok(with_warnings(alloc, derived, warnings, is_declared)?),
+    let (from, warnings) = (from.as_slice(), Warnings::new(alloc));
+    match derive_read(alloc, names, from, declarations, impls, &config, warnings) {
+        Ok(derived) => Ok(derived),
         Err(DeriveError::Memory) => Err(Refusal::Memory),
         Err(DeriveError::Refused(refusal)) => {
             let told = told_of(alloc, names, chosen, selection, &config, &refusal)?;
             Err(Refusal::Told(told))
         }
     }
+}
+
+/// What is derived of the declarations that are selected and left, and what they are warned of, where what is refused is left
+/// out: of files, of whose faults this is told, of declarations that cannot be read, and of those at fault.
+fn derive_left(
+    alloc: Global,
+    names: &[Text],
+    items: &[FileItem],
+    impls: &[FileImpl],
+    faults: &[Told],
+    selection: &Selection,
+    mut config: Config,
+) -> Result<(Derived, Warnings), Refusal>
+    ensures derived { IfOk result (λ d. selection.now.skip_refused ≡ true
+        → (files : AnyList FileOf) → names.now ≡ names_of files
+        → AreGathered 0 files items.now faults.now
+        → HaveImpls 0 files impls.now → (all : AnyList AnyTold)
+        × AreDerivedFrom selection.now config files d.0.components all × AreFirst all d.1) }
+    ensures told { IfErr result (IfToldIs (λ told. selection.now.skip_refused ≡ true
+        → (files : AnyList FileOf) → names.now ≡ names_of files
+        → AreGathered 0 files items.now faults.now → AreTold selection.now config files told)) }
+{
+    let chosen = select(alloc, selection, &config, items)?;
+    let mut lines = told_of_files(alloc, faults)?;
+    let readable = leave_texts(alloc, names, chosen.as_slice(), &mut lines)?;
+    let reading = read_whole(alloc, names, readable.as_slice())?;
+    push_rows_of(alloc, &mut config, &reading.declarations)?;
+    let left = leave_faults(
+        alloc, names, selection, &config, readable, reading, &mut lines,
+    )?;
+    let Reading {
+        declarations,
+        from,
+        ..
+    } = left;
+    let (from, warnings) = (from.as_slice(), Warnings::of(lines));
+    match derive_read(alloc, names, from, declarations, impls, &config, warnings) {
+        Ok(derived) => Ok(derived),
+        Err(DeriveError::Memory) => Err(Refusal::Memory),
+        Err(DeriveError::Refused(refusal)) => {
+            Err(alone(alloc, told_unplaced(alloc, "", &refusal)?))
+        }
+    }
+}
+
+/// What is derived of the declarations that are selected, and what they are warned of; the faults are those of files.
+fn derive_either(
+    alloc: Global,
+    names: &[Text],
+    items: &[FileItem],
+    impls: &[FileImpl],
+    faults: List<Told>,
+    selection: &Selection,
+    config: Config,
+) -> Result<(Derived, Warnings), Refusal>
+    ensures derived { IfOk result (λ d. (files : AnyList FileOf) → names.now ≡ names_of files
+        → AreGathered 0 files items.now faults → HaveImpls 0 files impls.now
+        → (all : AnyList AnyTold)
+        × AreDerivedFrom selection.now config files d.0.components all × AreFirst all d.1) }
+    ensures told { IfErr result (IfToldIs (λ told. (files : AnyList FileOf)
+        → names.now ≡ names_of files → AreGathered 0 files items.now faults
+        → AreTold selection.now config files told)) }
+{
+    if selection.skip_refused {
+        let faults = faults.as_slice();
+        return derive_left(alloc, names, items, impls, faults, selection, config);
+    }
+    if !faults.is_empty() {
+        return Err(Refusal::Told(faults));
+    }
+    derive(alloc, names, items, impls, selection, config)
 }
 
 /// What is derived of the files that are gathered.
@@ -220,6 +325,9 @@ fn derive(
 /// declaration has, or else that the texts of what is selected have more than 16,777,216 bytes, or else the faults of all
 /// declarations that cannot be read, or else of each declaration the first fault, or else that the instances are beyond a
 /// bound. Where something is derived, the warnings say of which of serde's attributes the JSON is another than the schemas say.
+///
+/// With `skip_refused` files and declarations that are refused are left out instead, and what needs them, and the rest is
+/// derived: the warnings tell first what is left out, and why.
 pub fn derive_gathered(
     alloc: Global,
     gathered: Gathered,
@@ -235,11 +343,8 @@ pub fn derive_gathered(
         impls,
         faults,
     } = gathered;
-    if !faults.is_empty() {
-        return Ok(Outcome::Refused(faults));
-    }
     let (names, items, impls) = (names.as_slice(), items.as_slice(), impls.as_slice());
-    match derive(alloc, names, items, impls, selection, config) {
+    match derive_either(alloc, names, items, impls, faults, selection, config) {
         Ok((derived, warnings)) => Ok(Outcome::Derived(derived, warnings)),
         Err(Refusal::Told(told)) => Ok(Outcome::Refused(told)),
         Err(Refusal::Memory) => Err(AllocError),

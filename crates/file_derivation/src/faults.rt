@@ -18,7 +18,7 @@ use telling::Told;
 use texts::{List, Text};
 
 /// What is told of the declaration at the place, if it is at fault.
-fn fault_at(
+pub(crate) fn fault_at(
     alloc: Global,
     around: &Around<'_>,
     config: &Config,

@@ -5,7 +5,10 @@ mod aliases;
 mod derive;
 mod faults;
 mod helps;
+mod judged;
 mod law;
+mod left_out;
+mod rounds;
 mod rows;
 mod warned;
 

@@ -1,6 +1,6 @@
 //! What declarations that are read of files are warned of.
 
-ghost use Rattle.std.specs.Prelude.{◌≡◌, ◌≤◌, ◌++◌, [], ◌∷◌, List as AnyList, length, map, IfOk, OnOk};
+ghost use Rattle.std.specs.Prelude.{◌≡◌, ◌<◌, ◌≤◌, ◌-◌, ◌++◌, [], ◌∷◌, List as AnyList, length, take, map, IfOk, OnOk};
 ghost use Rattle.syntax.specs.Items.{declarations_view};
 ghost use Rattle.telling.specs.declared.told.Told.{Told as AnyTold};
 ghost use Rattle.warnings.specs.Rules.{warning_view};
@@ -18,6 +18,14 @@ use warnings::{Warning, warnings_of};
 /// How many warnings are told, at most.
 const MOST_TOLD: usize = 100;
 
+/// Leaves out the last.
+fn drop_last(told: &mut List<Told>)
+    requires some { 0 < length told.old }
+    ensures { told.new ≡ take (length told.old - 1) told.old }
+{
+    let _last = told.remove(told.len() - 1);
+}
+
 /// What is warned of: the first hundred, and how many there are.
 #[derive(Debug, Drop)]
 pub struct Warnings {
@@ -27,13 +35,24 @@ pub struct Warnings {
 
 impl Warnings {
     /// No warnings yet.
-    fn new(alloc: Global) -> Warnings
+    pub(crate) fn new(alloc: Global) -> Warnings
         ensures { AreFirst [] result }
     {
         Warnings {
             told: List::new(alloc),
             count: 0,
         }
+    }
+
+    /// What is told, as the first warnings.
+    pub(crate) fn of(mut told: List<Told>) -> Warnings
+        ensures { AreFirst told result }
+    {
+        let count = told.len();
+        'told: while told.len() > MOST_TOLD {
+            drop_last(&mut told);
+        }
+        Warnings { told, count }
     }
 
     /// Adds one more, which is told where it is one of the first hundred.
@@ -236,24 +255,25 @@ fn nothing_message(is_declared: bool) -> &'static str
     if is_declared {
         "nothing is described: each declaration that is chosen has type parameters"
     } else {
-        "nothing is described: no file has a declaration that is chosen"
+        "nothing is described: no file has a declaration that is chosen and not left out"
     }
 }
 
-/// What the declarations are warned of, each read from the text of the item at the same place.
+/// Adds what the declarations are warned of, each read from the text of the item at the same place.
 fn warnings_from(
     alloc: Global,
     names: &[Text],
     from: &[&FileItem],
     places: &Places<'_>,
+    mut warnings: Warnings,
 ) -> Result<Warnings, AllocError>
     requires many { length from.now ≡ length (declarations_view places.now.declarations.now) }
-    ensures { IfOk result (λ warnings. (all : AnyList AnyTold)
-        × AreWarned names.now (declarations_view places.now.declarations.now)
-        (map (λ i. i.now) from.now) (length (declarations_view places.now.declarations.now)) all
-        × AreFirst all warnings) }
+    ensures { IfOk result (λ more. (front : AnyList AnyTold) → AreFirst front warnings
+        → (all : AnyList AnyTold) × AreWarned names.now
+        (declarations_view places.now.declarations.now) (map (λ i. i.now) from.now)
+        (length (declarations_view places.now.declarations.now)) all
+        × AreFirst (front ++ all) more) }
 {
-    let mut warnings = Warnings::new(alloc);
     let declared = places.declarations.items.as_slice();
     for at in 0..from.len() {
         let item = from[at];
@@ -264,24 +284,25 @@ fn warnings_from(
     Ok(warnings)
 }
 
-/// What the declarations, each read from the text of the item at the same place, and the impls by hand that are for them are
-/// warned of.
+/// Adds what the declarations, each read from the text of the item at the same place, and the impls by hand that are for them
+/// are warned of.
 pub(crate) fn warned_of(
     alloc: Global,
     names: &[Text],
     from: &[&FileItem],
     declarations: &Declarations,
     impls: &[FileImpl],
+    warnings: Warnings,
 ) -> Result<Warnings, AllocError>
     requires many { length from.now ≡ length (declarations_view declarations.now) }
-    ensures { IfOk result (λ warnings. (own : AnyList AnyTold)
-        × AreWarned names.now (declarations_view declarations.now) (map (λ i. i.now) from.now)
-        (length (declarations_view declarations.now)) own
-        × AreFirst (own ++ told_impls names.now (declarations_view declarations.now) impls.now)
-        warnings) }
+    ensures { IfOk result (λ more. (front : AnyList AnyTold) → AreFirst front warnings
+        → (own : AnyList AnyTold) × AreWarned names.now (declarations_view declarations.now)
+        (map (λ i. i.now) from.now) (length (declarations_view declarations.now)) own
+        × AreFirst ((front ++ own)
+        ++ told_impls names.now (declarations_view declarations.now) impls.now) more) }
 {
     let places = Places::new(alloc, declarations)?;
-    let mut warnings = warnings_from(alloc, names, from, &places)?;
+    let mut warnings = warnings_from(alloc, names, from, &places, warnings)?;
     warnings.add_impls(alloc, names, &places, impls)?;
     Ok(warnings)
 }

@@ -1,5 +1,7 @@
 pub mod Consequences
 mod Ended
+mod Lines
+mod OptionFiles
 mod Paths
 mod Saying
 mod Strict

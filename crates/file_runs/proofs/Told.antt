@@ -2,6 +2,8 @@
 use Rattle.std.proofs.Common.{◌≡◌, ◌∙◌, ℕ, List, [], ◌∷◌, Bool, true, false, ◌||◌, IsTrue, Option, Some, None, IsSome, bytes_eq, codes, inl, inr, refl, sym, ap, ap₂, subst}
 use Rattle.std.proofs.lemmas.Slice.Eq.{bytes_eq-Decides}
 use Rattle.std.proofs.lemmas.Bool.{false≢true}
+use Rattle.std.proofs.lemmas.Option.{none-some, same_Some}
+use Rattle.serde_json.specs.Data.{Data}
 use Rattle.streams.specs.Told.{IsAll}
 use Rattle.texts.specs.Names.{is_in}
 use Rattle.configuration.specs.Configuration.{Configuration}
@@ -10,9 +12,10 @@ use Rattle.configuration.specs.Said.{IsSaidBy}
 use Rattle.gathering.specs.Files.{FileOf}
 use Rattle.file_derivation.specs.Outcomes.{AreDerivedFrom, AreSound, SoundAreNotTold}
 use Rattle.reporting.specs.Beginning.{Beginning}
-use Rattle.file_runs.specs.Given.{Given, IsGiven, AreFilesAt, HasBytesBy, HasBytes}
-use Rattle.file_runs.specs.Owed.{IsMisconfigured, AreRefusedFiles, AreStrictWarnings, IsTold, IsSound, SoundRunsAreNotRefused}
-use Rattle.file_runs.specs.Words.{is_input}
+use Rattle.file_runs.specs.Given.{Given, IsGiven, Named, IsDocumentText, IsDocumentAt, RefusesDocument, RefusesOption, AreFilesAt, HasBytesBy, HasBytes}
+use Rattle.file_runs.specs.Owed.{wanted_of, IsMisconfigured, AreRefusedFiles, AreUnwritten, IsTold, IsSound, SoundRunsAreNotRefused}
+use Rattle.file_runs.specs.Shown.{IsUnwritten}
+use Rattle.file_runs.specs.Words.{is_input, IsOfOption}
 use Rattle.file_runs.specs.declared.request.Request.{Request}
 use Rattle.file_runs.proofs.Consequences.{one_request}
 
@@ -80,50 +83,98 @@ named_path : (path : Option (List ℕ)) → IsSome path → (name : List ℕ) ×
 named_path None is = absurd (false≢true is)
 named_path (Some name) is = (name, refl)
 
+abbrev of_parts : Request → Configuration → (openapi check : Option Named) → List FileOf → Given
+of_parts request config openapi check files = record { request = request; config = config; openapi = openapi; check = check; files = files }
+
+-- what is given is one thing if each part is
+all_same : (one other : Given) → one.request ≡ other.request → one.config ≡ other.config → one.openapi ≡ other.openapi → one.check ≡ other.check → one.files ≡ other.files → one ≡ other
+all_same one other request config openapi check files =
+    ap (λ (v : Request). of_parts v one.config one.openapi one.check one.files) request
+    ∙ ap (λ (v : Configuration). of_parts other.request v one.openapi one.check one.files) config
+    ∙ ap (λ (v : Option Named). of_parts other.request other.config v one.check one.files) openapi
+    ∙ ap (λ (v : Option Named). of_parts other.request other.config other.openapi v one.files) check
+    ∙ ap (λ (v : List FileOf). of_parts other.request other.config other.openapi other.check v) files
+
+-- a file is one value in JSON
+one_value : (bytes : List ℕ) (value other : Data) → IsDocumentText bytes value → IsDocumentText bytes other → value ≡ other
+one_value bytes value other is also = same_Some value other (sym is.1.1 ∙ also.1.1)
+
+-- at a path stands one document
+one_document : (begun : Beginning) (path : Option (List ℕ)) → (IsSome path → IsTrue begun.tells) → (one other : Option Named) → IsDocumentAt begun.tells begun.held path one → IsDocumentAt begun.tells begun.held path other → one ≡ other
+one_document begun path told None None is also = refl
+one_document begun path told None (Some named) is also = absurd (none-some named.0 (sym is ∙ also.0))
+one_document begun path told (Some named) None is also = absurd (none-some named.0 (sym also ∙ is.0))
+one_document begun path told (Some named) (Some other) (is, x, x_at, x_is) (also, y, y_at, y_is) =
+    let tells = told (subst IsSome (sym is) refl) in
+    let paths : named.0 ≡ other.0 = same_Some named.0 other.0 (sym is ∙ also) in
+    let bytes = one_held (begun.held named.0) x y (x_at tells) (subst (λ p. begun.held p ≡ Some y) (sym paths) (y_at tells)) in
+    let values = one_value y named.1 other.1 (subst (λ b. IsDocumentText b named.1) bytes x_is) y_is in
+    ap₂ (λ (p : List ℕ) (v : Data). Some (p, v)) paths values
+
 module _ (one : OneConfiguration) (begun : Beginning) (told : IsTold begun) (sound : IsSound begun) where
   -- of what is sound, what a run is given is that
-  same_given : (also : Given) → IsGiven begun also → (sound.given.request ≡ also.request) × (sound.given.config ≡ also.config) × (sound.given.files ≡ also.files)
+  same_given : (also : Given) → IsGiven begun also → sound.given ≡ also
   same_given also is =
       let given = sound.given in
       let r = given.request in
       let requests = one_request begun.words r also.request sound.is_given.asked is.asked in
+      let named : (path : Option (List ℕ)) → ((name : List ℕ) → path ≡ Some name → IsOfOption r name) → IsSome path → IsTrue begun.tells =
+      λ path of some. let there = named_path path some in told.held there.0 (r, sound.is_given.asked, inl (of there.0 there.1)) in
       let config = subst (λ (q : Request). IsSaidBy IsConfigurationText begun.tells begun.held q.config also.config) (sym requests) is.config in
-      let named : IsSome r.config → IsTrue begun.tells =
-      λ some. let path = named_path r.config some in told.held path.0 (r, sound.is_given.asked, inl path.1) in
-      let configs = one_said begun one r.config named given.config also.config sound.is_given.config config in
+      let configs = one_said begun one r.config (named r.config (λ name e. inl e)) given.config also.config sound.is_given.config config in
+      let openapi = subst (λ (q : Request). IsDocumentAt begun.tells begun.held q.openapi also.openapi) (sym requests) is.openapi in
+      let apis = one_document begun r.openapi (named r.openapi (λ name e. inr (inl e))) given.openapi also.openapi sound.is_given.openapi openapi in
+      let check = subst (λ (q : Request). IsDocumentAt begun.tells begun.held q.check also.check) (sym requests) is.check in
+      let checks = one_document begun r.check (named r.check (λ name e. inr (inr e))) given.check also.check sound.is_given.check check in
       let at = subst (λ (q : Request). AreFilesAt (HasBytes begun) q.files also.files) (sym requests) is.files in
       let files = one_files begun r.files (λ is. told.left (r, sound.is_given.asked, is)) (λ path among is. told.held path (r, sound.is_given.asked, inr (among, is))) given.files also.files sound.is_given.files at in
-      (requests, configs, files)
+      all_same given also requests configs apis checks files
+
+  not_refused : (path report : List ℕ) (named : Option (List ℕ)) → named ≡ Some path → IsOfOption sound.given.request path → (document : Option Named) → IsDocumentAt begun.tells begun.held named document
+      → RefusesDocument begun.tells (begun.held path) path report → ⊥
+  not_refused path report named at of None is refused = absurd (none-some path (sym is ∙ at))
+  not_refused path report named at of (Some found) (is, bytes, held, value) refused =
+      let tells = told.held path (sound.given.request, sound.is_given.asked, inl of) in
+      let paths : found.0 ≡ path = same_Some found.0 path (sym is ∙ at) in
+      let same = one_held (begun.held path) bytes refused.bytes (subst (λ p. begun.held p ≡ Some bytes) paths (held tells)) (refused.is_held tells) in
+      refused.none found.1 (subst (λ b. IsDocumentText b found.1) same value)
 
   not_misconfigured : (report : List ℕ) → IsMisconfigured begun report → ⊥
-  not_misconfigured report m =
-      let given = sound.given in
-      let r = given.request in
-      let named = ap (λ (q : Request). q.config) (one_request begun.words r m.request sound.is_given.asked m.asked) ∙ m.named in
-      let said = subst (λ o. IsSaidBy IsConfigurationText begun.tells begun.held o given.config) named sound.is_given.config in
-      let tells = told.held m.path (r, sound.is_given.asked, inl named) in
-      m.refused.none given.config (subst (λ b. IsConfigurationText b given.config) (one_held (begun.held m.path) said.0 m.refused.bytes (said.1 tells) (m.refused.is_held tells)) said.2)
+  not_misconfigured report m = by m.refused
+    where
+      r : Request
+      r = sound.given.request
+
+      same : r ≡ m.request
+      same = one_request begun.words r m.request sound.is_given.asked m.asked
+
+      by : RefusesOption begun.tells begun.held m.request report → ⊥
+      by (inl (path, named, refused)) =
+          let at = ap (λ (q : Request). q.config) same ∙ named in
+          let said = subst (λ o. IsSaidBy IsConfigurationText begun.tells begun.held o sound.given.config) at sound.is_given.config in
+          let tells = told.held path (r, sound.is_given.asked, inl (inl at)) in
+          refused.none sound.given.config (subst (λ b. IsConfigurationText b sound.given.config) (one_held (begun.held path) said.0 refused.bytes (said.1 tells) (refused.is_held tells)) said.2)
+      by (inr (path, inl named, refused)) =
+          let at = ap (λ (q : Request). q.openapi) same ∙ named in
+          not_refused path report r.openapi at (inr (inl at)) sound.given.openapi sound.is_given.openapi refused
+      by (inr (path, inr named, refused)) =
+          let at = ap (λ (q : Request). q.check) same ∙ named in
+          not_refused path report r.check at (inr (inr at)) sound.given.check sound.is_given.check refused
 
   not_told : SoundAreNotTold → (report : List ℕ) → AreRefusedFiles begun report → ⊥
   not_told law report other =
       let also = other.given in
-      let same = same_given also other.is_given in
-      let here = subst (λ (q : Request). AreSound q.selection sound.given.config sound.given.files) same.0 sound.sound in
-      let there = subst (λ fs. AreSound also.request.selection also.config fs) same.2 (subst (λ c. AreSound also.request.selection c sound.given.files) same.1 here) in
-      law also.request.selection also.config also.files other.told there other.are_told
+      let here = subst (λ (g : Given). AreSound g.request.selection g.config g.files) (same_given also other.is_given) sound.sound in
+      law also.request.selection also.config also.files other.told here other.are_told
 
-  not_strict : (report : List ℕ) → AreStrictWarnings begun report → ⊥
-  not_strict report other =
-      let also = other.given in
-      let same = same_given also other.is_given in
-      let strict = subst (λ (q : Request). q.strict ≡ true) (sym same.0) other.strict in
-      let here = subst (λ (q : Request). AreDerivedFrom q.selection also.config also.files other.components other.warnings) (sym same.0) other.derived in
-      let there = subst (λ fs. AreDerivedFrom sound.given.request.selection sound.given.config fs other.components other.warnings) (sym same.2)
-      (subst (λ c. AreDerivedFrom sound.given.request.selection c also.files other.components other.warnings) (sym same.1) here) in
-      other.some (sound.calm strict other.components other.warnings there)
+  not_unwritten : (report : List ℕ) → AreUnwritten begun report → ⊥
+  not_unwritten report other =
+      let same = sym (same_given other.given other.is_given) in
+      let derived = subst (λ (g : Given). AreDerivedFrom g.request.selection g.config g.files other.components other.warnings) same other.derived in
+      sound.is_written other.components other.warnings derived report (subst (λ (g : Given). IsUnwritten (wanted_of g) other.components other.warnings report) same other.why)
 
 -- where a run is told what it is given, and that is sound, nothing is refused
 pub sound_run : OneConfiguration → SoundAreNotTold → SoundRunsAreNotRefused
 sound_run one law begun report told sound (inl m) = not_misconfigured one begun told sound report m
 sound_run one law begun report told sound (inr (inl other)) = not_told one begun told sound law report other
-sound_run one law begun report told sound (inr (inr other)) = not_strict one begun told sound report other
+sound_run one law begun report told sound (inr (inr other)) = not_unwritten one begun told sound report other

@@ -1,5 +1,5 @@
 -- What is read on the way.
-use Rattle.std.specs.Prelude.{◌≡◌, ◌≢◌, ◌<◌, ◌≤◌, ◌⊎◌, ℕ, List, ◌∷◌, [], ◌++◌, length, Bool, true, false, Option, Some, None}
+use Rattle.std.specs.Prelude.{◌≡◌, ◌<◌, ◌≤◌, ◌⊎◌, ℕ, List, ◌∷◌, [], ◌++◌, length, Bool, true, false, Option, Some, None}
 use Rattle.std.specs.Io.KnownBytes.{IsAtEnd}
 use Rattle.diag.specs.declared.error.DeriveError.{DeriveError}
 use Rattle.diag.specs.declared.error.DeriveError.TheVariants as error
@@ -20,9 +20,10 @@ use Rattle.file_derivation.specs.Outcomes.{AreDerivedFrom, AreTold}
 use Rattle.file_derivation.specs.Warned.{AreFirst}
 use Rattle.file_derivation.specs.declared.warned.Warnings.{Warnings}
 use Rattle.reporting.specs.Beginning.{Beginning}
-use Rattle.file_runs.specs.Given.{RefusesConfig, told_config}
+use Rattle.file_runs.specs.Given.{RefusesConfig, RefusesDocument, RefusesOption, told_config}
 use Rattle.file_runs.specs.Reports.{misuse_text, fault_line, answer_text}
-use Rattle.file_runs.specs.Words.{is_input, Ask, AskFor, AreMisused, IsOfInput, IsOfPath}
+use Rattle.file_runs.specs.Shown.{Wanted, IsUnwritten}
+use Rattle.file_runs.specs.Words.{is_input, Ask, AskFor, AreMisused, IsOfInput, IsOfOption, IsOfPath}
 use Rattle.file_runs.specs.declared.ending.Ending.{Ending}
 use Rattle.file_runs.specs.declared.ending.Ending.TheVariants.{Done, Refused, Usage, ReadFault, Memory, FileFault}
 use Rattle.file_runs.specs.declared.request.Misuse.{Misuse}
@@ -74,32 +75,44 @@ abbrev pub TellsConfig : (tells : Bool) → Option (List ℕ) → List ℕ → E
 TellsConfig tells held path (Refused report) = RefusesConfig tells held path report
 TellsConfig tells held path ending = TellsFile path ending
 
--- what ends a run of the request before anything is derived: its configuration says none, the input or a file cannot be read, or
--- memory ran out
+-- that the file at the path cannot be read, or is no document, or that memory ran out
+abbrev pub TellsDocument : (tells : Bool) → Option (List ℕ) → List ℕ → Ending → Type 0
+TellsDocument tells held path (Refused report) = RefusesDocument tells held path report
+TellsDocument tells held path ending = TellsFile path ending
+
+-- what ends it where the files of its options are read: one is refused or cannot be read, or memory ran out
+abbrev pub EndsOptions : (tells : Bool) (held : List ℕ → Option (List ℕ)) → Request → Ending → Type 0
+EndsOptions tells held r (Refused report) = RefusesOption tells held r report
+EndsOptions tells held r (FileFault report) = (path : List ℕ) × (cause : Cause) × IsOfOption r path × (report ≡ fault_line path cause)
+EndsOptions tells held r Memory = Unit {0}
+EndsOptions tells held r _ = ⊥
+
+-- what ends a run of the request before anything is derived: a file of an option is refused, the input or a file cannot be read,
+-- or memory ran out
 abbrev pub EndsReading : (tells : Bool) (held : List ℕ → Option (List ℕ)) → Request → Ending → Type 0
-EndsReading tells held r (Refused report) = (path : List ℕ) × (r.config ≡ Some path) × RefusesConfig tells (held path) path report
+EndsReading tells held r (Refused report) = RefusesOption tells held r report
 EndsReading tells held r (FileFault report) = (path : List ℕ) × (cause : Cause) × IsOfPath r path × (report ≡ fault_line path cause)
 EndsReading tells held r ReadFault = IsOfInput r
 EndsReading tells held r Memory = Unit {0}
 EndsReading tells held r _ = ⊥
 
--- by `strict` warnings end it, which the report tells, or memory ran out
-abbrev pub EndsStrict : (strict : Bool) → Warnings → Ending → Type 0
-EndsStrict strict warnings (Refused report) = (all : List Told) → AreFirst all warnings → (strict ≡ true) × (all ≢ []) × (report ≡ all_told all)
-EndsStrict strict warnings Memory = Unit {0}
-EndsStrict strict warnings _ = ⊥
+-- nothing is written of the components, which the report tells, or memory ran out
+abbrev pub EndsWriting : Wanted → List Entry → Warnings → Ending → Type 0
+EndsWriting w components warnings (Refused report) = (all : List Told) → AreFirst all warnings → IsUnwritten w components all report
+EndsWriting w components warnings Memory = Unit {0}
+EndsWriting w components warnings _ = ⊥
 
--- the files are refused, or by `--strict` what is warned of, which the report tells
-abbrev pub RefusesFiles : Request → Configuration → List FileOf → List ℕ → Type 0
-RefusesFiles r c files report =
-    ((told : List Told) × AreTold r.selection c files told × (report ≡ all_told told))
-    ⊎ ((components : List Entry) × (warnings : List Told) × AreDerivedFrom r.selection c files components warnings × (r.strict ≡ true) × (warnings ≢ []) × (report ≡ all_told warnings))
+-- the files are refused, or nothing is written of their components, which the report tells
+abbrev pub RefusesFiles : Wanted → Configuration → List FileOf → List ℕ → Type 0
+RefusesFiles w c files report =
+    ((told : List Told) × AreTold w.request.selection c files told × (report ≡ all_told told))
+    ⊎ ((components : List Entry) × (warnings : List Told) × AreDerivedFrom w.request.selection c files components warnings × IsUnwritten w components warnings report)
 
 -- what ends it where there is no document of the files that are gathered: they are refused, or memory ran out
-abbrev pub EndsDerivation : Request → Configuration → Gathered → Ending → Type 0
-EndsDerivation r c gathered (Refused report) = (files : List FileOf) → Gathers files gathered → RefusesFiles r c files report
-EndsDerivation r c gathered Memory = Unit {0}
-EndsDerivation r c gathered _ = ⊥
+abbrev pub EndsDerivation : Wanted → Configuration → Gathered → Ending → Type 0
+EndsDerivation w c gathered (Refused report) = (files : List FileOf) → Gathers files gathered → RefusesFiles w c files report
+EndsDerivation w c gathered Memory = Unit {0}
+EndsDerivation w c gathered _ = ⊥
 
 -- the error as the fault of the file at the path, with a part that is at fault, or that memory ran out
 abbrev pub TellsError : (IsFaulty : Option ConfigPart → Type 0) → List ℕ → DeriveError → Ending → Type 0

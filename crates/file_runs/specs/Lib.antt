@@ -1,5 +1,6 @@
 pub mod Contents
 pub mod Given
+pub mod Shown
 pub mod Owed
 pub mod Reports
 pub mod Words

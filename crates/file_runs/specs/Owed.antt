@@ -1,14 +1,15 @@
 -- What a run owes.
-use Rattle.std.specs.Prelude.{◌≡◌, ◌≢◌, ◌⊎◌, ℕ, List, [], Bool, true, IsTrue, IsSome, Option, Some, codes, Result, Ok, Err}
+use Rattle.std.specs.Prelude.{◌≡◌, ◌⊎◌, ℕ, List, [], true, IsTrue, IsSome, Option, Some, codes, Result, Ok, Err}
 use Rattle.files.specs.declared.cause.Cause.{Cause}
 use Rattle.streams.specs.Faults.{CountsFault}
-use Rattle.schema_core.specs.Document.{Entry, document, text_of}
+use Rattle.schema_core.specs.Document.{Entry}
 use Rattle.telling.specs.Told.{all_told}
 use Rattle.telling.specs.declared.told.Told.{Told}
 use Rattle.file_derivation.specs.Outcomes.{AreDerivedFrom, AreTold, AreSound}
 use Rattle.reporting.specs.Beginning.{Beginning}
-use Rattle.file_runs.specs.Given.{Given, IsGiven, RefusesConfig}
+use Rattle.file_runs.specs.Given.{Given, IsGiven, RefusesOption}
 use Rattle.file_runs.specs.Reports.{misuse_text, fault_line, answer_text}
+use Rattle.file_runs.specs.Shown.{Wanted, IsShown, IsUnwritten}
 use Rattle.file_runs.specs.Words.{Ask, AskFor, AreMisused, NameInput, NamePath}
 use Rattle.file_runs.specs.declared.document.Written.{Written}
 use Rattle.file_runs.specs.declared.ending.Ending.{Ending}
@@ -21,7 +22,11 @@ use Rattle.file_runs.specs.declared.status.Status.TheVariants.{Done, Refused, Us
 
 -- ---- documents and answers
 
--- The text is that of the document of the components of what is selected of the files that are given, and the report tells the
+-- what is asked for of what is given
+abbrev pub wanted_of : Given → Wanted
+wanted_of given = record { request = given.request; openapi = given.openapi; check = given.check }
+
+-- The text is what is written of the components of what is selected of the files that are given, and the report tells the
 -- warnings; by `--strict` there are none.
 pub record IsDocument (begun : Beginning) (text report : List ℕ) : Type 0 where
   pub given : Given
@@ -30,7 +35,7 @@ pub record IsDocument (begun : Beginning) (text report : List ℕ) : Type 0 wher
   pub warnings : List Told
   pub derived : AreDerivedFrom given.request.selection given.config given.files components warnings
   pub calm : given.request.strict ≡ true → warnings ≡ []
-  pub text_is : text ≡ text_of (document components)
+  pub shown : IsShown given.request given.openapi given.check components text
   pub report_is : report ≡ all_told warnings
 
 -- the words ask a question, which the text answers
@@ -42,13 +47,11 @@ IsDone begun text report = IsDocument begun text report ⊎ (IsAnswer begun text
 
 -- ---- refusals
 
--- The words name a configuration, and the file there says none, which the report tells.
+-- The words name a configuration, and the file there says none, or a document, and the file there is none, which the report tells.
 pub record IsMisconfigured (begun : Beginning) (report : List ℕ) : Type 0 where
   pub request : Request
   pub asked : AskFor begun.words request
-  pub path : List ℕ
-  pub named : request.config ≡ Some path
-  pub refused : RefusesConfig begun.tells (begun.held path) path report
+  pub refused : RefusesOption begun.tells begun.held request report
 
 -- There is no document of the files that are given, and the report tells why.
 pub record AreRefusedFiles (begun : Beginning) (report : List ℕ) : Type 0 where
@@ -58,19 +61,17 @@ pub record AreRefusedFiles (begun : Beginning) (report : List ℕ) : Type 0 wher
   pub are_told : AreTold given.request.selection given.config given.files told
   pub report_is : report ≡ all_told told
 
--- By `--strict` there is no document of what is warned of, and the report tells the warnings.
-pub record AreStrictWarnings (begun : Beginning) (report : List ℕ) : Type 0 where
+-- Nothing is written of what is derived, and the report tells why.
+pub record AreUnwritten (begun : Beginning) (report : List ℕ) : Type 0 where
   pub given : Given
   pub is_given : IsGiven begun given
-  pub strict : given.request.strict ≡ true
   pub components : List Entry
   pub warnings : List Told
   pub derived : AreDerivedFrom given.request.selection given.config given.files components warnings
-  pub some : warnings ≢ []
-  pub report_is : report ≡ all_told warnings
+  pub why : IsUnwritten (wanted_of given) components warnings report
 
 abbrev pub IsRefused : Beginning → List ℕ → Type 0
-IsRefused begun report = IsMisconfigured begun report ⊎ AreRefusedFiles begun report ⊎ AreStrictWarnings begun report
+IsRefused begun report = IsMisconfigured begun report ⊎ AreRefusedFiles begun report ⊎ AreUnwritten begun report
 
 -- ---- what is owed
 
@@ -150,12 +151,6 @@ IsEnding begun ending = Owed begun (status_of ending) (document_of ending) (repo
 abbrev pub IsEndingAt : Beginning → Result Written Ending → Type 0
 IsEndingAt begun result = IsEnding begun (ending_of result)
 
--- this is written of the components and the warnings; by `--strict` there are none of these
-pub record IsWritten (strict : Bool) (components : List Entry) (warnings : List Told) (written : Written) : Type 0 where
-  pub calm : strict ≡ true → warnings ≡ []
-  pub text_is : written.document ≡ text_of (document components)
-  pub report_is : written.report ≡ all_told warnings
-
 -- ---- what is sound
 
 -- The run is told what it is given: what the files hold, and what the input has left, where the words name them.
@@ -163,13 +158,13 @@ pub record IsTold (begun : Beginning) : Type 0 where
   pub held : (path : List ℕ) → NamePath begun.words path → IsTrue begun.tells
   pub left : NameInput begun.words → IsSome begun.left
 
--- what a run is given, of which nothing is refused, nor warned of by `--strict`
+-- what a run is given, of which nothing is refused, and all is written
 pub record IsSound (begun : Beginning) : Type 0 where
   pub given : Given
   pub is_given : IsGiven begun given
   pub sound : AreSound given.request.selection given.config given.files
-  pub calm : given.request.strict ≡ true → (components : List Entry) (warnings : List Told)
-      → AreDerivedFrom given.request.selection given.config given.files components warnings → warnings ≡ []
+  pub is_written : (components : List Entry) (warnings : List Told) → AreDerivedFrom given.request.selection given.config given.files components warnings
+      → (report : List ℕ) → ¬ (IsUnwritten (wanted_of given) components warnings report)
 
 -- The law: where a run is told what it is given, and that is sound, nothing is refused.
 abbrev pub SoundRunsAreNotRefused : Type 0

@@ -2,10 +2,12 @@
 use Rattle.std.specs.Prelude.{ℕ, List, ◌++◌, codes}
 use Rattle.files.specs.declared.cause.Cause.{Cause}
 use Rattle.files.specs.declared.cause.Cause.TheVariants.{Missing, Denied, IsFolder, Unknown}
+use Rattle.documents.specs.declared.comparing.Difference.{Difference}
+use Rattle.documents.specs.declared.comparing.Difference.TheVariants.{Missing as Absent, Surplus, Another, Elsewhere}
 use Rattle.file_runs.specs.declared.request.Question.{Question}
 use Rattle.file_runs.specs.declared.request.Question.TheVariants.{Help, Version}
 use Rattle.file_runs.specs.declared.request.Valued.{Valued}
-use Rattle.file_runs.specs.declared.request.Valued.TheVariants.{Config, Only, Exclude}
+use Rattle.file_runs.specs.declared.request.Valued.TheVariants.{Config, Only, Exclude, OpenApi, Check}
 use Rattle.file_runs.specs.declared.request.Misuse.{Misuse}
 use Rattle.file_runs.specs.declared.request.Misuse.TheVariants.{UnknownOption, NoValue, GivenTwice, InputTwice, NoFile}
 use Rattle.file_runs.specs.declared.reports.TheConstants.{HELP, VERSION}
@@ -14,6 +16,8 @@ abbrev pub option_name : Valued → List ℕ
 option_name Config = codes "--config"
 option_name Only = codes "--only"
 option_name Exclude = codes "--exclude"
+option_name OpenApi = codes "--openapi"
+option_name Check = codes "--check"
 
 -- how words are misused, and how to use the program
 abbrev pub misuse_line : Misuse → List ℕ
@@ -35,6 +39,23 @@ cause_text Unknown = codes "reading it failed"
 
 abbrev pub fault_line : List ℕ → Cause → List ℕ
 fault_line path cause = path ++ codes ": cannot be read: " ++ cause_text cause ++ codes "\n"
+
+-- why a document that an option names is not taken: it is no JSON, or too long; no OpenAPI document; or has a schema of the name
+abbrev pub document_line : List ℕ → List ℕ
+document_line path = path ++ codes ": BadConfig: this is no JSON of at most 16777216 bytes\n"
+
+abbrev pub openapi_line : List ℕ → List ℕ
+openapi_line path = path ++ codes ": BadConfig: this is no OpenAPI document: a JSON object, whose components and their schemas are objects\n"
+
+abbrev pub taken_line : (path name : List ℕ) → List ℕ
+taken_line path name = path ++ (codes ": DuplicateName: the document has a schema " ++ (name ++ codes " of its own\n"))
+
+-- how the document at the path differs
+abbrev pub difference_line : List ℕ → Difference → List ℕ
+difference_line path (Absent name) = path ++ (codes ": " ++ (name ++ codes " is missing\n"))
+difference_line path (Surplus name) = path ++ (codes ": " ++ (name ++ codes " is described no more\n"))
+difference_line path (Another name) = path ++ (codes ": " ++ (name ++ codes " is another\n"))
+difference_line path Elsewhere = path ++ codes ": what stands beside the schemas is another\n"
 
 -- what answers a question
 abbrev pub answer_text : Question → List ℕ

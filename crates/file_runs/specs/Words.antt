@@ -1,13 +1,16 @@
 -- What the words after the program's name ask for, by the conventions of Unix tools (POSIX, "Utility Syntax Guidelines"; GNU,
 -- "Program Argument Syntax Conventions"): each word is one step, and the words are taken one after the other.
-use Rattle.std.specs.Prelude.{◌≡◌, ◌⊎◌, ℕ, List, [], ◌∷◌, ◌++◌, Bool, true, false, not, cond, ◌&&◌, take, drop, codes, is_some, Option, Some, None, Result, Ok, Err}
+use Rattle.std.specs.Prelude.{◌≡◌, ◌≤◌, ◌⊎◌, ℕ, List, [], ◌∷◌, ◌++◌, Bool, true, false, not, cond, ◌&&◌, length, take, drop, codes, is_some, Option, Some, None, Result, Ok, Err}
 use Rattle.std.specs.Option.{option_or}
 use Rattle.std.specs.Str.{bytes_eq}
 use Rattle.texts.specs.Names.{is_in}
+use Rattle.gathering.specs.Files.{most_bytes}
 use Rattle.file_runs.specs.declared.request.Question.{Question}
 use Rattle.file_runs.specs.declared.request.Question.TheVariants.{Help, Version}
+use Rattle.file_runs.specs.declared.request.Flag.{Flag}
+use Rattle.file_runs.specs.declared.request.Flag.TheVariants.{Serde, Strict, AnyOf, Pretty, SkipRefused}
 use Rattle.file_runs.specs.declared.request.Valued.{Valued}
-use Rattle.file_runs.specs.declared.request.Valued.TheVariants.{Config, Only, Exclude}
+use Rattle.file_runs.specs.declared.request.Valued.TheVariants.{Config, Only, Exclude, OpenApi, Check}
 use Rattle.file_runs.specs.declared.request.Misuse.{Misuse}
 use Rattle.file_runs.specs.declared.request.Misuse.TheVariants.{UnknownOption, NoValue, GivenTwice, InputTwice, NoFile}
 use Rattle.file_runs.specs.declared.request.Request.{Request}
@@ -19,9 +22,19 @@ use Rattle.file_runs.specs.declared.arguments.Stop.TheVariants as stop
 abbrev pub is : List ℕ → List ℕ → Bool
 is text word = is_in word (text ∷ [])
 
+-- the option without a value that the word is
+abbrev pub flag_of : List ℕ → Option Flag
+flag_of word =
+    cond (is (codes "--serde") word) (Some Serde)
+    (cond (is (codes "--strict") word) (Some Strict)
+    (cond (is (codes "--any-of") word) (Some AnyOf) (cond (is (codes "--pretty") word) (Some Pretty) (cond (is (codes "--skip-refused") word) (Some SkipRefused) None))))
+
 -- the option whose value is the next word
 abbrev pub valued_of : List ℕ → Option Valued
-valued_of word = cond (is (codes "--config") word) (Some Config) (cond (is (codes "--only") word) (Some Only) (cond (is (codes "--exclude") word) (Some Exclude) None))
+valued_of word =
+    cond (is (codes "--config") word) (Some Config)
+    (cond (is (codes "--only") word) (Some Only)
+    (cond (is (codes "--exclude") word) (Some Exclude) (cond (is (codes "--openapi") word) (Some OpenApi) (cond (is (codes "--check") word) (Some Check) None))))
 
 -- ---- questions, which are answered whatever else the words say
 
@@ -45,7 +58,9 @@ abbrev pub given_of : List ℕ → Option (Valued × List ℕ)
 given_of word =
     cond (bytes_eq (take 9 word) (codes "--config=")) (Some (Config, drop 9 word))
     (cond (bytes_eq (take 7 word) (codes "--only=")) (Some (Only, drop 7 word))
-    (cond (bytes_eq (take 10 word) (codes "--exclude=")) (Some (Exclude, drop 10 word)) None))
+    (cond (bytes_eq (take 10 word) (codes "--exclude=")) (Some (Exclude, drop 10 word))
+    (cond (bytes_eq (take 10 word) (codes "--openapi=")) (Some (OpenApi, drop 10 word))
+    (cond (bytes_eq (take 8 word) (codes "--check=")) (Some (Check, drop 8 word)) None))))
 
 -- the path of the input
 abbrev pub is_input : List ℕ → Bool
@@ -64,6 +79,8 @@ abbrev pub with_value : Valued → List ℕ → Request → Result Request Misus
 with_value Config path r = once Config r.config (record r { config = Some path })
 with_value Only name r = Ok (record r { selection = record r.selection { only = r.selection.only ++ name ∷ [] } })
 with_value Exclude name r = Ok (record r { selection = record r.selection { exclude = r.selection.exclude ++ name ∷ [] } })
+with_value OpenApi path r = once OpenApi r.openapi (record r { openapi = Some path })
+with_value Check path r = once Check r.check (record r { check = Some path })
 
 abbrev pub with_file : List ℕ → Request → Result Request Misuse
 with_file path r = cond (is_input path && is_in path r.files) (Err InputTwice) (Ok (record r { files = r.files ++ path ∷ [] }))
@@ -82,15 +99,20 @@ abbrev pub with_valued : Option Valued → List ℕ → State → Result State M
 with_valued (Some valued) word s = Ok (record s { pending = Some valued })
 with_valued None word s = with_given (given_of word) word s
 
-abbrev pub with_serde : Request → Request
-with_serde r = record r { selection = record r.selection { serde = true } }
+abbrev pub with_flag : Flag → Request → Request
+with_flag Serde r = record r { selection = record r.selection { serde = true } }
+with_flag Strict r = record r { strict = true }
+with_flag AnyOf r = record r { any_of = true }
+with_flag Pretty r = record r { pretty = true }
+with_flag SkipRefused r = record r { selection = record r.selection { skip_refused = true } }
+
+abbrev pub with_flagged : Option Flag → List ℕ → State → Result State Misuse
+with_flagged (Some flag) word s = Ok (record s { request = with_flag flag s.request })
+with_flagged None word s = with_valued (valued_of word) word s
 
 -- where options may stand
 abbrev pub with_option : List ℕ → State → Result State Misuse
-with_option word s =
-    cond (is (codes "--serde") word) (Ok (record s { request = with_serde s.request }))
-    (cond (is (codes "--strict") word) (Ok (record s { request = record s.request { strict = true } }))
-    (cond (is (codes "--") word) (Ok (record s { ended = true })) (with_valued (valued_of word) word s)))
+with_option word s = cond (is (codes "--") word) (Ok (record s { ended = true })) (with_flagged (flag_of word) word s)
 
 -- a value of the option before it, or a file behind `--`, or what stands where options may
 abbrev pub with_word : Option Valued → List ℕ → State → Result State Misuse
@@ -109,7 +131,16 @@ after (word ∷ words) s = and_then (after words) (with_word s.pending word s)
 
 abbrev pub nothing_asked : State
 nothing_asked = record {
-  request = record { selection = record { serde = false; only = []; exclude = [] }; strict = false; config = None; files = [] };
+  request = record {
+    selection = record { serde = false; only = []; exclude = []; skip_refused = false };
+    strict = false;
+    any_of = false;
+    pretty = false;
+    config = None;
+    openapi = None;
+    check = None;
+    files = [];
+  };
   pending = None;
   ended = false;
 }
@@ -142,12 +173,27 @@ AskFor words request = (question_in words ≡ None) × (asked words ≡ Ok reque
 abbrev pub AreMisused : List (List ℕ) → Misuse → Type 0
 AreMisused words misuse = (question_in words ≡ None) × (asked words ≡ Err misuse)
 
--- the request names the input, and the file at the path, as its configuration or among its files
+-- the request names the document at the path: its OpenAPI document, or the one that it compares with
+abbrev pub IsOfDocument : Request → List ℕ → Type 0
+IsOfDocument r path = (r.openapi ≡ Some path) ⊎ (r.check ≡ Some path)
+
+-- the path stands in an option of the request
+abbrev pub IsOfOption : Request → List ℕ → Type 0
+IsOfOption r path = (r.config ≡ Some path) ⊎ IsOfDocument r path
+
+-- the request names the input, and the file at the path, in an option or among its files
 abbrev pub IsOfInput : Request → Type 0
 IsOfInput r = is_in (codes "-") r.files ≡ true
 
 abbrev pub IsOfPath : Request → List ℕ → Type 0
-IsOfPath r path = (r.config ≡ Some path) ⊎ ((is_in path r.files ≡ true) × (is_input path ≡ false))
+IsOfPath r path = IsOfOption r path ⊎ ((is_in path r.files ≡ true) × (is_input path ≡ false))
+
+-- the request names the input, and all of it is read: nothing is left out, or it is told, and not too long
+abbrev pub IsOfWholeInput : Request → (left : Option (List ℕ)) → Type 0
+IsOfWholeInput r left = IsOfInput r × ((r.selection.skip_refused ≡ false) ⊎ ((text : List ℕ) × (left ≡ Some text) × (length text ≤ most_bytes)))
+
+abbrev pub NameWholeInput : List (List ℕ) → (left : Option (List ℕ)) → Type 0
+NameWholeInput words left = (request : Request) × AskFor words request × IsOfWholeInput request left
 
 abbrev pub NameInput : List (List ℕ) → Type 0
 NameInput words = (request : Request) × AskFor words request × IsOfInput request

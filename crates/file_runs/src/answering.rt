@@ -9,7 +9,7 @@ ghost use Rattle.configuration.specs.Said.{IsSaidBy};
 ghost use Rattle.reporting.specs.Beginning.{Beginning};
 ghost use Rattle.file_runs.specs.Contents.{Begins};
 ghost use Rattle.file_runs.specs.Owed.{IsEndingAt, status_at, report_at, FailsAt};
-ghost use Rattle.file_runs.specs.Words.{IsOfInput, IsOfPath};
+ghost use Rattle.file_runs.specs.Words.{IsOfInput, IsOfWholeInput, IsOfPath};
 
 use crate::document::{Written, document_text, read};
 use crate::ending::Ending;
@@ -31,8 +31,8 @@ pub fn answer<S: Source, F: Files>(
     ensures owed { (begun : Beginning)
         → Begins S.Source F.Files request.now input.old files.old begun
         → IsEndingAt begun result }
-    ensures end { status_at result ≡ Status.Done → IsOfInput request.now
-        → IsAtEnd (S.left input.new) }
+    ensures end { status_at result ≡ Status.Done
+        → IsOfWholeInput request.now (S.left input.old) → IsAtEnd (S.left input.new) }
     ensures unread { ¬ (IsOfInput request.now) → input.new ≡ input.old }
     ensures unread_config { ((c : Configuration) → ¬ (IsSaidBy IsConfigurationText
         (F.tells files.old) (F.held files.old) request.now.config c)) → input.new ≡ input.old }

@@ -1,9 +1,9 @@
 //! How words are taken, one after the other.
 
-ghost use Rattle.std.specs.Prelude.{◌≡◌, map, option_map, string_bytes};
-ghost use Rattle.file_runs.specs.Words.{question_of, question_in, valued_of, given_of, is_option, with_value, with_file, with_given, with_option, with_word, at_end, nothing_asked, asked, Answers};
+ghost use Rattle.std.specs.Prelude.{◌≡◌, ◌≢◌, None, map, option_map, string_bytes, IfOk, IfErr};
+ghost use Rattle.file_runs.specs.Words.{question_of, question_in, flag_of, valued_of, given_of, is_option, with_value, with_file, with_given, with_flag, with_option, with_word, at_end, nothing_asked, asked, Answers};
 
-use crate::request::{Misuse, Question, Request, Valued};
+use crate::request::{Flag, Misuse, Question, Request, Valued};
 use gathering::{Selection, is_in};
 use std::alloc::{AllocError, Global};
 use texts::{List, Text};
@@ -48,7 +48,21 @@ fn question_of(word: &str) -> Option<Question>
     }
 }
 
-/// The option of the name.
+/// The option of the name that has no value.
+fn flag_of(word: &str) -> Option<Flag>
+    ensures { result ≡ flag_of word.now }
+{
+    match word {
+        "--serde" => Some(Flag::Serde),
+        "--strict" => Some(Flag::Strict),
+        "--any-of" => Some(Flag::AnyOf),
+        "--pretty" => Some(Flag::Pretty),
+        "--skip-refused" => Some(Flag::SkipRefused),
+        _ => None,
+    }
+}
+
+/// The option of the name that has a value.
 fn valued_of(word: &str) -> Option<Valued>
     ensures { result ≡ valued_of word.now }
 {
@@ -56,6 +70,8 @@ fn valued_of(word: &str) -> Option<Valued>
         "--config" => Some(Valued::Config),
         "--only" => Some(Valued::Only),
         "--exclude" => Some(Valued::Exclude),
+        "--openapi" => Some(Valued::OpenApi),
+        "--check" => Some(Valued::Check),
         _ => None,
     }
 }
@@ -90,8 +106,14 @@ fn given_of(word: &str) -> Option<(Valued, &str)>
     if let Some(name) = word.strip_prefix("--only=") {
         return Some((Valued::Only, name));
     }
-    match word.strip_prefix("--exclude=") {
-        Some(name) => Some((Valued::Exclude, name)),
+    if let Some(name) = word.strip_prefix("--exclude=") {
+        return Some((Valued::Exclude, name));
+    }
+    if let Some(path) = word.strip_prefix("--openapi=") {
+        return Some((Valued::OpenApi, path));
+    }
+    match word.strip_prefix("--check=") {
+        Some(path) => Some((Valued::Check, path)),
         None => None,
     }
 }
@@ -102,6 +124,18 @@ fn is_option(word: &str) -> bool
     word.starts_with("-") && word != "-"
 }
 
+/// Refuses an option that may be given once, and was given before.
+fn once(valued: Valued, before: &Option<Text>) -> Result<(), Stop>
+    ensures once { IfOk result (λ _. before.now ≡ None) }
+    ensures twice { IfErr result (λ stop. (stop ≡ Stop.Misused (Misuse.GivenTwice valued))
+        × (before.now ≢ None)) }
+{
+    match before {
+        Some(_) => Err(Stop::Misused(Misuse::GivenTwice(valued))),
+        None => Ok(()),
+    }
+}
+
 /// What is asked for with the value of the option, too.
 fn with_value(alloc: Global, request: Request, valued: Valued, value: &str) -> Result<Request, Stop>
     ensures { Answers (with_value valued value.now request) result }
@@ -110,13 +144,19 @@ fn with_value(alloc: Global, request: Request, valued: Valued, value: &str) -> R
     let value = Text::new(alloc, value)?;
     match valued {
         Valued::Config => {
-            if request.config.is_some() {
-                return Err(Stop::Misused(Misuse::GivenTwice(valued)));
-            }
+            once(valued, &request.config)?;
             request.config = Some(value);
         }
         Valued::Only => request.selection.only.push(value)?,
         Valued::Exclude => request.selection.exclude.push(value)?,
+        Valued::OpenApi => {
+            once(valued, &request.openapi)?;
+            request.openapi = Some(value);
+        }
+        Valued::Check => {
+            once(valued, &request.check)?;
+            request.check = Some(value);
+        }
     }
     Ok(request)
 }
@@ -154,21 +194,30 @@ fn with_given(alloc: Global, state: State, word: &str) -> Result<State, Stop>
     })
 }
 
+/// Asks for what the option says.
+fn set_flag(request: &mut Request, flag: Flag)
+    ensures { request.new ≡ with_flag flag request.old }
+{
+    match flag {
+        Flag::Serde => request.selection.serde = true,
+        Flag::Strict => request.strict = true,
+        Flag::AnyOf => request.any_of = true,
+        Flag::Pretty => request.pretty = true,
+        Flag::SkipRefused => request.selection.skip_refused = true,
+    }
+}
+
 /// One word further, where options may stand.
 fn with_option(alloc: Global, state: State, word: &str) -> Result<State, Stop>
     ensures { Answers (with_option word.now state) result }
 {
     let mut state = state;
-    if word == "--serde" {
-        state.request.selection.serde = true;
-        return Ok(state);
-    }
-    if word == "--strict" {
-        state.request.strict = true;
-        return Ok(state);
-    }
     if word == "--" {
         state.ended = true;
+        return Ok(state);
+    }
+    if let Some(flag) = flag_of(word) {
+        set_flag(&mut state.request, flag);
         return Ok(state);
     }
     match valued_of(word) {
@@ -229,9 +278,14 @@ fn nothing_asked(alloc: Global) -> State
                 serde: false,
                 only: List::new(alloc),
                 exclude: List::new(alloc),
+                skip_refused: false,
             },
             strict: false,
+            any_of: false,
+            pretty: false,
             config: None,
+            openapi: None,
+            check: None,
             files: List::new(alloc),
         },
         pending: None,

@@ -1,6 +1,6 @@
 //! The document of the files that words name.
 
-ghost use Rattle.std.specs.Prelude.{◌≡◌, ◌≢◌, ◌<◌, ℕ, List as AnyList, MatchBool, IfOk, IfErr, Some, true};
+ghost use Rattle.std.specs.Prelude.{◌≡◌, ◌≢◌, ◌<◌, ℕ, List as AnyList, MatchBool, option_map, IfOk, IfErr, Some, true};
 ghost use Rattle.schema_core.specs.Document.{Entry};
 ghost use Rattle.streams.specs.Faults.{CountsFault};
 ghost use Rattle.configuration.specs.Configuration.{Configuration};
@@ -10,19 +10,21 @@ ghost use Rattle.gathering.specs.Files.{FileOf, Gathers};
 ghost use Rattle.telling.specs.declared.told.Told.{Told as AnyTold};
 ghost use Rattle.file_derivation.specs.Outcomes.{AreDerivedFrom};
 ghost use Rattle.file_derivation.specs.Warned.{AreFirst};
-ghost use Rattle.file_runs.specs.Contents.{IsTextAt, EndsReading, EndsStrict, EndsDerivation};
-ghost use Rattle.file_runs.specs.Given.{AreFilesAt};
-ghost use Rattle.file_runs.specs.Owed.{status_at, report_at, FailsAt, IsWritten};
+ghost use Rattle.file_runs.specs.Contents.{IsTextAt, EndsReading, EndsWriting, EndsDerivation};
+ghost use Rattle.file_runs.specs.Given.{AreFilesAt, IsDocumentAt, named_view};
+ghost use Rattle.file_runs.specs.Owed.{status_at, report_at, FailsAt};
+ghost use Rattle.file_runs.specs.Shown.{wanted, IsWritten};
 ghost use Rattle.file_runs.specs.Words.{IsOfInput, IsOfPath};
 
-use crate::configured::config_at;
 use crate::contents::contents_of;
 use crate::ending::Ending;
+use crate::named::NamedDocument;
+use crate::options::{Options, options_at};
 use crate::reading::gather;
 use crate::request::Request;
+use crate::showing::{Unshown, shown};
 use crate::status::Status;
 use compose::Derived;
-use configuration::Config;
 use file_derivation::{Outcome, Warnings, derive_gathered};
 use files::Files;
 use gathering::Gathered;
@@ -31,14 +33,14 @@ use streams::Source;
 use telling::{all_told, first_told};
 use texts::Text;
 
-/// What is read for a request: its configuration, and its files.
+/// What is read for a request: what its options name, and its files.
 #[derive(Drop)]
 pub(crate) struct Reading {
-    pub(crate) config: Config,
+    pub(crate) options: Options,
     pub(crate) gathered: Gathered,
 }
 
-/// What the request names: its configuration, then the input, then the files, in their order.
+/// What the request names: what its options do, then the input, then the files, in their order.
 pub(crate) fn read<S: Source, F: Files>(
     alloc: Global,
     request: &Request,
@@ -46,7 +48,11 @@ pub(crate) fn read<S: Source, F: Files>(
     files: &mut F,
 ) -> Result<Reading, Ending>
     ensures said { IfOk result (λ reading. IsSaidBy IsConfigurationText (F.tells files.old)
-        (F.held files.old) request.now.config reading.config) }
+        (F.held files.old) request.now.config reading.options.config) }
+    ensures openapi { IfOk result (λ reading. IsDocumentAt (F.tells files.old)
+        (F.held files.old) request.now.openapi (option_map named_view reading.options.openapi)) }
+    ensures check { IfOk result (λ reading. IsDocumentAt (F.tells files.old)
+        (F.held files.old) request.now.check (option_map named_view reading.options.check)) }
     ensures gathered { IfOk result (λ reading. (of : AnyList FileOf)
         × AreFilesAt (IsTextAt (F.tells files.old) (F.held files.old) (S.left input.old)
         (S.left input.new)) request.now.files of × Gathers of reading.gathered) }
@@ -67,10 +73,10 @@ pub(crate) fn read<S: Source, F: Files>(
         × IsOfPath request.now path × FailsAt (F.faults files.old) (F.faults files.new)
         (F.failed files.new) (F.why files.new) path (report_at result) }
 {
-    let config = config_at(alloc, request, files)?;
+    let options = options_at(alloc, request, files)?;
     let contents = contents_of(alloc, request, input)?;
     let gathered = gather(alloc, request.files.as_slice(), &contents, files)?;
-    Ok(Reading { config, gathered })
+    Ok(Reading { options, gathered })
 }
 
 /// The text of a document, and what is reported beside it.
@@ -88,28 +94,35 @@ fn are_refused(strict: bool, warnings: &Warnings) -> bool
     strict && warnings.count > 0
 }
 
-/// The document of what is derived, with what it is warned of; by `strict` warnings end the run.
-fn document_with(
+/// What is written of the components, with what they are warned of; by `strict` warnings end the run.
+fn written_of(
     alloc: Global,
-    strict: bool,
+    request: &Request,
+    openapi: Option<NamedDocument>,
+    check: &Option<NamedDocument>,
     derived: &Derived,
     warnings: &Warnings,
 ) -> Result<Written, Ending>
     ensures written { IfOk result (λ w. (all : AnyList AnyTold) → AreFirst all warnings.now
-        → IsWritten strict derived.now.components all w) }
-    ensures ending { IfErr result (EndsStrict strict warnings.now) }
+        → IsWritten (wanted request.now openapi check.now) derived.now.components all w) }
+    ensures ending { IfErr result (EndsWriting (wanted request.now openapi check.now)
+        derived.now.components warnings.now) }
 {
-    let report = first_told(alloc, warnings.told.as_slice(), warnings.count)?;
-    if are_refused(strict, warnings) {
+    let mut report = first_told(alloc, warnings.told.as_slice(), warnings.count)?;
+    if are_refused(request.strict, warnings) {
         return Err(Ending::Refused(report));
     }
-    Ok(Written {
-        document: derived.components.to_text(alloc)?,
-        report,
-    })
+    match shown(alloc, request, openapi, check, &derived.components) {
+        Ok(document) => Ok(Written { document, report }),
+        Err(Unshown::Line(line)) => {
+            report.push(line.as_str())?;
+            Err(Ending::Refused(report))
+        }
+        Err(Unshown::Memory) => Err(Ending::Memory),
+    }
 }
 
-/// The document's text of what is selected of the files, and what is warned of; by `strict` warnings are refusals.
+/// What is written of what is selected of the files, and what is warned of.
 pub(crate) fn document_text(
     alloc: Global,
     request: &Request,
@@ -117,15 +130,22 @@ pub(crate) fn document_text(
 ) -> Result<Written, Ending>
     ensures document { IfOk result (λ w. (files : AnyList FileOf)
         → Gathers files reading.gathered → (components : AnyList Entry) × (all : AnyList AnyTold)
-        × AreDerivedFrom request.now.selection reading.config files components all
-        × IsWritten request.now.strict components all w) }
+        × AreDerivedFrom request.now.selection reading.options.config files components all
+        × IsWritten (wanted request.now reading.options.openapi reading.options.check)
+        components all w) }
     ensures ending { IfErr result
-        (EndsDerivation request.now reading.config reading.gathered) }
+        (EndsDerivation (wanted request.now reading.options.openapi reading.options.check)
+        reading.options.config reading.gathered) }
 {
-    let Reading { config, gathered } = reading;
+    let Reading { options, gathered } = reading;
+    let Options {
+        config,
+        openapi,
+        check,
+    } = options;
     match derive_gathered(alloc, gathered, &request.selection, config)? {
         Outcome::Derived(derived, warnings) => {
-            document_with(alloc, request.strict, &derived, &warnings)
+            written_of(alloc, request, openapi, &check, &derived, &warnings)
         }
         Outcome::Refused(told) => Err(Ending::Refused(all_told(alloc, told.as_slice())?)),
     }

@@ -8,10 +8,13 @@ mod contents;
 mod document;
 mod ending;
 mod law;
+mod named;
+mod options;
 mod program;
 mod reading;
 mod reports;
 mod request;
+mod showing;
 mod status;
 
 pub use answering::answer;
@@ -21,10 +24,12 @@ pub use ending::Ending;
 pub use files::{Cause, FileAnswer, FileBytes, Files, HonestFiles, MemoryFiles, StdFiles};
 pub use gathering::Selection;
 pub use law::sound_runs_are_not_refused;
+pub use named::NamedDocument;
 pub use program::run;
 pub use reporting::Words;
 pub use reports::{HELP, VERSION, answer_text, misuse_text};
-pub use request::{Misuse, Question, Request, Valued};
+pub use request::{Flag, Misuse, Question, Request, Valued};
+pub use showing::Unshown;
 pub use status::Status;
 pub use streams::{
     Failed, HonestSink, HonestSource, MemorySink, MemorySource, Sink, Source, StdSink, StdSource,

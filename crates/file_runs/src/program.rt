@@ -10,7 +10,7 @@ ghost use Rattle.file_runs.specs.Contents.{EndsWords};
 ghost use Rattle.file_runs.specs.Given.{IsConfiguredBy};
 ghost use Rattle.file_runs.specs.Owed.{IsDone, IsRefused, IsTold, IsSound, Owed, IsEnding, FailsAt, status_of, report_of, answered_by, ending_of};
 ghost use Rattle.file_runs.specs.Reports.{misuse_text, fault_line};
-ghost use Rattle.file_runs.specs.Words.{Ask, AskFor, AreMisused, NameInput, NamePath};
+ghost use Rattle.file_runs.specs.Words.{Ask, AskFor, AreMisused, NameInput, NameWholeInput, NamePath};
 ghost use Rattle.file_runs.specs.declared.request.Misuse.{Misuse as AnyMisuse};
 ghost use Rattle.file_runs.specs.declared.request.Question.{Question as AnyQuestion};
 ghost use Rattle.file_runs.specs.declared.request.Request.{Request as AnyRequest};
@@ -67,7 +67,7 @@ fn ending_of(answered: Result<Written, Ending>) -> Ending
 /// How a run with these words ends, before anything is written.
 fn end_of<S: Source, F: Files>(alloc: Global, words: &Words, input: &mut S, files: &mut F) -> Ending
     ensures owed { IsEnding (beginning_of S.Source F.Files words.now input.old files.old) result }
-    ensures end { status_of result ≡ Status.Done → NameInput words.now
+    ensures end { status_of result ≡ Status.Done → NameWholeInput words.now (S.left input.old)
         → IsAtEnd (S.left input.new) }
     ensures unread { ¬ (NameInput words.now) → input.new ≡ input.old }
     ensures unread_config { ((c : Configuration) → ¬ (IsConfiguredBy
@@ -157,7 +157,8 @@ pub fn run<S: Source, F: Files, O: Sink, E: Sink>(
     ensures out_kept { result ≢ Status.Done → result ≢ Status.WriteFault
         → Keeps (O.written out.old) (O.written out.new) }
     ensures err_kept { result ≡ Status.Memory → Keeps (E.written err.old) (E.written err.new) }
-    // Faults have causes, and after `Done` the input that the words name has nothing left.
+    // Faults have causes, and after `Done` the input that the words name has nothing left, unless it
+    // is left out.
     ensures read_fault { result ≡ Status.ReadFault → NameInput words.now }
     ensures read_count { result ≡ Status.ReadFault
         → CountsFault (S.faults input.old) (S.faults input.new) }
@@ -170,7 +171,8 @@ pub fn run<S: Source, F: Files, O: Sink, E: Sink>(
     ensures write_fault { result ≡ Status.WriteFault
         → CountsFault (O.faults out.old) (O.faults out.new)
         ⊎ CountsFault (E.faults err.old) (E.faults err.new) }
-    ensures end { result ≡ Status.Done → NameInput words.now → IsAtEnd (S.left input.new) }
+    ensures end { result ≡ Status.Done → NameWholeInput words.now (S.left input.old)
+        → IsAtEnd (S.left input.new) }
     ensures input_calm { result ≢ Status.ReadFault → result ≢ Status.WriteFault
         → S.faults input.new ≡ S.faults input.old }
     // (where there is no memory to tell which file failed, the run ends for want of memory)

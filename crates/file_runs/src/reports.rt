@@ -25,6 +25,11 @@ for tests alone. All files together declare what is described, and no two of the
                    one name more
   --exclude NAME   no declaration of this name, and none for its sake; again for one name more
   --config PATH    by the configuration in the JSON file at PATH
+  --openapi PATH   puts the components into the OpenAPI document in the JSON file at PATH, and writes all of that
+  --check PATH     writes nothing, and refuses a document that is another than the one in the JSON file at PATH
+  --any-of         `anyOf` where the document has `oneOf`
+  --pretty         a document with two spaces of indent
+  --skip-refused   leaves out what is refused, and what needs it, with a warning for each
   --strict         warnings are refusals
   --               what follows are files
   -h, --help       this text
@@ -46,6 +51,8 @@ fn option_name(valued: Valued) -> &'static str
         Valued::Config => "--config",
         Valued::Only => "--only",
         Valued::Exclude => "--exclude",
+        Valued::OpenApi => "--openapi",
+        Valued::Check => "--check",
     }
 }
 

@@ -12,6 +12,21 @@ pub enum Question {
     Version,
 }
 
+/// An option without a value.
+#[derive(Clone, Copy, Debug, PartialEq, Eq)]
+pub enum Flag {
+    /// `--serde`: declarations that derive serde's traits are selected.
+    Serde,
+    /// `--strict`: warnings are refusals.
+    Strict,
+    /// `--any-of`: `anyOf` stands where `oneOf` would.
+    AnyOf,
+    /// `--pretty`: the document is indented.
+    Pretty,
+    /// `--skip-refused`: what is refused is left out.
+    SkipRefused,
+}
+
 /// An option that has a value.
 #[derive(Clone, Copy, Debug, PartialEq, Eq)]
 pub enum Valued {
@@ -21,6 +36,10 @@ pub enum Valued {
     Only,
     /// `--exclude`, with the name of a declaration.
     Exclude,
+    /// `--openapi`, with the path of an OpenAPI document.
+    OpenApi,
+    /// `--check`, with the path of a document to compare with.
+    Check,
 }
 
 /// Why words ask for nothing.
@@ -45,8 +64,16 @@ pub struct Request {
     pub selection: Selection,
     /// Whether warnings are refusals.
     pub strict: bool,
+    /// Whether `anyOf` stands where `oneOf` would.
+    pub any_of: bool,
+    /// Whether the document is indented.
+    pub pretty: bool,
     /// The path of the configuration, where one is named.
     pub config: Option<Text>,
+    /// The path of the OpenAPI document that the components go into, where one is named.
+    pub openapi: Option<Text>,
+    /// The path of the document that is compared with, where one is named; nothing is written then.
+    pub check: Option<Text>,
     /// The paths of the files, in order; `-` is the input.
     pub files: List<Text>,
 }

@@ -17,6 +17,8 @@ pub struct Selection {
     pub only: List<Text>,
     /// None of these names, and nothing for their sake.
     pub exclude: List<Text>,
+    /// What is refused is left out, and what needs it.
+    pub skip_refused: bool,
 }
 
 /// Whether the name is one of these.

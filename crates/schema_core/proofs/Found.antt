@@ -4,7 +4,8 @@ use Rattle.std.proofs.lemmas.Bool.{or_parts}
 use Rattle.std.proofs.lemmas.Slice.Eq.{bytes_eq-Decides}
 use Rattle.acceptance.specs.Json.{Json, Members, no_members, put, put_all, entries, names, look}
 use Rattle.texts.specs.Names.{is_in, IsDistinct}
-use Rattle.schema_core.specs.Form.{form}
+use Rattle.schema_core.specs.declared.alternatives.Alternatives.{Alternatives}
+use Rattle.schema_core.specs.Form.{form_by}
 use Rattle.schema_core.specs.Document.{Entry, entry_form}
 use Rattle.schema_core.specs.Entries.{entry_names, find}
 use Rattle.schema_core.proofs.Fields.{look-put}
@@ -29,15 +30,15 @@ look-put_all j (p ∷ ps) ms d =
         ap (λ o. or_else o (Some p.1)) absent
     by false e = refl
 
-names-forms : (es : List Entry) → names (map_list entry_form es) ≡ entry_names es
-names-forms [] = refl
-names-forms (e ∷ es) = ap (λ ns. e.0 ∷ ns) (names-forms es)
+names-forms : (keyword : Alternatives) (es : List Entry) → names (map_list (entry_form keyword) es) ≡ entry_names es
+names-forms keyword [] = refl
+names-forms keyword (e ∷ es) = ap (λ ns. e.0 ∷ ns) (names-forms keyword es)
 
-look-forms : (j : List ℕ) (es : List Entry) → look j (map_list entry_form es) ≡ option_map form (find j es)
-look-forms j [] = refl
-look-forms j (e ∷ es) = ap (cond (bytes_eq j e.0) (Some (form e.1))) (look-forms j es) ∙ by (bytes_eq j e.0)
+look-forms : (keyword : Alternatives) (j : List ℕ) (es : List Entry) → look j (map_list (entry_form keyword) es) ≡ option_map (form_by keyword) (find j es)
+look-forms keyword j [] = refl
+look-forms keyword j (e ∷ es) = ap (cond (bytes_eq j e.0) (Some (form_by keyword e.1))) (look-forms keyword j es) ∙ by (bytes_eq j e.0)
   where
-    by : (b : Bool) → cond b (Some (form e.1)) (option_map form (find j es)) ≡ option_map form (cond b (Some e.1) (find j es))
+    by : (b : Bool) → cond b (Some (form_by keyword e.1)) (option_map (form_by keyword) (find j es)) ≡ option_map (form_by keyword) (cond b (Some e.1) (find j es))
     by true = refl
     by false = refl
 
@@ -45,6 +46,6 @@ or_else-none : (o : Option Json) → or_else o None ≡ o
 or_else-none None = refl
 or_else-none (Some x) = refl
 
-pub found_in_document : (es : List Entry) → IsDistinct (entry_names es) → (j : List ℕ) → look j (entries (put_all (map_list entry_form es) no_members)) ≡ option_map form (find j es)
-found_in_document es d j =
-    look-put_all j (map_list entry_form es) no_members (subst IsDistinct (sym (names-forms es)) d) ∙ or_else-none (look j (map_list entry_form es)) ∙ look-forms j es
+pub found_in_document : (keyword : Alternatives) (es : List Entry) → IsDistinct (entry_names es) → (j : List ℕ) → look j (entries (put_all (map_list (entry_form keyword) es) no_members)) ≡ option_map (form_by keyword) (find j es)
+found_in_document keyword es d j =
+    look-put_all j (map_list (entry_form keyword) es) no_members (subst IsDistinct (sym (names-forms keyword es)) d) ∙ or_else-none (look j (map_list (entry_form keyword) es)) ∙ look-forms keyword j es

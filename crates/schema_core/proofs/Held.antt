@@ -6,8 +6,9 @@ use Rattle.std.specs.Ordering.{match_ordering}
 use Rattle.std.proofs.lemmas.Cmp.{nat_list_cmp_total}
 use Rattle.acceptance.specs.Json.{Json, list, map, Members, no_members, member, entries, names, put, put_all, map_of}
 use Rattle.schema_trees.specs.Held.{IsInOrder, MembersHaveShortNumbers, MembersHaveNamesInOrder, IsHeld}
-use Rattle.schema_core.specs.Document.{Entry, entry_form, document}
-use Rattle.schema_core.specs.Form.{texts_form, put_fields, fields_form, form}
+use Rattle.schema_core.specs.declared.alternatives.Alternatives.{Alternatives}
+use Rattle.schema_core.specs.Document.{Entry, entry_form, document_by}
+use Rattle.schema_core.specs.Form.{texts_form, put_fields, fields_form, form_by}
 use Rattle.schema_core.proofs.EntryLaws.{compare, reversed, in_order-none}
 
 -- each value of the members can be held
@@ -94,14 +95,14 @@ texts_held (k ∷ ks) = let rest = texts_held ks in ((tt, rest.0), (tt, rest.1))
 
 -- ---- documents
 
-forms_held : (es : List Entry) → AllByRecursion (λ e. IsHeld (form e.1)) es → AllByRecursion (λ e. IsHeld e.1) (map_list entry_form es)
-forms_held [] h = tt
-forms_held (e ∷ es) h = (h.0, forms_held es h.1)
+forms_held : (by : Alternatives) (es : List Entry) → AllByRecursion (λ e. IsHeld (form_by by e.1)) es → AllByRecursion (λ e. IsHeld e.1) (map_list (entry_form by) es)
+forms_held by [] h = tt
+forms_held by (e ∷ es) h = (h.0, forms_held by es h.1)
 
 one_held : (k : List ℕ) (x : Json) → IsHeld x → IsHeld (map_of ((k, x) ∷ []))
 one_held k x h = map_of_held ((k, x) ∷ []) (h, tt)
 
-pub document_held : (es : List Entry) → AllByRecursion (λ e. IsHeld (form e.1)) es → IsHeld (document es)
-document_held es h =
-    let schemas = map_of (map_list entry_form es) in
-    one_held (codes "components") (map_of ((codes "schemas", schemas) ∷ [])) (one_held (codes "schemas") schemas (map_of_held (map_list entry_form es) (forms_held es h)))
+pub document_held : (by : Alternatives) (es : List Entry) → AllByRecursion (λ e. IsHeld (form_by by e.1)) es → IsHeld (document_by by es)
+document_held by es h =
+    let schemas = map_of (map_list (entry_form by) es) in
+    one_held (codes "components") (map_of ((codes "schemas", schemas) ∷ [])) (one_held (codes "schemas") schemas (map_of_held (map_list (entry_form by) es) (forms_held by es h)))

@@ -5,6 +5,7 @@ use Rattle.std.specs.List.{AllByRecursion}
 use Rattle.std.specs.List.Sorted.{IsStrictlySortedBy}
 use Rattle.std.proofs.lemmas.List.{append-nil, append_assoc}
 use Rattle.acceptance.specs.Json.{Json, Members, no_members, member, entries, put, put_all}
+use Rattle.schema_core.specs.declared.alternatives.Alternatives.{Alternatives}
 use Rattle.schema_core.specs.Document.{Entry, entry_form}
 use Rattle.schema_core.specs.Entries.{entry_names, IsInOrder}
 use Rattle.schema_core.proofs.EntryLaws.{compare, reversed}
@@ -45,16 +46,16 @@ pub behind_none : (ks : List (List ℕ)) → AllByRecursion (IsBehind []) ks
 behind_none [] = tt
 behind_none (k ∷ ks) = (tt, behind_none ks)
 
-put_in_order : (bs : List (List ℕ × Json)) (es : List Entry) → AllByRecursion (IsBehind bs) (entry_names es) → IsInOrder (entry_names es) → put_all (map entry_form es) (members_of bs) ≡ members_of (bs ++ map entry_form es)
+put_in_order : (by : Alternatives) (bs : List (List ℕ × Json)) (es : List Entry) → AllByRecursion (IsBehind bs) (entry_names es) → IsInOrder (entry_names es) → put_all (map (entry_form by) es) (members_of bs) ≡ members_of (bs ++ map (entry_form by) es)
 unfolding IsStrictlySortedBy
-put_in_order bs [] h o = ap members_of (sym (append-nil bs))
-put_in_order bs (e ∷ es) h o =
-    ap (put_all (map entry_form es)) (put_last bs e.0 (form_of e) h.0)
-    ∙ put_in_order (bs ++ entry_form e ∷ []) es (all_more bs (entry_form e) (entry_names es) h.1 o.0) o.1
-    ∙ ap members_of (append_assoc bs (entry_form e ∷ []) (map entry_form es))
+put_in_order by bs [] h o = ap members_of (sym (append-nil bs))
+put_in_order by bs (e ∷ es) h o =
+    ap (put_all (map (entry_form by) es)) (put_last bs e.0 (form_of e) h.0)
+    ∙ put_in_order by (bs ++ entry_form by e ∷ []) es (all_more bs (entry_form by e) (entry_names es) h.1 o.0) o.1
+    ∙ ap members_of (append_assoc bs (entry_form by e ∷ []) (map (entry_form by) es))
   where
     form_of : Entry → Json
-    form_of e = (entry_form e).1
+    form_of e = (entry_form by e).1
 
-pub forms_in_order : (es : List Entry) → IsInOrder (entry_names es) → put_all (map entry_form es) no_members ≡ members_of (map entry_form es)
-forms_in_order es o = put_in_order [] es (behind_none (entry_names es)) o
+pub forms_in_order : (by : Alternatives) (es : List Entry) → IsInOrder (entry_names es) → put_all (map (entry_form by) es) no_members ≡ members_of (map (entry_form by) es)
+forms_in_order by es o = put_in_order by [] es (behind_none (entry_names es)) o

@@ -18,7 +18,8 @@ use Rattle.acceptance.specs.Json.{Json, null, boolean, number, text, list, map, 
 use Rattle.acceptance.specs.Data.{num_of, number_of as number_held, data_of, items_data, members_data}
 use Rattle.schema_trees.specs.Bound.{IsShort}
 use Rattle.schema_trees.specs.Held.{IsInOrder, HasShortNumbers, ItemsHaveShortNumbers, MembersHaveShortNumbers}
-use Rattle.schema_core.specs.Document.{Entry, entry_form, document, text_of}
+use Rattle.schema_core.specs.declared.alternatives.Alternatives.{Alternatives}
+use Rattle.schema_core.specs.Document.{Entry, entry_form, document_by, text_of}
 use Rattle.schema_core.specs.Entries.{entry_names}
 use Rattle.schema_core.specs.OneText.{OneText, OneDocument}
 use Rattle.schema_core.proofs.InOrder.{entries-members_of, forms_in_order}
@@ -142,8 +143,8 @@ first_in (member k x ms) = x
 abbrev schemas_in : Json → List (List ℕ × Json)
 schemas_in d = entries (members_in (first_in (members_in (first_in (members_in d)))))
 
-forms_back : (es : List Entry) → IsInOrder (entry_names es) → schemas_in (document es) ≡ map_list entry_form es
-forms_back es o = ap entries (forms_in_order es o) ∙ entries-members_of (map_list entry_form es)
+forms_back : (by : Alternatives) (es : List Entry) → IsInOrder (entry_names es) → schemas_in (document_by by es) ≡ map_list (entry_form by) es
+forms_back by es o = ap entries (forms_in_order by es o) ∙ entries-members_of (map_list (entry_form by) es)
 
 pub one_document : OneDocument
-one_document es fs o p h k e = sym (forms_back es o) ∙ ap schemas_in (one_text (document es) (document fs) h k e) ∙ forms_back fs p
+one_document by es fs o p h k e = sym (forms_back by es o) ∙ ap schemas_in (one_text (document_by by es) (document_by by fs) h k e) ∙ forms_back by fs p

@@ -12,7 +12,8 @@ use Rattle.acceptance.specs.Data.{data_of, members_data}
 use Rattle.schema_trees.specs.Held.{IsHeld}
 use Rattle.schema_trees.specs.declared.tree.Tree.{Tree}
 use Rattle.schema_trees.specs.declared.tree.RefLeaf.{RefLeaf}
-use Rattle.schema_core.specs.Form.{form, property_forms}
+use Rattle.schema_core.specs.declared.alternatives.Alternatives.{Alternatives}
+use Rattle.schema_core.specs.Form.{form_by, property_forms}
 use Rattle.schema_trees.specs.Schema.{named_views, schema_view}
 use Rattle.schema_core.specs.Writes.{places_from}
 use Rattle.schema_core.proofs.Held.{AreValuesHeld, values_held}
@@ -150,11 +151,11 @@ places_step ps i p l h k named old new e =
 
 -- ---- the properties of a schema
 
-pub property_names_are : (ps : Properties) → map (λ e. e.0) (property_forms (named_views (λ l. l) ps)) ≡ map (λ p. p.0) ps
-property_names_are [] = refl
-property_names_are (p ∷ ps) = ap (λ ks. p.0 ∷ ks) (property_names_are ps)
+pub property_names_are : (by : Alternatives) (ps : Properties) → map (λ e. e.0) (property_forms by (named_views (λ l. l) ps)) ≡ map (λ p. p.0) ps
+property_names_are by [] = refl
+property_names_are by (p ∷ ps) = ap (λ ks. p.0 ∷ ks) (property_names_are by ps)
 
-pub value_at-property : (ps : Properties) (i : ℕ) (p : List ℕ × Tree RefLeaf) → i < length ps → p ≡ get_or ps i p → value_at (property_forms (named_views (λ l. l) ps)) i ≡ form (schema_view p.1)
-value_at-property [] i p l h = absurd (omega arith)
-value_at-property (q ∷ ps) zero p l h = ap (λ r. form (schema_view r.1)) (sym h)
-value_at-property (q ∷ ps) (suc i) p l h = value_at-property ps i p (omega arith) h
+pub value_at-property : (by : Alternatives) (ps : Properties) (i : ℕ) (p : List ℕ × Tree RefLeaf) → i < length ps → p ≡ get_or ps i p → value_at (property_forms by (named_views (λ l. l) ps)) i ≡ form_by by (schema_view p.1)
+value_at-property by [] i p l h = absurd (omega arith)
+value_at-property by (q ∷ ps) zero p l h = ap (λ r. form_by by (schema_view r.1)) (sym h)
+value_at-property by (q ∷ ps) (suc i) p l h = value_at-property by ps i p (omega arith) h

@@ -2,7 +2,7 @@
 use Rattle.std.proofs.Common.{ℕ, List, [], ◌∷◌, Option, Some, None, option_map, codes, nat_cmp, Ordering, Less, Equal, Greater, ◌≡◌, refl, sym, subst}
 use Rattle.std.specs.Cmp.Lexicographic.{slice_cmp}
 use Rattle.std.specs.Ordering.{match_ordering}
-use Rattle.acceptance.specs.Json.{Json, Items, no_items, item, number, text, Members, no_members, member, put, put_given, put_all}
+use Rattle.acceptance.specs.Json.{Json, Items, no_items, item, number, text, list, Members, no_members, member, put, put_given, put_all}
 use Rattle.acceptance.specs.Keyword.{Keyword, keyword_of, other}
 use Rattle.acceptance.specs.References.{EachReference, InMembers, InProperties, InSchemas, InItems, InEach, ReferenceHas, AtKeyword}
 use Rattle.schema_trees.specs.declared.annotations.AnnotationKeywords.{AnnotationKeywords as Annotations}
@@ -10,10 +10,12 @@ use Rattle.schema_trees.specs.declared.tree.TypeWord.{TypeWord}
 use Rattle.schema_trees.specs.declared.tree.TypeWord.TheVariants.{Any, One, Nullable}
 use Rattle.schema_trees.specs.declared.tree.RefLeaf.{RefLeaf}
 use Rattle.schema_trees.specs.Schema.{SchemaOf, leaf, object, array, one_of, all_of, SchemasOf, no_schemas, schema, PropertiesOf, no_properties, property, PartOf, no_part, truth, part, EachLeaf, EachSchemaLeaf, EachPropertyLeaf, EachPartLeaf}
-use Rattle.schema_core.specs.Form.{type_form, required_form, entries_form, values_form, true_form, schemas_form, array_word, put_fields, annotation_fields, object_fields, array_fields, one_of_fields, all_of_fields, reference_fields, form, part_form, schema_forms, property_forms}
+use Rattle.schema_core.specs.declared.alternatives.Alternatives.{Alternatives}
+use Rattle.schema_core.specs.declared.alternatives.Alternatives.TheVariants.{OneOf, AnyOf}
+use Rattle.schema_core.specs.Form.{alternatives_word, type_form, required_form, entries_form, values_form, true_form, schemas_form, array_word, put_fields, annotation_fields, object_fields, array_fields, one_of_fields, all_of_fields, reference_fields, form_by, part_form, schema_forms, property_forms}
 use Rattle.schema_core.proofs.Fields.{equal_names, AreOthers, others-annotations}
 
-module _ (Q : List ℕ → Type 0) where
+module _ (keyword : Alternatives) (Q : List ℕ → Type 0) where
   -- what is asked of a member, and of a field that may be left out
   abbrev AtMember : List ℕ → Json → Type 0
   AtMember k x = AtKeyword (keyword_of k) (EachReference Q x) (InProperties Q x) (InSchemas Q x) (ReferenceHas Q x)
@@ -92,22 +94,26 @@ module _ (Q : List ℕ → Type 0) where
   at-front no_items h = tt
   at-front (item x xs) h = h
 
+  at-alternatives : (word : Alternatives) (xs : Items) → InItems Q xs → AtField (alternatives_word word) (Some (list xs))
+  at-alternatives OneOf xs h = h
+  at-alternatives AnyOf xs h = h
+
   at-properties : (ps : List (List ℕ × Json)) → InEntries ps → AtField (codes "properties") (entries_form ps)
   at-properties [] h = tt
   at-properties (p ∷ ps) h = each-put_all (p ∷ ps) no_members h tt
 
   mutual
-    pub form-refers : (s : SchemaOf RefLeaf) → EachLeaf (λ r. Q r.name) s → EachReference Q (form s)
+    pub form-refers : (s : SchemaOf RefLeaf) → EachLeaf (λ r. Q r.name) s → EachReference Q (form_by keyword s)
     form-refers (leaf r) h = in-fields (reference_fields r) no_members (h, at-annotations r.annotations) tt
     form-refers (object facts ps additional names) h =
-        in-fields (object_fields facts (property_forms ps) (part_form additional) (part_form names)) no_members (
+        in-fields (object_fields facts (property_forms keyword ps) (part_form keyword additional) (part_form keyword names)) no_members (
           at-type facts.type_word,
           (
             at-other (codes "format") (option_map text facts.format) refl,
             (
               at-plain (codes "enum") (values_form facts.enum_values) (λ x. tt),
               (
-                at-properties (property_forms ps) (properties-refer ps h.0),
+                at-properties (property_forms keyword ps) (properties-refer ps h.0),
                 (
                   part-refers additional h.1.0,
                   (
@@ -120,7 +126,7 @@ module _ (Q : List ℕ → Type 0) where
           ),
         ) tt
     form-refers (array facts front rest) h =
-        in-fields (array_fields facts (schema_forms front) (part_form rest)) no_members (
+        in-fields (array_fields facts (schema_forms keyword front) (part_form keyword rest)) no_members (
           at-type (array_word facts.nullable),
           (
             at-plain (codes "uniqueItems") (true_form facts.unique) (λ x. tt),
@@ -128,23 +134,23 @@ module _ (Q : List ℕ → Type 0) where
               at-plain (codes "maxItems") (option_map number facts.max_items) (λ x. tt),
               (
                 at-plain (codes "minItems") (option_map number facts.min_items) (λ x. tt),
-                (at-front (schema_forms front) (schemas-refer front h.0), (part-refers rest h.1, at-annotations facts.annotations)),
+                (at-front (schema_forms keyword front) (schemas-refer front h.0), (part-refers rest h.1, at-annotations facts.annotations)),
               ),
             ),
           ),
         ) tt
-    form-refers (one_of annotations ss) h = in-fields (one_of_fields annotations (schema_forms ss)) no_members (schemas-refer ss h, at-annotations annotations) tt
-    form-refers (all_of annotations ss) h = in-fields (all_of_fields annotations (schema_forms ss)) no_members (schemas-refer ss h, at-annotations annotations) tt
+    form-refers (one_of annotations ss) h = in-fields (one_of_fields keyword annotations (schema_forms keyword ss)) no_members (at-alternatives keyword (schema_forms keyword ss) (schemas-refer ss h), at-annotations annotations) tt
+    form-refers (all_of annotations ss) h = in-fields (all_of_fields annotations (schema_forms keyword ss)) no_members (schemas-refer ss h, at-annotations annotations) tt
 
-    pub part-refers : (p : PartOf RefLeaf) → EachPartLeaf (λ r. Q r.name) p → AtField (codes "items") (part_form p)
+    pub part-refers : (p : PartOf RefLeaf) → EachPartLeaf (λ r. Q r.name) p → AtField (codes "items") (part_form keyword p)
     part-refers no_part h = tt
     part-refers (truth b) h = tt
     part-refers (part s) h = form-refers s h
 
-    pub schemas-refer : (ss : SchemasOf RefLeaf) → EachSchemaLeaf (λ r. Q r.name) ss → InItems Q (schema_forms ss)
+    pub schemas-refer : (ss : SchemasOf RefLeaf) → EachSchemaLeaf (λ r. Q r.name) ss → InItems Q (schema_forms keyword ss)
     schemas-refer no_schemas h = tt
     schemas-refer (schema s ss) h = (form-refers s h.0, schemas-refer ss h.1)
 
-    pub properties-refer : (ps : PropertiesOf RefLeaf) → EachPropertyLeaf (λ r. Q r.name) ps → InEntries (property_forms ps)
+    pub properties-refer : (ps : PropertiesOf RefLeaf) → EachPropertyLeaf (λ r. Q r.name) ps → InEntries (property_forms keyword ps)
     properties-refer no_properties h = tt
     properties-refer (property k s ps) h = (form-refers s h.0, properties-refer ps h.1)

@@ -14,27 +14,28 @@ use Rattle.schema_trees.specs.declared.tree.Array.{Array}
 use Rattle.schema_trees.specs.declared.tree.Object.{Object}
 use Rattle.schema_trees.specs.declared.tree.RefLeaf.{RefLeaf}
 use Rattle.schema_trees.specs.Schema.{object_facts, ArrayFacts, object, array, one_of, all_of, truth, part, one_of_view, all_of_view, object_view, array_view, additional_view, array_items_view, optional_view, schema_view, tree_views, named_views}
-use Rattle.schema_core.specs.Form.{form, schema_forms, property_forms, required_form, texts_form, value_items, schemas_form, entries_form}
+use Rattle.schema_core.specs.declared.alternatives.Alternatives.{Alternatives}
+use Rattle.schema_core.specs.Form.{form_by, schema_forms, property_forms, required_form, texts_form, value_items, schemas_form, entries_form}
 use Rattle.schema_core.proofs.Puts.{data_put}
 
 pub texts_items : (ts : List (List ℕ)) → items_of (map_list string ts) ≡ items_data (texts_form ts)
 texts_items [] = refl
 texts_items (t ∷ ts) = ap (data_item (string t)) (texts_items ts)
 
-abbrev pub schema_data : Tree RefLeaf → Data
-schema_data s = data_of (form (schema_view s))
+abbrev pub schema_data : Alternatives → Tree RefLeaf → Data
+schema_data by s = data_of (form_by by (schema_view s))
 
-pub schemas_items : (ss : List (Tree RefLeaf)) → items_of (map_list schema_data ss) ≡ items_data (schema_forms (tree_views (λ l. l) ss))
-schemas_items [] = refl
-schemas_items (s ∷ ss) = ap (data_item (schema_data s)) (schemas_items ss)
+pub schemas_items : (by : Alternatives) (ss : List (Tree RefLeaf)) → items_of (map_list (schema_data by) ss) ≡ items_data (schema_forms by (tree_views (λ l. l) ss))
+schemas_items by [] = refl
+schemas_items by (s ∷ ss) = ap (data_item (schema_data by s)) (schemas_items by ss)
 
 -- a property's name and the form of its schema
-abbrev pub property_form : List ℕ × Tree RefLeaf → List ℕ × Json
-property_form p = (p.0, form (schema_view p.1))
+abbrev pub property_form : Alternatives → List ℕ × Tree RefLeaf → List ℕ × Json
+property_form by p = (p.0, form_by by (schema_view p.1))
 
-pub properties_are : (ps : List (List ℕ × Tree RefLeaf)) → map_list property_form ps ≡ property_forms (named_views (λ l. l) ps)
-properties_are [] = refl
-properties_are (p ∷ ps) = ap (λ es. property_form p ∷ es) (properties_are ps)
+pub properties_are : (by : Alternatives) (ps : List (List ℕ × Tree RefLeaf)) → map_list (property_form by) ps ≡ property_forms by (named_views (λ l. l) ps)
+properties_are by [] = refl
+properties_are by (p ∷ ps) = ap (λ es. property_form by p ∷ es) (properties_are by ps)
 
 put_all_last : (es : List (List ℕ × Json)) (e : List ℕ × Json) (ms : Members) → put_all (es ++ e ∷ []) ms ≡ put e.0 e.1 (put_all es ms)
 put_all_last [] e ms = refl
@@ -69,18 +70,18 @@ values_items [] = refl
 values_items (x ∷ xs) = ap (data_item (data_of x)) (values_items xs)
 
 -- a list of schemas, of which there is one
-pub some_schemas : (ss : List (Tree RefLeaf)) → 0 < length ss → schemas_form (schema_forms (tree_views (λ l. l) ss)) ≡ Some (list (schema_forms (tree_views (λ l. l) ss)))
-some_schemas [] h = absurd (omega arith)
-some_schemas (s ∷ ss) h = refl
+pub some_schemas : (by : Alternatives) (ss : List (Tree RefLeaf)) → 0 < length ss → schemas_form (schema_forms by (tree_views (λ l. l) ss)) ≡ Some (list (schema_forms by (tree_views (λ l. l) ss)))
+some_schemas by [] h = absurd (omega arith)
+some_schemas by (s ∷ ss) h = refl
 
 -- a map of entries, of which there is one
 pub some_entries : (es : List (List ℕ × Json)) (n : ℕ) → n ≡ length es → 0 < n → entries_form es ≡ Some (map_of es)
 some_entries [] n e h = absurd (omega arith)
 some_entries (x ∷ es) n e h = refl
 
-pub length-properties : (ps : List (List ℕ × Tree RefLeaf)) → length ps ≡ length (property_forms (named_views (λ l. l) ps))
-length-properties [] = refl
-length-properties (p ∷ ps) = ap suc (length-properties ps)
+pub length-properties : (by : Alternatives) (ps : List (List ℕ × Tree RefLeaf)) → length ps ≡ length (property_forms by (named_views (λ l. l) ps))
+length-properties by [] = refl
+length-properties by (p ∷ ps) = ap suc (length-properties by ps)
 
 -- a list of names, of which there is one
 pub some_texts : (ks : List (List ℕ)) → 0 < length ks → required_form ks ≡ Some (list (texts_form ks))

@@ -9,8 +9,9 @@ use Rattle.serde_json.specs.Written.{compact_text, items_text, members_text, com
 use Rattle.acceptance.specs.Json.{Json, Items, item}
 use Rattle.acceptance.specs.Data.{data_of, items_data, members_data}
 use Rattle.schema_trees.specs.Held.{IsHeld}
-use Rattle.schema_core.specs.Form.{form}
-use Rattle.schema_core.specs.Document.{Entry, entry_form, entry_text, entries_text, document, text_of}
+use Rattle.schema_core.specs.declared.alternatives.Alternatives.{Alternatives}
+use Rattle.schema_core.specs.Form.{form_by}
+use Rattle.schema_core.specs.Document.{Entry, entry_form, entry_text, entries_text, document_by, text_of}
 use Rattle.schema_core.specs.Entries.{entry_names, IsInOrder}
 use Rattle.schema_core.proofs.EntryLaws.{all-append}
 use Rattle.schema_core.proofs.InOrder.{members_of, forms_in_order}
@@ -35,24 +36,24 @@ goes_on_true : (es : List Entry) → goes_on true es ≡ true
 goes_on_true [] = refl
 goes_on_true (e ∷ es) = refl
 
-more_text : (later : Bool) (es : List Entry) (e : Entry) → entries_text later (es ++ e ∷ []) ≡ entries_text later es ++ (comma_if (goes_on later es) ++ entry_text e)
-more_text later [] e = ap (λ xs. comma_if later ++ xs) (append-nil (entry_text e))
-more_text later (x ∷ es) e =
-    let rest = entries_text true es in
-    ap (λ xs. comma_if later ++ (entry_text x ++ xs)) (more_text true es e ∙ ap (λ b. rest ++ (comma_if b ++ entry_text e)) (goes_on_true es))
-    ∙ ap (λ xs. comma_if later ++ xs) (sym (append_assoc (entry_text x) rest (44 ∷ entry_text e)))
-    ∙ sym (append_assoc (comma_if later) (entry_text x ++ rest) (44 ∷ entry_text e))
+more_text : (by : Alternatives) (later : Bool) (es : List Entry) (e : Entry) → entries_text by later (es ++ e ∷ []) ≡ entries_text by later es ++ (comma_if (goes_on later es) ++ entry_text by e)
+more_text by later [] e = ap (λ xs. comma_if later ++ xs) (append-nil (entry_text by e))
+more_text by later (x ∷ es) e =
+    let rest = entries_text by true es in
+    ap (λ xs. comma_if later ++ (entry_text by x ++ xs)) (more_text by true es e ∙ ap (λ b. rest ++ (comma_if b ++ entry_text by e)) (goes_on_true es))
+    ∙ ap (λ xs. comma_if later ++ xs) (sym (append_assoc (entry_text by x) rest (44 ∷ entry_text by e)))
+    ∙ sym (append_assoc (comma_if later) (entry_text by x ++ rest) (44 ∷ entry_text by e))
 
 -- ---- the text
 
-written : (later : Bool) (es : List Entry) → members_text later (members_data (members_of (map entry_form es))) ≡ entries_text later es ++ 125 ∷ []
-written later [] = refl
-written later (e ∷ es) =
-    let rest = entries_text true es in
-    let value = compact_text (data_of (entry_form e).1) in
-    ap (λ xs. comma_if later ++ (compact_text (string e.0) ++ 58 ∷ (value ++ xs))) (written true es)
-    ∙ ap (λ xs. comma_if later ++ xs) (sym (append_assoc (compact_text (string e.0)) (58 ∷ value) (rest ++ 125 ∷ [])) ∙ sym (append_assoc (entry_text e) rest (125 ∷ [])))
-    ∙ sym (append_assoc (comma_if later) (entry_text e ++ rest) (125 ∷ []))
+written : (by : Alternatives) (later : Bool) (es : List Entry) → members_text later (members_data (members_of (map (entry_form by) es))) ≡ entries_text by later es ++ 125 ∷ []
+written by later [] = refl
+written by later (e ∷ es) =
+    let rest = entries_text by true es in
+    let value = compact_text (data_of (entry_form by e).1) in
+    ap (λ xs. comma_if later ++ (compact_text (string e.0) ++ 58 ∷ (value ++ xs))) (written by true es)
+    ∙ ap (λ xs. comma_if later ++ xs) (sym (append_assoc (compact_text (string e.0)) (58 ∷ value) (rest ++ 125 ∷ [])) ∙ sym (append_assoc (entry_text by e) rest (125 ∷ [])))
+    ∙ sym (append_assoc (comma_if later) (entry_text by e ++ rest) (125 ∷ []))
 
 -- what stands in the document before its entries
 abbrev pub head : List ℕ
@@ -61,11 +62,11 @@ head = codes "{\"components\":{\"schemas\":{"
 three_ends : (xs : List ℕ) → (((xs ++ 125 ∷ []) ++ 125 ∷ []) ++ 125 ∷ []) ++ 10 ∷ [] ≡ xs ++ codes "}}}\n"
 three_ends xs = append_assoc ((xs ++ 125 ∷ []) ++ 125 ∷ []) (125 ∷ []) (10 ∷ []) ∙ append_assoc (xs ++ 125 ∷ []) (125 ∷ []) (125 ∷ 10 ∷ []) ∙ append_assoc xs (125 ∷ []) (125 ∷ 125 ∷ 10 ∷ [])
 
-pub document_text : (es : List Entry) → IsInOrder (entry_names es) → (head ++ entries_text false es) ++ codes "}}}\n" ≡ text_of (document es)
+pub document_text : (by : Alternatives) (es : List Entry) → IsInOrder (entry_names es) → (head ++ entries_text by false es) ++ codes "}}}\n" ≡ text_of (document_by by es)
 unfolding text_of escape_byte
-document_text es o =
-    let inner = ap (λ ms. members_text false (members_data ms)) (forms_in_order es o) ∙ written false es in
-    ap (λ xs. head ++ xs) (sym (three_ends (entries_text false es)))
+document_text by es o =
+    let inner = ap (λ ms. members_text false (members_data ms)) (forms_in_order by es o) ∙ written by false es in
+    ap (λ xs. head ++ xs) (sym (three_ends (entries_text by false es)))
     ∙ ap (λ xs. head ++ (((xs ++ 125 ∷ []) ++ 125 ∷ []) ++ 10 ∷ [])) (sym inner)
 
 -- ---- what the loop keeps
@@ -75,19 +76,19 @@ comma_before es zero h = refl
 comma_before [] (suc i) h = absurd (omega (arith, h))
 comma_before (e ∷ es) (suc i) h = sym (lt-ltb 0 (suc i) (omega arith))
 
-pub one_more : (es : List Entry) (i : ℕ) (e : Entry) → i < length es → e ≡ get_or es i e → (start old between new : List ℕ)
-    → old ≡ start ++ entries_text false (take i es) → between ≡ old ++ comma_if (nat_lt 0 i) → new ≡ between ++ entry_text e → new ≡ start ++ entries_text false (take (i + 1) es)
-one_more es i e h here start old between new p q r =
-    let so_far = entries_text false (take i es) in
+pub one_more : (by : Alternatives) (es : List Entry) (i : ℕ) (e : Entry) → i < length es → e ≡ get_or es i e → (start old between new : List ℕ)
+    → old ≡ start ++ entries_text by false (take i es) → between ≡ old ++ comma_if (nat_lt 0 i) → new ≡ between ++ entry_text by e → new ≡ start ++ entries_text by false (take (i + 1) es)
+one_more by es i e h here start old between new p q r =
+    let so_far = entries_text by false (take i es) in
     let comma = comma_if (nat_lt 0 i) in
-    let more : entries_text false (take (i + 1) es) ≡ so_far ++ (comma ++ entry_text e) =
-    ap (entries_text false) (take_more es i e h) ∙ ap (λ x. entries_text false (take i es ++ x ∷ [])) (sym here)
-    ∙ more_text false (take i es) e ∙ ap (λ b. so_far ++ (comma_if b ++ entry_text e)) (comma_before es i h) in
-    r ∙ ap (λ xs. xs ++ entry_text e) (q ∙ ap (λ xs. xs ++ comma) p) ∙ append_assoc (start ++ so_far) comma (entry_text e) ∙ append_assoc start so_far (comma ++ entry_text e) ∙ ap (λ xs. start ++ xs) (sym more)
+    let more : entries_text by false (take (i + 1) es) ≡ so_far ++ (comma ++ entry_text by e) =
+    ap (entries_text by false) (take_more es i e h) ∙ ap (λ x. entries_text by false (take i es ++ x ∷ [])) (sym here)
+    ∙ more_text by false (take i es) e ∙ ap (λ b. so_far ++ (comma_if b ++ entry_text by e)) (comma_before es i h) in
+    r ∙ ap (λ xs. xs ++ entry_text by e) (q ∙ ap (λ xs. xs ++ comma) p) ∙ append_assoc (start ++ so_far) comma (entry_text by e) ∙ append_assoc start so_far (comma ++ entry_text by e) ∙ ap (λ xs. start ++ xs) (sym more)
 
-abbrev AreFormsHeld : List Entry → Type 0
-AreFormsHeld es = AllByRecursion (λ e. IsHeld (form e.1)) es
+abbrev AreFormsHeld : Alternatives → List Entry → Type 0
+AreFormsHeld by es = AllByRecursion (λ e. IsHeld (form_by by e.1)) es
 
-pub one_more_held : (es : List Entry) (i : ℕ) (e : Entry) → i < length es → e ≡ get_or es i e → AreFormsHeld (take i es) → IsHeld (form e.1) → AreFormsHeld (take (i + 1) es)
-one_more_held es i e h here held one =
-    subst AreFormsHeld (sym (take_more es i e h)) (all-append (λ e. IsHeld (form e.1)) (take i es) (get_or es i e ∷ []) held (subst (λ x. IsHeld (form x.1)) here one, tt))
+pub one_more_held : (by : Alternatives) (es : List Entry) (i : ℕ) (e : Entry) → i < length es → e ≡ get_or es i e → AreFormsHeld by (take i es) → IsHeld (form_by by e.1) → AreFormsHeld by (take (i + 1) es)
+one_more_held by es i e h here held one =
+    subst (AreFormsHeld by) (sym (take_more es i e h)) (all-append (λ e. IsHeld (form_by by e.1)) (take i es) (get_or es i e ∷ []) held (subst (λ x. IsHeld (form_by by x.1)) here one, tt))

@@ -8,6 +8,8 @@ use Rattle.schema_trees.specs.declared.tree.SchemaTypeInner.TheVariants as word
 use Rattle.schema_trees.specs.declared.tree.TypeWord.{TypeWord}
 use Rattle.schema_trees.specs.declared.tree.TypeWord.TheVariants.{Any, One, Nullable}
 use Rattle.schema_trees.specs.declared.tree.RefLeaf.{RefLeaf}
+use Rattle.schema_core.specs.declared.alternatives.Alternatives.{Alternatives}
+use Rattle.schema_core.specs.declared.alternatives.Alternatives.TheVariants.{OneOf, AnyOf}
 use Rattle.schema_trees.specs.Schema.{Facts, ArrayFacts, SchemaOf, leaf, object, array, one_of, all_of, SchemasOf, no_schemas, schema, PropertiesOf, no_properties, property, PartOf, no_part, truth, part}
 
 abbrev pub word_text : SchemaTypeInner → List ℕ
@@ -93,8 +95,13 @@ array_fields facts front rest =
     ∷ (codes "maxItems", option_map number facts.max_items) ∷ (codes "minItems", option_map number facts.min_items)
     ∷ (codes "prefixItems", schemas_form front) ∷ (codes "items", rest) ∷ annotation_fields facts.annotations
 
-abbrev pub one_of_fields : Annotations → Items → List (List ℕ × Option Json)
-one_of_fields annotations schemas = (codes "oneOf", Some (list schemas)) ∷ annotation_fields annotations
+-- the keyword of schemas of which at least one accepts
+abbrev pub alternatives_word : Alternatives → List ℕ
+alternatives_word OneOf = codes "oneOf"
+alternatives_word AnyOf = codes "anyOf"
+
+abbrev pub one_of_fields : Alternatives → Annotations → Items → List (List ℕ × Option Json)
+one_of_fields by annotations schemas = (alternatives_word by, Some (list schemas)) ∷ annotation_fields annotations
 
 abbrev pub all_of_fields : Annotations → Items → List (List ℕ × Option Json)
 all_of_fields annotations schemas = (codes "allOf", Some (list schemas)) ∷ annotation_fields annotations
@@ -105,24 +112,28 @@ reference_text name = codes "#/components/schemas/" ++ name
 abbrev pub reference_fields : RefLeaf → List (List ℕ × Option Json)
 reference_fields r = (codes "$ref", Some (text (reference_text r.name))) ∷ annotation_fields r.annotations
 
--- The JSON of a schema: the members that are given, in byte order of their names.
+-- The JSON of a schema, with alternatives under that keyword: the members that are given, in byte order of their names.
 abbrev mutual
-  pub form : SchemaOf RefLeaf → Json
-  form (leaf r) = fields_form (reference_fields r)
-  form (object facts ps additional names) = fields_form (object_fields facts (property_forms ps) (part_form additional) (part_form names))
-  form (array facts front rest) = fields_form (array_fields facts (schema_forms front) (part_form rest))
-  form (one_of annotations ss) = fields_form (one_of_fields annotations (schema_forms ss))
-  form (all_of annotations ss) = fields_form (all_of_fields annotations (schema_forms ss))
+  pub form_by : Alternatives → SchemaOf RefLeaf → Json
+  form_by by (leaf r) = fields_form (reference_fields r)
+  form_by by (object facts ps additional names) = fields_form (object_fields facts (property_forms by ps) (part_form by additional) (part_form by names))
+  form_by by (array facts front rest) = fields_form (array_fields facts (schema_forms by front) (part_form by rest))
+  form_by by (one_of annotations ss) = fields_form (one_of_fields by annotations (schema_forms by ss))
+  form_by by (all_of annotations ss) = fields_form (all_of_fields annotations (schema_forms by ss))
 
-  pub part_form : PartOf RefLeaf → Option Json
-  part_form no_part = None
-  part_form (truth b) = Some (boolean b)
-  part_form (part s) = Some (form s)
+  pub part_form : Alternatives → PartOf RefLeaf → Option Json
+  part_form by no_part = None
+  part_form by (truth b) = Some (boolean b)
+  part_form by (part s) = Some (form_by by s)
 
-  pub schema_forms : SchemasOf RefLeaf → Items
-  schema_forms no_schemas = no_items
-  schema_forms (schema s ss) = item (form s) (schema_forms ss)
+  pub schema_forms : Alternatives → SchemasOf RefLeaf → Items
+  schema_forms by no_schemas = no_items
+  schema_forms by (schema s ss) = item (form_by by s) (schema_forms by ss)
 
-  pub property_forms : PropertiesOf RefLeaf → List (List ℕ × Json)
-  property_forms no_properties = []
-  property_forms (property k s ps) = (k, form s) ∷ property_forms ps
+  pub property_forms : Alternatives → PropertiesOf RefLeaf → List (List ℕ × Json)
+  property_forms by no_properties = []
+  property_forms by (property k s ps) = (k, form_by by s) ∷ property_forms by ps
+
+-- The JSON of a schema, with alternatives under `oneOf`.
+abbrev pub form : SchemaOf RefLeaf → Json
+form = form_by OneOf

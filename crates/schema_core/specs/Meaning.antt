@@ -10,8 +10,9 @@ use Rattle.schema_trees.specs.declared.tree.TypeWord.{TypeWord}
 use Rattle.schema_trees.specs.declared.tree.TypeWord.TheVariants.{Any, One, Nullable}
 use Rattle.schema_trees.specs.declared.tree.RefLeaf.{RefLeaf}
 use Rattle.schema_trees.specs.Schema.{SchemaOf, leaf, object, array, one_of, all_of, SchemasOf, no_schemas, schema, schema_count, PropertiesOf, no_properties, property, property_names, PartOf, no_part, truth, part, EachLeaf}
-use Rattle.schema_core.specs.Form.{word_text, array_word, form}
-use Rattle.schema_core.specs.Document.{Entry, document}
+use Rattle.schema_core.specs.declared.alternatives.Alternatives.{Alternatives}
+use Rattle.schema_core.specs.Form.{word_text, array_word, form_by}
+use Rattle.schema_core.specs.Document.{Entry, document_by}
 use Rattle.schema_core.specs.Entries.{entry_names, find}
 
 -- the value is of the word's kind
@@ -116,14 +117,14 @@ abbrev mutual
   ArePropertiesProper no_properties = Unit {0}
   ArePropertiesProper (property k s ps) = IsProper s × ArePropertiesProper ps
 
--- The JSON of a schema accepts what the tree accepts.
+-- The JSON of a schema accepts what the tree accepts, under either keyword of alternatives; so too the laws below.
 abbrev pub FormsAccept : Type 0
-FormsAccept = (component : List ℕ → Json → Bool) (s : SchemaOf RefLeaf) → IsProper s → (v : Json) → accepts_with component (form s) v ≡ tree_accepts (λ r. component r.name) s v
+FormsAccept = (by : Alternatives) (component : List ℕ → Json → Bool) (s : SchemaOf RefLeaf) → IsProper s → (v : Json) → accepts_with component (form_by by s) v ≡ tree_accepts (λ r. component r.name) s v
 
 -- The references of the JSON of a schema are its leaves: what passes at each leaf's name passes at each reference.
 abbrev pub FormsRefer : Type 0
-FormsRefer = (passes : List ℕ → Bool) (s : SchemaOf RefLeaf) → EachLeaf (λ r. IsTrue (passes r.name)) s → EachReference (λ name. IsTrue (passes name)) (form s)
+FormsRefer = (by : Alternatives) (passes : List ℕ → Bool) (s : SchemaOf RefLeaf) → EachLeaf (λ r. IsTrue (passes r.name)) s → EachReference (λ name. IsTrue (passes name)) (form_by by s)
 
 -- The document has under each name the form of the entry of that name.
 abbrev pub DocumentsHold : Type 0
-DocumentsHold = (es : List Entry) → IsDistinct (entry_names es) → (name : List ℕ) → component_schema (document es) name ≡ option_map form (find name es)
+DocumentsHold = (by : Alternatives) (es : List Entry) → IsDistinct (entry_names es) → (name : List ℕ) → component_schema (document_by by es) name ≡ option_map (form_by by) (find name es)

@@ -5,17 +5,18 @@ use Rattle.serde_json.specs.Read.{read, max_depth}
 use Rattle.acceptance.specs.Json.{Json}
 use Rattle.acceptance.specs.Data.{data_of}
 use Rattle.schema_trees.specs.Held.{IsInOrder, HasShortNumbers, HasNamesInOrder}
-use Rattle.schema_core.specs.Document.{Entry, entry_form, document, text_of}
+use Rattle.schema_core.specs.declared.alternatives.Alternatives.{Alternatives}
+use Rattle.schema_core.specs.Document.{Entry, entry_form, document_by, text_of}
 use Rattle.schema_core.specs.Entries.{entry_names}
 
 -- Two values of one text are equal, however deep they nest.
 abbrev pub OneText : Type 0
 OneText = (x y : Json) → HasShortNumbers x → HasShortNumbers y → text_of x ≡ text_of y → x ≡ y
 
--- Two documents of one text have the same names, and under each name the same JSON.
+-- Two documents of one text, with one keyword of alternatives, have the same names, and under each name the same JSON.
 abbrev pub OneDocument : Type 0
-OneDocument = (es fs : List Entry) → IsInOrder (entry_names es) → IsInOrder (entry_names fs) → HasShortNumbers (document es) → HasShortNumbers (document fs) →
-    text_of (document es) ≡ text_of (document fs) → map_list entry_form es ≡ map_list entry_form fs
+OneDocument = (by : Alternatives) (es fs : List Entry) → IsInOrder (entry_names es) → IsInOrder (entry_names fs) → HasShortNumbers (document_by by es) → HasShortNumbers (document_by by fs) →
+    text_of (document_by by es) ≡ text_of (document_by by fs) → map_list (entry_form by) es ≡ map_list (entry_form by) fs
 
 -- The text reads as the value, where it nests no deeper than is read.
 abbrev pub TextsReadBack : Type 0

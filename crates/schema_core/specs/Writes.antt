@@ -10,8 +10,9 @@ use Rattle.acceptance.specs.Json.{Json, boolean, text, list, Items}
 use Rattle.acceptance.specs.Data.{data_of, items_data}
 use Rattle.schema_trees.specs.Held.{IsHeld}
 use Rattle.schema_trees.specs.declared.annotations.AnnotationKeywords.{AnnotationKeywords as Annotations}
+use Rattle.schema_core.specs.declared.alternatives.Alternatives.{Alternatives}
 use Rattle.schema_core.specs.Document.{Entry, entry_text, entries_text}
-use Rattle.schema_core.specs.Form.{form, values_form}
+use Rattle.schema_core.specs.Form.{form_by, values_form}
 
 -- the byte stands in a JSON string as it is: it is no quote, no backslash and no control character
 abbrev pub IsPlain : ℕ → Type 0
@@ -28,13 +29,13 @@ pub record WritesItems (xs : Items) (old new : List ℕ) : Type 0 where
   pub held : IsHeld (list xs)
 
 -- the same of an entry, as a member of an object, and of entries with commas between
-pub record WritesEntry (e : Entry) (old new : List ℕ) : Type 0 where
-  pub text_is : new ≡ old ++ entry_text e
-  pub held : IsHeld (form e.1)
+pub record WritesEntry (by : Alternatives) (e : Entry) (old new : List ℕ) : Type 0 where
+  pub text_is : new ≡ old ++ entry_text by e
+  pub held : IsHeld (form_by by e.1)
 
-pub record WritesEntries (es : List Entry) (old new : List ℕ) : Type 0 where
-  pub text_is : new ≡ old ++ entries_text false es
-  pub held : AllByRecursion (λ e. IsHeld (form e.1)) es
+pub record WritesEntries (by : Alternatives) (es : List Entry) (old new : List ℕ) : Type 0 where
+  pub text_is : new ≡ old ++ entries_text by false es
+  pub held : AllByRecursion (λ e. IsHeld (form_by by e.1)) es
 
 -- a key in quotes, and its colon
 abbrev pub key_text : List ℕ → List ℕ
@@ -76,6 +77,12 @@ first_annotations annotations =
 
 abbrev pub example_annotations : Annotations → List (List ℕ × Option Json)
 example_annotations annotations = (codes "example", annotations.example) ∷ (codes "examples", values_form annotations.examples) ∷ []
+
+-- all annotations, in byte order of their keys
+abbrev pub annotations_in_order : Annotations → List (List ℕ × Option Json)
+annotations_in_order annotations =
+    first_annotations annotations ++ (example_annotations annotations ++ ((codes "readOnly", option_map boolean annotations.read_only) ∷ (codes "title", option_map text annotations.title)
+    ∷ (codes "writeOnly", option_map boolean annotations.write_only) ∷ []))
 
 -- the names with their places, counted from i, are put among others in byte order; of equal names the last place counts
 abbrev pub places_from : ℕ → List (List ℕ) → List (List ℕ × ℕ) → List (List ℕ × ℕ)

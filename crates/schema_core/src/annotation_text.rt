@@ -2,7 +2,7 @@
 
 ghost use Rattle.std.specs.Prelude.{◌≡◌, ◌∷◌, [], codes, IfOk, option_map, string_bytes};
 ghost use Rattle.acceptance.specs.Json.{boolean, text as json_text};
-ghost use Rattle.schema_core.specs.Writes.{Writes, first_annotations, example_annotations};
+ghost use Rattle.schema_core.specs.Writes.{Writes, annotations_in_order, first_annotations, example_annotations};
 
 use crate::pushes::{push_json, push_jsons, push_text, push_truth};
 use schema_trees::{AnnotationKeywords, Annotations};
@@ -119,4 +119,21 @@ pub(crate) fn push_write_only(
         None => Ok(later),
         Some(said) => push_truth(text, later, "\"writeOnly\":", said.write_only),
     }
+}
+
+/// Adds the annotations, where no other member stands among them.
+pub(crate) fn push_annotations(
+    alloc: Global,
+    text: &mut String,
+    later: bool,
+    annotations: &Annotations,
+) -> Result<bool, AllocError>
+    ensures { IfOk result (λ went. Writes (annotations_in_order annotations.now) later
+        (string_bytes text.old) went (string_bytes text.new)) }
+{
+    let later = push_first_annotations(alloc, text, later, annotations)?;
+    let later = push_examples(alloc, text, later, annotations)?;
+    let later = push_read_only(text, later, annotations)?;
+    let later = push_title(alloc, text, later, annotations)?;
+    push_write_only(text, later, annotations)
 }

@@ -9,10 +9,11 @@ ghost use Rattle.acceptance.specs.Json.{put_all, no_members};
 ghost use Rattle.acceptance.specs.Data.{data_of, members_data};
 ghost use Rattle.schema_trees.specs.Held.{IsHeld, IsInOrder};
 ghost use Rattle.schema_trees.specs.Schema.{schema_view};
-ghost use Rattle.schema_core.specs.Document.{document, entry_form, text_of};
+ghost use Rattle.schema_core.specs.Document.{document, document_by, entry_form, text_of};
 ghost use Rattle.schema_core.specs.Entries.{entries_of, entry_names, find, with_entry};
 ghost use Rattle.schema_core.specs.Writes.{WritesEntry, WritesEntries};
 
+use crate::alternatives::Alternatives;
 use crate::form::schema_value;
 use crate::members::{object_of, put};
 use crate::pushes::{push_comma, push_words};
@@ -138,28 +139,43 @@ impl Components {
     }
 
     /// The forms of the schemas under their names.
-    fn schemas(&self, alloc: Global) -> Result<Map<String, Value>, AllocError>
+    fn schemas(&self, alloc: Global, by: Alternatives) -> Result<Map<String, Value>, AllocError>
         ensures { IfOk result
             (λ m. members_view m.entries
-            ≡ members_data (put_all (map_list entry_form self.now) no_members)) }
+            ≡ members_data (put_all (map_list (entry_form by) self.now) no_members)) }
     {
-        schema_values(alloc, self.names.as_slice(), self.schemas.as_slice())
+        schema_values(alloc, self.names.as_slice(), self.schemas.as_slice(), by)
     }
 
-    /// The document: `{"components":{"schemas":{..}}}` with each schema under its name.
+    /// The document: `{"components":{"schemas":{..}}}` with each schema under its name, and alternatives under `oneOf`.
     pub fn to_value(&self, alloc: Global) -> Result<Value, AllocError>
         ensures { IfOk result (λ value. view value ≡ data_of (document self.now)) }
     {
-        let schemas = Value::Object(self.schemas(alloc)?);
+        self.to_value_by(alloc, Alternatives::OneOf)
+    }
+
+    /// The document, with alternatives under the keyword `by`.
+    pub fn to_value_by(&self, alloc: Global, by: Alternatives) -> Result<Value, AllocError>
+        ensures { IfOk result (λ value. view value ≡ data_of (document_by by self.now)) }
+    {
+        let schemas = Value::Object(self.schemas(alloc, by)?);
         let components = object_of(alloc, "schemas", schemas)?;
         Ok(object_of(alloc, "components", components)?)
     }
 
-    /// The document's text: compact, members in byte order of their names, and one new line at the end. The document is a
-    /// value that `serde_json` can hold.
+    /// The text of the document with alternatives under `oneOf`: compact, members in byte order of their names, and one new
+    /// line at the end. The document is a value that `serde_json` can hold.
     pub fn to_text(&self, alloc: Global) -> Result<Text, AllocError>
         ensures text { IfOk result (λ text. text ≡ text_of (document self.now)) }
         ensures held { IfOk result (λ _. IsHeld (document self.now)) }
+    {
+        self.to_text_by(alloc, Alternatives::OneOf)
+    }
+
+    /// The text of the document with alternatives under the keyword `by`, else as `to_text` is.
+    pub fn to_text_by(&self, alloc: Global, by: Alternatives) -> Result<Text, AllocError>
+        ensures text { IfOk result (λ text. text ≡ text_of (document_by by self.now)) }
+        ensures held { IfOk result (λ _. IsHeld (document_by by self.now)) }
     {
         let mut text = String::from_str(alloc, "{\"components\":{\"schemas\":{")?;
         push_entries(
@@ -167,25 +183,28 @@ impl Components {
             &mut text,
             self.names.as_slice(),
             self.schemas.as_slice(),
+            by,
         )?;
         text.push_str("}}}\n")?;
         Ok(Text::from(text))
     }
 }
 
-/// Adds the name and the form of the schema, as a member of an object.
+/// Adds the name and the form of the schema, as a member of an object. The form, here and below, has alternatives under the
+/// keyword `by`.
 fn push_entry(
     alloc: Global,
     text: &mut String,
     name: &str,
     schema: &Schema,
+    by: Alternatives,
 ) -> Result<(), AllocError>
-    ensures { OnOk result (WritesEntry (name.now, schema_view schema.now)
+    ensures { OnOk result (WritesEntry by (name.now, schema_view schema.now)
         (string_bytes text.old) (string_bytes text.new)) }
 {
     push_words(alloc, text, name)?;
     text.push_str(":")?;
-    push_schema(alloc, text, schema)?;
+    push_schema(alloc, text, schema, by)?;
     Ok(())
 }
 
@@ -195,15 +214,16 @@ fn push_entries(
     text: &mut String,
     names: &[Text],
     schemas: &[Schema],
+    by: Alternatives,
 ) -> Result<(), AllocError>
     requires { length names.now ≡ length schemas.now }
     ensures { OnOk result
-        (WritesEntries (entries_of names.now (map_list schema_view schemas.now))
+        (WritesEntries by (entries_of names.now (map_list schema_view schemas.now))
         (string_bytes text.old) (string_bytes text.new)) }
 {
     for i in 0..names.len() {
         push_comma(text, i > 0)?;
-        push_entry(alloc, text, names[i].as_str(), &schemas[i])?;
+        push_entry(alloc, text, names[i].as_str(), &schemas[i], by)?;
     }
     Ok(())
 }
@@ -213,17 +233,19 @@ fn schema_values(
     alloc: Global,
     names: &[Text],
     schemas: &[Schema],
+    by: Alternatives,
 ) -> Result<Map<String, Value>, AllocError>
     requires { length names.now ≡ length schemas.now }
     ensures { IfOk result
         (λ m. members_view m.entries
         ≡ members_data
-        (put_all (map_list entry_form (entries_of names.now (map_list schema_view schemas.now)))
+        (put_all
+        (map_list (entry_form by) (entries_of names.now (map_list schema_view schemas.now)))
         no_members)) }
 {
     let mut values = Map::new(alloc);
     for i in 0..names.len() {
-        let value = schema_value(alloc, &schemas[i])?;
+        let value = schema_value(alloc, &schemas[i], by)?;
         put(alloc, &mut values, names[i].as_str(), value)?;
     }
     Ok(values)

@@ -5,10 +5,11 @@ ghost use Rattle.serde_json.specs.View.{view, members_view, items_view};
 ghost use Rattle.serde_json.specs.Data.{put as put_data};
 ghost use Rattle.acceptance.specs.Json.{Json, text as json_text, number, list as json_list, put_given, put_all, no_members, map_of};
 ghost use Rattle.acceptance.specs.Data.{data_of, members_data, items_data};
-ghost use Rattle.schema_trees.specs.Schema.{leaf, schema_view, object_view, array_view, one_of_view, all_of_view, additional_view, array_items_view, optional_view, tree_views, named_views};
-ghost use Rattle.schema_core.specs.Form.{form, annotation_fields, bound_fields, schema_forms, part_form, value_items, values_form, schemas_form, property_forms, word_text, type_form, texts_form, required_form, entries_form, reference_text, array_word};
+ghost use Rattle.schema_trees.specs.Schema.{schema_view, object_view, array_view, one_of_view, all_of_view, additional_view, array_items_view, optional_view, tree_views, named_views};
+ghost use Rattle.schema_core.specs.Form.{form_by, fields_form, reference_fields, annotation_fields, bound_fields, schema_forms, part_form, value_items, values_form, schemas_form, property_forms, word_text, type_form, texts_form, required_form, entries_form, reference_text, array_word};
 ghost use Rattle.schema_core.specs.Members.{Puts};
 
+use crate::alternatives::Alternatives;
 use crate::members::{
     put, put_bound, put_given, put_json, put_text, put_true, put_truth, text_value,
 };
@@ -171,7 +172,8 @@ fn put_bounds(
 
 /// The value of a reference.
 fn reference_value(alloc: Global, reference: &RefLeaf) -> Result<Value, AllocError>
-    ensures { IfOk result (λ value. view value ≡ data_of (form (leaf reference.now))) }
+    ensures { IfOk result
+        (λ value. view value ≡ data_of (fields_form (reference_fields reference.now))) }
 {
     let mut target = String::from_str(alloc, "#/components/schemas/")?;
     target.push_str(reference.name.as_str())?;
@@ -181,34 +183,43 @@ fn reference_value(alloc: Global, reference: &RefLeaf) -> Result<Value, AllocErr
     Ok(Value::Object(members))
 }
 
-/// The JSON of a schema.
+/// The JSON of a schema, with alternatives under the keyword `by`; so are those below.
 #[cycle(value)]
-pub(crate) fn schema_value(alloc: Global, schema: &Schema) -> Result<Value, AllocError>
-    ensures { IfOk result (λ value. view value ≡ data_of (form (schema_view schema.now))) }
+pub(crate) fn schema_value(
+    alloc: Global,
+    schema: &Schema,
+    by: Alternatives,
+) -> Result<Value, AllocError>
+    ensures { IfOk result (λ value. view value ≡ data_of (form_by by (schema_view schema.now))) }
 {
     match schema {
-        Tree::Object(object) => object_value(alloc, object),
-        Tree::Array(array) => array_value(alloc, array),
-        Tree::OneOf(one_of) => one_of_value(alloc, one_of),
-        Tree::AllOf(all_of) => all_of_value(alloc, all_of),
+        Tree::Object(object) => object_value(alloc, object, by),
+        Tree::Array(array) => array_value(alloc, array, by),
+        Tree::OneOf(one_of) => one_of_value(alloc, one_of, by),
+        Tree::AllOf(all_of) => all_of_value(alloc, all_of, by),
         Tree::Leaf(reference) => reference_value(alloc, reference),
     }
 }
 
 #[cycle(value)]
-fn object_value(alloc: Global, object: &Object<RefLeaf>) -> Result<Value, AllocError>
-    ensures { IfOk result (λ value. view value ≡ data_of (form (object_view (λ l. l) object.now))) }
+fn object_value(
+    alloc: Global,
+    object: &Object<RefLeaf>,
+    by: Alternatives,
+) -> Result<Value, AllocError>
+    ensures { IfOk result
+        (λ value. view value ≡ data_of (form_by by (object_view (λ l. l) object.now))) }
 {
     let mut members = Map::new(alloc);
     put_given(alloc, &mut members, "type", type_value(alloc, object.ty)?)?;
     put_text(alloc, &mut members, "format", &object.format)?;
     let enum_values = jsons_value(alloc, &object.enum_values)?;
     put_given(alloc, &mut members, "enum", enum_values)?;
-    let properties = properties_value(alloc, object.properties.as_slice())?;
+    let properties = properties_value(alloc, object.properties.as_slice(), by)?;
     put_given(alloc, &mut members, "properties", properties)?;
-    let additional = additional_value(alloc, &object.additional)?;
+    let additional = additional_value(alloc, &object.additional, by)?;
     put_given(alloc, &mut members, "additionalProperties", additional)?;
-    let names = optional_value(alloc, &object.property_names)?;
+    let names = optional_value(alloc, &object.property_names, by)?;
     put_given(alloc, &mut members, "propertyNames", names)?;
     let required = required_value(alloc, object.required.as_slice())?;
     put_given(alloc, &mut members, "required", required)?;
@@ -222,16 +233,17 @@ fn object_value(alloc: Global, object: &Object<RefLeaf>) -> Result<Value, AllocE
 fn properties_value(
     alloc: Global,
     properties: &[(Text, Schema)],
+    by: Alternatives,
 ) -> Result<Option<Value>, AllocError>
     ensures { IfOk result
         (λ value. option_map view value
         ≡ option_map data_of
-        (entries_form (property_forms (named_views (λ l. l) properties.now)))) }
+        (entries_form (property_forms by (named_views (λ l. l) properties.now)))) }
 {
     if properties.is_empty() {
         return Ok(None);
     }
-    Ok(Some(Value::Object(property_values(alloc, properties)?)))
+    Ok(Some(Value::Object(property_values(alloc, properties, by)?)))
 }
 
 /// The schemas of the properties by their names.
@@ -239,14 +251,15 @@ fn properties_value(
 fn property_values(
     alloc: Global,
     properties: &[(Text, Schema)],
+    by: Alternatives,
 ) -> Result<Map<String, Value>, AllocError>
     ensures { IfOk result (λ values. members_view values.entries
         ≡ members_data
-        (put_all (property_forms (named_views (λ l. l) properties.now)) no_members)) }
+        (put_all (property_forms by (named_views (λ l. l) properties.now)) no_members)) }
 {
     let mut values = Map::new(alloc);
     for property in properties {
-        let value = schema_value(alloc, &property.1)?;
+        let value = schema_value(alloc, &property.1, by)?;
         put(alloc, &mut values, property.0.as_str(), value)?;
     }
     Ok(values)
@@ -257,60 +270,74 @@ fn property_values(
 fn additional_value(
     alloc: Global,
     additional: &Additional<RefLeaf>,
+    by: Alternatives,
 ) -> Result<Option<Value>, AllocError>
     ensures { IfOk result
         (λ value. option_map view value
-        ≡ option_map data_of (part_form (additional_view (λ l. l) additional.now))) }
+        ≡ option_map data_of (part_form by (additional_view (λ l. l) additional.now))) }
 {
     match additional {
         Additional::Absent => Ok(None),
         Additional::Truth(truth) => Ok(Some(Value::Bool(*truth))),
-        Additional::Of(schema) => Ok(Some(schema_value(alloc, schema)?)),
+        Additional::Of(schema) => Ok(Some(schema_value(alloc, schema, by)?)),
     }
 }
 
 /// The value of a schema that may be left out.
 #[cycle(value)]
-fn optional_value(alloc: Global, schema: &Option<Schema>) -> Result<Option<Value>, AllocError>
+fn optional_value(
+    alloc: Global,
+    schema: &Option<Schema>,
+    by: Alternatives,
+) -> Result<Option<Value>, AllocError>
     ensures { IfOk result
         (λ value. option_map view value
-        ≡ option_map data_of (part_form (optional_view (λ l. l) schema.now))) }
+        ≡ option_map data_of (part_form by (optional_view (λ l. l) schema.now))) }
 {
     match schema {
         None => Ok(None),
-        Some(schema) => Ok(Some(schema_value(alloc, schema)?)),
+        Some(schema) => Ok(Some(schema_value(alloc, schema, by)?)),
     }
 }
 
 /// The value of `items`.
 #[cycle(value)]
-fn items_value(alloc: Global, items: &ArrayItems<RefLeaf>) -> Result<Value, AllocError>
+fn items_value(
+    alloc: Global,
+    items: &ArrayItems<RefLeaf>,
+    by: Alternatives,
+) -> Result<Value, AllocError>
     ensures { IfOk result
         (λ value. Some (view value)
-        ≡ option_map data_of (part_form (array_items_view (λ l. l) items.now))) }
+        ≡ option_map data_of (part_form by (array_items_view (λ l. l) items.now))) }
 {
     match items {
         ArrayItems::False => Ok(Value::Bool(false)),
-        ArrayItems::Each(schema) => schema_value(alloc, schema),
+        ArrayItems::Each(schema) => schema_value(alloc, schema, by),
     }
 }
 
 /// The value of `prefixItems`, where there is a schema.
 #[cycle(value)]
-fn front_value(alloc: Global, schemas: &[Schema]) -> Result<Option<Value>, AllocError>
+fn front_value(
+    alloc: Global,
+    schemas: &[Schema],
+    by: Alternatives,
+) -> Result<Option<Value>, AllocError>
     ensures { IfOk result
         (λ value. option_map view value
-        ≡ option_map data_of (schemas_form (schema_forms (tree_views (λ l. l) schemas.now)))) }
+        ≡ option_map data_of (schemas_form (schema_forms by (tree_views (λ l. l) schemas.now)))) }
 {
     if schemas.is_empty() {
         return Ok(None);
     }
-    Ok(Some(Value::Array(schema_values(alloc, schemas)?)))
+    Ok(Some(Value::Array(schema_values(alloc, schemas, by)?)))
 }
 
 #[cycle(value)]
-fn array_value(alloc: Global, array: &Array<RefLeaf>) -> Result<Value, AllocError>
-    ensures { IfOk result (λ value. view value ≡ data_of (form (array_view (λ l. l) array.now))) }
+fn array_value(alloc: Global, array: &Array<RefLeaf>, by: Alternatives) -> Result<Value, AllocError>
+    ensures { IfOk result
+        (λ value. view value ≡ data_of (form_by by (array_view (λ l. l) array.now))) }
 {
     let word = type_value(alloc, array_word(array.nullable))?;
     let mut members = Map::new(alloc);
@@ -318,44 +345,58 @@ fn array_value(alloc: Global, array: &Array<RefLeaf>) -> Result<Value, AllocErro
     put_true(alloc, &mut members, "uniqueItems", array.unique)?;
     put_bound(alloc, &mut members, "maxItems", &array.max_items)?;
     put_bound(alloc, &mut members, "minItems", &array.min_items)?;
-    let front = front_value(alloc, array.prefix_items.as_slice())?;
+    let front = front_value(alloc, array.prefix_items.as_slice(), by)?;
     put_given(alloc, &mut members, "prefixItems", front)?;
-    let rest = items_value(alloc, &array.items)?;
+    let rest = items_value(alloc, &array.items, by)?;
     put_given(alloc, &mut members, "items", Some(rest))?;
     put_annotations(alloc, &mut members, &array.annotations)?;
     Ok(Value::Object(members))
 }
 
 #[cycle(value)]
-fn one_of_value(alloc: Global, one_of: &OneOfSchema<RefLeaf>) -> Result<Value, AllocError>
-    ensures { IfOk result (λ value. view value ≡ data_of (form (one_of_view (λ l. l) one_of.now))) }
+fn one_of_value(
+    alloc: Global,
+    one_of: &OneOfSchema<RefLeaf>,
+    by: Alternatives,
+) -> Result<Value, AllocError>
+    ensures { IfOk result
+        (λ value. view value ≡ data_of (form_by by (one_of_view (λ l. l) one_of.now))) }
 {
     let mut members = Map::new(alloc);
-    let items = schema_values(alloc, one_of.items.as_slice())?;
-    put(alloc, &mut members, "oneOf", Value::Array(items))?;
+    let items = schema_values(alloc, one_of.items.as_slice(), by)?;
+    put(alloc, &mut members, by.word(), Value::Array(items))?;
     put_annotations(alloc, &mut members, &one_of.annotations)?;
     Ok(Value::Object(members))
 }
 
 #[cycle(value)]
-fn all_of_value(alloc: Global, all_of: &AllOfSchema<RefLeaf>) -> Result<Value, AllocError>
-    ensures { IfOk result (λ value. view value ≡ data_of (form (all_of_view (λ l. l) all_of.now))) }
+fn all_of_value(
+    alloc: Global,
+    all_of: &AllOfSchema<RefLeaf>,
+    by: Alternatives,
+) -> Result<Value, AllocError>
+    ensures { IfOk result
+        (λ value. view value ≡ data_of (form_by by (all_of_view (λ l. l) all_of.now))) }
 {
     let mut members = Map::new(alloc);
-    let items = schema_values(alloc, all_of.items.as_slice())?;
+    let items = schema_values(alloc, all_of.items.as_slice(), by)?;
     put(alloc, &mut members, "allOf", Value::Array(items))?;
     put_annotations(alloc, &mut members, &all_of.annotations)?;
     Ok(Value::Object(members))
 }
 
 #[cycle(value)]
-fn schema_values(alloc: Global, schemas: &[Schema]) -> Result<Vec<Value>, AllocError>
+fn schema_values(
+    alloc: Global,
+    schemas: &[Schema],
+    by: Alternatives,
+) -> Result<Vec<Value>, AllocError>
     ensures { IfOk result (λ values. items_view values.items
-        ≡ items_data (schema_forms (tree_views (λ l. l) schemas.now))) }
+        ≡ items_data (schema_forms by (tree_views (λ l. l) schemas.now))) }
 {
     let mut values = Vec::new(alloc);
     for schema in schemas {
-        values.push(schema_value(alloc, schema)?)?;
+        values.push(schema_value(alloc, schema, by)?)?;
     }
     Ok(values)
 }

@@ -1,4 +1,5 @@
-//! What rests on the definitions alone: laws that callers rely on, as contracts of functions that do nothing.
+//! What rests on the definitions alone: laws that callers rely on, as contracts of functions that do nothing. They hold of
+//! documents with alternatives under either keyword.
 
 ghost use Rattle.schema_core.specs.Meaning.{FormsAccept, FormsRefer, DocumentsHold};
 ghost use Rattle.schema_core.specs.OneText.{OneText, OneDocument, TextsReadBack};
@@ -23,7 +24,8 @@ pub fn texts_are_one()
     ensures { OneText }
 {}
 
-/// Two documents of one text have the same components, the names and the JSON of each, where their numbers fit 64 bits.
+/// Two documents of one text, with alternatives under one keyword, have the same components, the names and the JSON of each,
+/// where their numbers fit 64 bits.
 pub fn documents_are_one()
     ensures { OneDocument }
 {}

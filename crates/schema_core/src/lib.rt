@@ -1,6 +1,7 @@
 //! The JSON of schemas, components by name, and the document of components.
 #![tactic(auto)]
 
+mod alternatives;
 mod annotation_text;
 mod components;
 mod form;
@@ -9,6 +10,7 @@ mod members;
 mod pushes;
 mod schema_text;
 
+pub use alternatives::Alternatives;
 pub use components::Components;
 pub use law::{
     documents_are_one, documents_hold, forms_accept, forms_refer, texts_are_one, texts_read_back,

@@ -1,13 +1,16 @@
 //! Schemas as text.
 
-ghost use Rattle.std.specs.Prelude.{◌≡◌, ◌∷◌, [], codes, true, false, IfOk, OnOk, string_bytes, map as map_list};
-ghost use Rattle.acceptance.specs.Json.{map_of};
-ghost use Rattle.schema_core.specs.Form.{entries_form, form, part_form, property_forms, required_form, schema_forms, schemas_form, type_form};
-ghost use Rattle.schema_trees.specs.Schema.{leaf, schema_view, object_view, array_view, one_of_view, all_of_view, additional_view, array_items_view, optional_view, tree_views, named_views};
-ghost use Rattle.schema_core.specs.Writes.{Writes, WritesValue, WritesItems, places_from};
+ghost use Rattle.std.specs.Prelude.{◌≡◌, ◌∷◌, [], codes, true, false, Some, IfOk, OnOk, string_bytes, map as map_list};
+ghost use Rattle.schema_core.specs.declared.alternatives.Alternatives.TheVariants.{OneOf, AnyOf};
+ghost use Rattle.acceptance.specs.Json.{list as json_list, map_of};
+ghost use Rattle.schema_core.specs.Form.{entries_form, fields_form, form_by, part_form, property_forms, reference_fields, required_form, schema_forms, schemas_form, type_form};
+ghost use Rattle.schema_trees.specs.Schema.{schema_view, object_view, array_view, one_of_view, all_of_view, additional_view, array_items_view, optional_view, tree_views, named_views};
+ghost use Rattle.schema_core.specs.Writes.{Writes, WritesAt, WritesValue, WritesItems, places_from};
 
+use crate::alternatives::Alternatives;
 use crate::annotation_text::{
-    push_examples, push_first_annotations, push_read_only, push_title, push_write_only,
+    push_annotations, push_examples, push_first_annotations, push_read_only, push_title,
+    push_write_only,
 };
 use crate::form::{array_word, word_of};
 use crate::pushes::{
@@ -81,56 +84,58 @@ fn property_order<'a>(
 
 /// Adds the text of a reference.
 fn push_reference(alloc: Global, text: &mut String, reference: &RefLeaf) -> Result<(), AllocError>
-    ensures { OnOk result (WritesValue (form (leaf reference.now))
+    ensures { OnOk result (WritesValue (fields_form (reference_fields reference.now))
         (string_bytes text.old) (string_bytes text.new)) }
 {
     let mut target = String::from_str(alloc, "#/components/schemas/")?;
     target.push_str(reference.name.as_str())?;
     text.push_str("{\"$ref\":")?;
     push_words(alloc, text, target.as_str())?;
-    let later = push_first_annotations(alloc, text, true, &reference.annotations)?;
-    let later = push_examples(alloc, text, later, &reference.annotations)?;
-    let later = push_read_only(text, later, &reference.annotations)?;
-    let later = push_title(alloc, text, later, &reference.annotations)?;
-    push_write_only(text, later, &reference.annotations)?;
+    push_annotations(alloc, text, true, &reference.annotations)?;
     text.push_str("}")?;
     Ok(())
 }
 
-/// Adds the text of a schema.
+/// Adds the text of a schema, with alternatives under the keyword `by`; so do those below.
 #[cycle(text)]
 pub(crate) fn push_schema(
     alloc: Global,
     text: &mut String,
     schema: &Schema,
+    by: Alternatives,
 ) -> Result<(), AllocError>
-    ensures { OnOk result (WritesValue (form (schema_view schema.now))
+    ensures { OnOk result (WritesValue (form_by by (schema_view schema.now))
         (string_bytes text.old) (string_bytes text.new)) }
 {
     match schema {
-        Tree::Object(object) => push_object(alloc, text, object),
-        Tree::Array(array) => push_array(alloc, text, array),
-        Tree::OneOf(one_of) => push_one_of(alloc, text, one_of),
-        Tree::AllOf(all_of) => push_all_of(alloc, text, all_of),
+        Tree::Object(object) => push_object(alloc, text, object, by),
+        Tree::Array(array) => push_array(alloc, text, array, by),
+        Tree::OneOf(one_of) => push_alternatives(alloc, text, one_of, by),
+        Tree::AllOf(all_of) => push_all_of(alloc, text, all_of, by),
         Tree::Leaf(reference) => push_reference(alloc, text, reference),
     }
 }
 
 #[cycle(text)]
-fn push_object(alloc: Global, text: &mut String, object: &Object<RefLeaf>) -> Result<(), AllocError>
-    ensures { OnOk result (WritesValue (form (object_view (λ l. l) object.now))
+fn push_object(
+    alloc: Global,
+    text: &mut String,
+    object: &Object<RefLeaf>,
+    by: Alternatives,
+) -> Result<(), AllocError>
+    ensures { OnOk result (WritesValue (form_by by (object_view (λ l. l) object.now))
         (string_bytes text.old) (string_bytes text.new)) }
 {
     let annotations = &object.annotations;
     text.push_str("{")?;
-    let later = push_additional(alloc, text, &object.additional)?;
+    let later = push_additional(alloc, text, &object.additional, by)?;
     let later = push_first_annotations(alloc, text, later, annotations)?;
     let later = push_jsons(alloc, text, later, "\"enum\":", &object.enum_values)?;
     let later = push_examples(alloc, text, later, annotations)?;
     let later = push_text(alloc, text, later, "\"format\":", &object.format)?;
     let later = push_bound(alloc, text, later, "\"minimum\":", &object.bounds.minimum)?;
-    let later = push_properties(alloc, text, later, object.properties.as_slice())?;
-    let later = push_names(alloc, text, later, &object.property_names)?;
+    let later = push_properties(alloc, text, later, object.properties.as_slice(), by)?;
+    let later = push_names(alloc, text, later, &object.property_names, by)?;
     let later = push_read_only(text, later, annotations)?;
     let later = push_required(alloc, text, later, object.required.as_slice())?;
     let later = push_title(alloc, text, later, annotations)?;
@@ -146,10 +151,11 @@ fn push_additional(
     alloc: Global,
     text: &mut String,
     additional: &Additional<RefLeaf>,
+    by: Alternatives,
 ) -> Result<bool, AllocError>
     ensures { IfOk result (λ went. Writes
-        ((codes "additionalProperties", part_form (additional_view (λ l. l) additional.now)) ∷ [])
-        false (string_bytes text.old) went (string_bytes text.new)) }
+        ((codes "additionalProperties", part_form by (additional_view (λ l. l) additional.now))
+        ∷ []) false (string_bytes text.old) went (string_bytes text.new)) }
 {
     match additional {
         Additional::Absent => Ok(false),
@@ -158,7 +164,7 @@ fn push_additional(
         }
         Additional::Of(schema) => {
             text.push_str("\"additionalProperties\":")?;
-            push_schema(alloc, text, schema)?;
+            push_schema(alloc, text, schema, by)?;
             Ok(true)
         }
     }
@@ -171,16 +177,17 @@ fn push_names(
     text: &mut String,
     later: bool,
     names: &Option<Schema>,
+    by: Alternatives,
 ) -> Result<bool, AllocError>
     ensures { IfOk result (λ went. Writes
-        ((codes "propertyNames", part_form (optional_view (λ l. l) names.now)) ∷ [])
+        ((codes "propertyNames", part_form by (optional_view (λ l. l) names.now)) ∷ [])
         later (string_bytes text.old) went (string_bytes text.new)) }
 {
     match names {
         None => Ok(later),
         Some(schema) => {
             push_key(text, later, "\"propertyNames\":")?;
-            push_schema(alloc, text, schema)?;
+            push_schema(alloc, text, schema, by)?;
             Ok(true)
         }
     }
@@ -193,16 +200,20 @@ fn push_properties(
     text: &mut String,
     later: bool,
     properties: &[(Text, Schema)],
+    by: Alternatives,
 ) -> Result<bool, AllocError>
     ensures { IfOk result (λ went. Writes
-        ((codes "properties", entries_form (property_forms (named_views (λ l. l) properties.now)))
-        ∷ []) later (string_bytes text.old) went (string_bytes text.new)) }
+        ((
+          codes "properties",
+          entries_form (property_forms by (named_views (λ l. l) properties.now)),
+        ) ∷ []) later
+        (string_bytes text.old) went (string_bytes text.new)) }
 {
     if properties.is_empty() {
         return Ok(later);
     }
     push_key(text, later, "\"properties\":")?;
-    push_members(alloc, text, properties)?;
+    push_members(alloc, text, properties, by)?;
     Ok(true)
 }
 
@@ -212,9 +223,10 @@ fn push_members(
     alloc: Global,
     text: &mut String,
     properties: &[(Text, Schema)],
+    by: Alternatives,
 ) -> Result<(), AllocError>
     ensures { OnOk result
-        (WritesValue (map_of (property_forms (named_views (λ l. l) properties.now)))
+        (WritesValue (map_of (property_forms by (named_views (λ l. l) properties.now)))
         (string_bytes text.old) (string_bytes text.new)) }
 {
     let order = property_order(alloc, properties)?;
@@ -224,7 +236,7 @@ fn push_members(
         push_comma(text, later)?;
         push_words(alloc, text, name)?;
         text.push_str(":")?;
-        push_schema(alloc, text, &properties[*place].1)?;
+        push_schema(alloc, text, &properties[*place].1, by)?;
         later = true;
     }
     text.push_str("}")?;
@@ -238,15 +250,16 @@ fn push_items(
     text: &mut String,
     later: bool,
     items: &ArrayItems<RefLeaf>,
+    by: Alternatives,
 ) -> Result<(), AllocError>
     ensures { OnOk result (Writes
-        ((codes "items", part_form (array_items_view (λ l. l) items.now)) ∷ [])
+        ((codes "items", part_form by (array_items_view (λ l. l) items.now)) ∷ [])
         later (string_bytes text.old) true (string_bytes text.new)) }
 {
     push_key(text, later, "\"items\":")?;
     match items {
         ArrayItems::False => text.push_str("false")?,
-        ArrayItems::Each(schema) => push_schema(alloc, text, schema)?,
+        ArrayItems::Each(schema) => push_schema(alloc, text, schema, by)?,
     }
     Ok(())
 }
@@ -258,33 +271,37 @@ fn push_front(
     text: &mut String,
     later: bool,
     schemas: &[Schema],
+    by: Alternatives,
 ) -> Result<bool, AllocError>
     ensures { IfOk result (λ went. Writes
-        ((codes "prefixItems", schemas_form (schema_forms (tree_views (λ l. l) schemas.now))) ∷ [])
-        later (string_bytes text.old) went (string_bytes text.new)) }
+        ((codes "prefixItems", schemas_form (schema_forms by (tree_views (λ l. l) schemas.now)))
+        ∷ []) later (string_bytes text.old) went (string_bytes text.new)) }
 {
     if schemas.is_empty() {
         return Ok(later);
     }
-    push_key(text, later, "\"prefixItems\":[")?;
-    push_schemas(alloc, text, schemas)?;
-    text.push_str("]")?;
+    push_list(alloc, text, later, "\"prefixItems\":", schemas, by)?;
     Ok(true)
 }
 
 #[cycle(text)]
-fn push_array(alloc: Global, text: &mut String, array: &Array<RefLeaf>) -> Result<(), AllocError>
-    ensures { OnOk result (WritesValue (form (array_view (λ l. l) array.now))
+fn push_array(
+    alloc: Global,
+    text: &mut String,
+    array: &Array<RefLeaf>,
+    by: Alternatives,
+) -> Result<(), AllocError>
+    ensures { OnOk result (WritesValue (form_by by (array_view (λ l. l) array.now))
         (string_bytes text.old) (string_bytes text.new)) }
 {
     let annotations = &array.annotations;
     text.push_str("{")?;
     let later = push_first_annotations(alloc, text, false, annotations)?;
     let later = push_examples(alloc, text, later, annotations)?;
-    push_items(alloc, text, later, &array.items)?;
+    push_items(alloc, text, later, &array.items, by)?;
     let later = push_bound(alloc, text, true, "\"maxItems\":", &array.max_items)?;
     let later = push_bound(alloc, text, later, "\"minItems\":", &array.min_items)?;
-    let later = push_front(alloc, text, later, array.prefix_items.as_slice())?;
+    let later = push_front(alloc, text, later, array.prefix_items.as_slice(), by)?;
     let later = push_read_only(text, later, annotations)?;
     let later = push_title(alloc, text, later, annotations)?;
     let later = push_type(text, later, array_word(array.nullable))?;
@@ -294,25 +311,94 @@ fn push_array(alloc: Global, text: &mut String, array: &Array<RefLeaf>) -> Resul
     Ok(())
 }
 
+/// Adds the member of a list of schemas.
+#[cycle(text)]
+fn push_list(
+    alloc: Global,
+    text: &mut String,
+    later: bool,
+    key: &str,
+    schemas: &[Schema],
+    by: Alternatives,
+) -> Result<(), AllocError>
+    ensures { OnOk result (WritesAt key.now
+        (Some (json_list (schema_forms by (tree_views (λ l. l) schemas.now))))
+        later (string_bytes text.old) true (string_bytes text.new)) }
+{
+    push_key(text, later, key)?;
+    text.push_str("[")?;
+    push_schemas(alloc, text, schemas, by)?;
+    text.push_str("]")?;
+    Ok(())
+}
+
+#[cycle(text)]
+fn push_alternatives(
+    alloc: Global,
+    text: &mut String,
+    one_of: &OneOfSchema<RefLeaf>,
+    by: Alternatives,
+) -> Result<(), AllocError>
+    ensures { OnOk result (WritesValue (form_by by (one_of_view (λ l. l) one_of.now))
+        (string_bytes text.old) (string_bytes text.new)) }
+{
+    match by {
+        Alternatives::OneOf => push_one_of(alloc, text, one_of),
+        Alternatives::AnyOf => push_any_of(alloc, text, one_of),
+    }
+}
+
+/// Adds alternatives under `oneOf`, which stands among the annotations.
 #[cycle(text)]
 fn push_one_of(
     alloc: Global,
     text: &mut String,
     one_of: &OneOfSchema<RefLeaf>,
 ) -> Result<(), AllocError>
-    ensures { OnOk result (WritesValue (form (one_of_view (λ l. l) one_of.now))
+    ensures { OnOk result (WritesValue (form_by OneOf (one_of_view (λ l. l) one_of.now))
         (string_bytes text.old) (string_bytes text.new)) }
 {
     let annotations = &one_of.annotations;
+    let schemas = one_of.items.as_slice();
     text.push_str("{")?;
     let later = push_first_annotations(alloc, text, false, annotations)?;
     let later = push_examples(alloc, text, later, annotations)?;
-    push_key(text, later, "\"oneOf\":[")?;
-    push_schemas(alloc, text, one_of.items.as_slice())?;
-    text.push_str("]")?;
+    push_list(
+        alloc,
+        text,
+        later,
+        "\"oneOf\":",
+        schemas,
+        Alternatives::OneOf,
+    )?;
     let later = push_read_only(text, true, annotations)?;
     let later = push_title(alloc, text, later, annotations)?;
     push_write_only(text, later, annotations)?;
+    text.push_str("}")?;
+    Ok(())
+}
+
+/// Adds alternatives under `anyOf`, which stands before the annotations.
+#[cycle(text)]
+fn push_any_of(
+    alloc: Global,
+    text: &mut String,
+    any_of: &OneOfSchema<RefLeaf>,
+) -> Result<(), AllocError>
+    ensures { OnOk result (WritesValue (form_by AnyOf (one_of_view (λ l. l) any_of.now))
+        (string_bytes text.old) (string_bytes text.new)) }
+{
+    let schemas = any_of.items.as_slice();
+    text.push_str("{")?;
+    push_list(
+        alloc,
+        text,
+        false,
+        "\"anyOf\":",
+        schemas,
+        Alternatives::AnyOf,
+    )?;
+    push_annotations(alloc, text, true, &any_of.annotations)?;
     text.push_str("}")?;
     Ok(())
 }
@@ -322,33 +408,40 @@ fn push_all_of(
     alloc: Global,
     text: &mut String,
     all_of: &AllOfSchema<RefLeaf>,
+    by: Alternatives,
 ) -> Result<(), AllocError>
-    ensures { OnOk result (WritesValue (form (all_of_view (λ l. l) all_of.now))
+    ensures { OnOk result (WritesValue (form_by by (all_of_view (λ l. l) all_of.now))
         (string_bytes text.old) (string_bytes text.new)) }
 {
-    let annotations = &all_of.annotations;
-    text.push_str("{\"allOf\":[")?;
-    push_schemas(alloc, text, all_of.items.as_slice())?;
-    text.push_str("]")?;
-    let later = push_first_annotations(alloc, text, true, annotations)?;
-    let later = push_examples(alloc, text, later, annotations)?;
-    let later = push_read_only(text, later, annotations)?;
-    let later = push_title(alloc, text, later, annotations)?;
-    push_write_only(text, later, annotations)?;
+    text.push_str("{")?;
+    push_list(
+        alloc,
+        text,
+        false,
+        "\"allOf\":",
+        all_of.items.as_slice(),
+        by,
+    )?;
+    push_annotations(alloc, text, true, &all_of.annotations)?;
     text.push_str("}")?;
     Ok(())
 }
 
 /// Adds the texts of the schemas with commas between.
 #[cycle(text)]
-fn push_schemas(alloc: Global, text: &mut String, schemas: &[Schema]) -> Result<(), AllocError>
-    ensures { OnOk result (WritesItems (schema_forms (tree_views (λ l. l) schemas.now))
+fn push_schemas(
+    alloc: Global,
+    text: &mut String,
+    schemas: &[Schema],
+    by: Alternatives,
+) -> Result<(), AllocError>
+    ensures { OnOk result (WritesItems (schema_forms by (tree_views (λ l. l) schemas.now))
         (string_bytes text.old) (string_bytes text.new)) }
 {
     let mut later = false;
     for schema in schemas {
         push_comma(text, later)?;
-        push_schema(alloc, text, schema)?;
+        push_schema(alloc, text, schema, by)?;
         later = true;
     }
     Ok(())

@@ -2,4 +2,4 @@ use Rattle.closing.proofs.InstanceDescribed.{describes}
 use Rattle.closing.proofs.law.components_describe.Goals as goal
 
 pub returns : goal.returns
-returns c = λ ss all cs apart names shallow made. describes c.forms_accept.ensures c.documents_hold.ensures ss all cs apart made c.instance_terms_accept.ensures c.types_stay_without_arguments.ensures shallow c.forms_refer.ensures names
+returns c = λ ss all cs apart names shallow made keyword. describes keyword c.forms_accept.ensures c.documents_hold.ensures ss all cs apart made c.instance_terms_accept.ensures c.types_stay_without_arguments.ensures shallow c.forms_refer.ensures names

@@ -1,5 +1,6 @@
 use Rattle.std.proofs.Common.{inl, inr}
 use Rattle.std.proofs.lemmas.Result.{err_from_is_err_and}
+use Rattle.schema_core.specs.declared.alternatives.Alternatives.TheVariants.{OneOf}
 use Rattle.syntax.specs.Items.{declarations_view}
 use Rattle.compose.proofs.derive.derive_components.Goals as goal
 
@@ -33,7 +34,7 @@ returns-clause-describes c =
         shallow = c.in_ok-declarations.ensures.shallow;
         derived = derived.0;
       },
-      derived.1,
+      derived.1 OneOf,
     )
 
 pub returns-clause-types : goal.returns-clause-types

@@ -17,7 +17,7 @@ returns-then-are_long-clause-told c =
     let chosen = map (λ (i : Bor FileItem). i.now) c.in_ok-chosen.chosen in
     let selected = subst (λ (v : List Node). AreSelected s v c.args.items.now chosen) (c.as_slice.ensures ∙ c.in_ok-aliases.ensures) c.in_ok-chosen.ensures in
     told_if c.alone.result
-    (λ told is files declared. subst (AreTold s c.args.config.now files) (sym (is ∙ ap (λ (t : Told). t ∷ []) c.in_ok-told_plainly.ensures)) (of_length declared (c.in_ok-know_names.ensures.known, selected) long)) c.alone.ensures
+    (λ told is files faults taken. subst (AreTold s c.args.config.now files) (sym (is ∙ ap (λ (t : Told). t ∷ []) c.in_ok-told_plainly.ensures)) (of_length taken (c.in_ok-know_names.ensures.known, selected) long)) c.alone.ensures
 
 pub returns-in_err-know_names-clause-told : goal.returns-in_err-know_names-clause-told
 returns-in_err-know_names-clause-told c =

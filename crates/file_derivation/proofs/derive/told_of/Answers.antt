@@ -6,7 +6,7 @@ use Rattle.prepare.specs.declared.file_items.FileItem.{FileItem}
 use Rattle.telling.specs.declared.told.Told.{Told}
 use Rattle.gathering.specs.Telling.{told_unplaced}
 use Rattle.file_derivation.specs.Faults.{AreFaults}
-use Rattle.file_derivation.specs.Outcomes.{origin_of}
+use Rattle.file_derivation.specs.Helps.{origin_of}
 use Rattle.file_derivation.proofs.Stages.{as_many, some_told, none_told}
 use Rattle.file_derivation.proofs.derive.told_of.Goals as goal
 use Rattle.file_derivation.proofs.derive.told_of.Goals.{then-is_empty+in_ok-told_unplaced+in_ok-push, else-is_empty}

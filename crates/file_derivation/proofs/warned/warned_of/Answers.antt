@@ -1,4 +1,4 @@
-use Rattle.std.proofs.Common.{◌≡◌, ◌++◌, List, length, map, sym, subst}
+use Rattle.std.proofs.Common.{◌≡◌, ◌++◌, length, map, sym, subst}
 use Rattle.std.specs.Borrow.{Bor}
 use Rattle.syntax.specs.declared.item.Declarations.{Declarations}
 use Rattle.syntax.specs.Items.{declarations_view}
@@ -10,13 +10,14 @@ pub warnings_from-requires : goal.warnings_from-requires
 warnings_from-requires c = record { many = subst (λ (v : Declarations). length c.args.from.now ≡ length (declarations_view v)) (sym c.in_ok-places.ensures) c.requires.many }
 
 pub returns : goal.returns
-returns c =
+returns c = λ front first.
     let names = c.args.names.now in
     let from = map (λ (i : Bor FileItem). i.now) c.args.from.now in
     let impls = c.args.impls.now in
-    let own = c.in_ok-warnings.ensures.0 in
+    let mine = c.in_ok-warnings.ensures front first in
+    let own = mine.0 in
     let same = c.in_ok-places.ensures in (
       own,
-      subst (λ (v : Declarations). AreWarned names (declarations_view v) from (length (declarations_view v)) own) same c.in_ok-warnings.ensures.1,
-      subst (λ (v : Declarations). AreFirst (own ++ told_impls names (declarations_view v) impls) c.add_impls.new.self) same (c.in_ok-add_impls.ensures own c.in_ok-warnings.ensures.2),
+      subst (λ (v : Declarations). AreWarned names (declarations_view v) from (length (declarations_view v)) own) same mine.1,
+      subst (λ (v : Declarations). AreFirst ((front ++ own) ++ told_impls names (declarations_view v) impls) c.add_impls.new.self) same (c.in_ok-add_impls.ensures (front ++ own) mine.2),
     )

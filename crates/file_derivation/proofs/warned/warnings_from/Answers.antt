@@ -1,4 +1,4 @@
-use Rattle.std.proofs.Common.{◌≡◌, ◌∙◌, ◌<◌, ◌+◌, ◌++◌, ℕ, suc, List, [], length, map, option_map, Some, refl, ap, ap₂, sym, subst, arith}
+use Rattle.std.proofs.Common.{◌≡◌, ◌∙◌, ◌<◌, ◌+◌, ◌++◌, ℕ, suc, List, [], length, map, option_map, Some, refl, ap, ap₂, sym, subst, append-nil, append_assoc, arith}
 use Rattle.std.specs.Prelude.{slice_get}
 use Rattle.std.specs.Borrow.{Bor}
 use Rattle.std.proofs.lemmas.Option.{slice_get-map, slice_get_read}
@@ -15,10 +15,10 @@ next : (n : ℕ) → suc n ≡ n + 1
 next n = omega arith
 
 pub loop-at-init : goal.loop-at-init
-loop-at-init c = ([], none_yet, c.new-warnings.ensures)
+loop-at-init c = λ front first. ([], none_yet, subst (λ (v : List Told). AreFirst v c.args.warnings) (sym (append-nil front)) first)
 
 pub loop-at-preserved : goal.loop-at-preserved
-loop-at-preserved c =
+loop-at-preserved c = λ front given.
     let names = c.args.names.now in
     let items = c.args.places.now.declarations.now.items in
     let ds = declarations_view c.args.places.now.declarations.now in
@@ -35,10 +35,10 @@ loop-at-preserved c =
     let declared : slice_get items at ≡ Some c.index-declared-at.result =
     subst (λ (v : List Declaration). slice_get v at ≡ Some c.index-declared-at.result) c.as_slice-declared.ensures (slice_get_read c.as_slice-declared.result.now (length c.as_slice-declared.result.now) at c.index-declared-at.result refl within_slice c.index-declared-at.is) in
     let found : slice_get ds at ≡ Some d = slice_get-map declaration_view items at ∙ ap (option_map declaration_view) declared in
-    let before = c.loop-at.invariant in
+    let before = c.loop-at.invariant front given in
     let told = told_warnings names ds i d in
     let own : map (told_warning c.file_name-name.result.now i) (map warning_view c.as_slice.result.now) ≡ told =
     ap₂ (λ (name : List ℕ) (ws : List WarningItem). map (told_warning name i) ws) c.file_name-name.ensures (ap (map warning_view) c.as_slice.ensures ∙ c.in_ok-own.ensures) in
-    let first = subst (λ (ts : List Told). AreFirst (before.0 ++ ts) c.add_all.new.self) own (c.in_ok-add_all.ensures before.0 before.2) in
+    let first = subst (λ (ts : List Told). AreFirst ((front ++ before.0) ++ ts) c.add_all.new.self) own (c.in_ok-add_all.ensures (front ++ before.0) before.2) in
     let warned = subst (λ n. AreWarned names ds from n (before.0 ++ told)) (next at) (one_more before.1 found placed) in
-    (before.0 ++ told, warned, first)
+    (before.0 ++ told, warned, subst (λ (v : List Told). AreFirst v c.add_all.new.self) (append_assoc front before.0 told) first)

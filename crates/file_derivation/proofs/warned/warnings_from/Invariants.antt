@@ -1,4 +1,4 @@
-use Rattle.std.proofs.Common.{List, map}
+use Rattle.std.proofs.Common.{◌++◌, List, map}
 use Rattle.syntax.specs.Items.{declarations_view}
 use Rattle.telling.specs.declared.told.Told.{Told}
 use Rattle.file_derivation.specs.Warned.{AreWarned, AreFirst}
@@ -6,4 +6,5 @@ use Rattle.file_derivation.proofs.warned.warnings_from.Given as goal
 
 -- the warnings of the declarations so far
 abbrev pub invariant-loop-at : goal.invariant-loop-at
-invariant-loop-at l = (all : List Told) × AreWarned l.names (declarations_view l.places.declarations.now) (map (λ i. i.now) l.from) l.at all × AreFirst all l.warnings
+invariant-loop-at l =
+    (front : List Told) → AreFirst front l.fn.warnings → (all : List Told) × AreWarned l.names (declarations_view l.places.declarations.now) (map (λ i. i.now) l.from) l.at all × AreFirst (front ++ all) l.warnings

@@ -2,7 +2,7 @@ use Rattle.std.proofs.Common.{◌∙◌, inl, inr, refl, sym, ap, subst}
 use Rattle.reporting.specs.Beginning.{beginning_of}
 use Rattle.file_runs.specs.Contents.{Begins}
 use Rattle.file_runs.specs.Owed.{IsEnding, status_of}
-use Rattle.file_runs.specs.Words.{IsOfInput}
+use Rattle.file_runs.specs.Words.{IsOfWholeInput}
 use Rattle.file_runs.proofs.Consequences.{one_request}
 use Rattle.file_runs.proofs.Ended.{words_end, words_name_none, words_fault_none, status_is}
 use Rattle.file_runs.proofs.program.end_of.Goals as goal
@@ -15,7 +15,7 @@ returns-in-Ok-clause-owed g c =
 
 pub returns-in-Ok-clause-end : goal.returns-in-Ok-clause-end
 returns-in-Ok-clause-end g c = λ done named.
-    let of = subst IsOfInput (one_request c.args.words.now named.0 c.in-Ok.request named.1 c.in-Ok.ensures.asked) named.2 in
+    let of = subst (λ r. IsOfWholeInput r _) (one_request c.args.words.now named.0 c.in-Ok.request named.1 c.in-Ok.ensures.asked) named.2 in
     c.answer.ensures.end (status_is c.answer.result ∙ ap status_of (sym c.ending_of.ensures) ∙ done) of
 
 pub returns-in-Err-clause-owed : goal.returns-in-Err-clause-owed
@@ -23,7 +23,7 @@ returns-in-Err-clause-owed g c =
     words_end (beginning_of g.S.Source g.F.Files c.args.words.now c.args.input.now c.args.files.now) _ c.in-Err.ensures.ending
 
 pub returns-in-Err-clause-end : goal.returns-in-Err-clause-end
-returns-in-Err-clause-end g c = λ done named. absurd (words_name_none c.args.words.now _ c.in-Err.ensures.ending done named)
+returns-in-Err-clause-end g c = λ done named. absurd (words_name_none c.args.words.now _ c.in-Err.ensures.ending done (named.0, named.1, named.2.0))
 
 pub returns-in-Err-clause-failed : goal.returns-in-Err-clause-failed
 returns-in-Err-clause-failed g c = λ fault. absurd (words_fault_none c.args.words.now _ c.in-Err.ensures.ending (inl fault))

@@ -20,7 +20,7 @@ loop-i-preserved c =
     let within : c.loop-i.i < length es = omega (arith, length-entries ns ss even) in
     let schema_here : schema_view s ≡ get_or ss c.loop-i.i (schema_view s) = ap schema_view c.index-schemas-i.is ∙ sym (get_or-map schema_view c.args.schemas.now c.loop-i.i s (schema_view s) (omega arith)) in
     let here : (n, schema_view s) ≡ get_or es c.loop-i.i (n, schema_view s) = ap₂ (λ m t. (m, t)) c.index-names-i.is schema_here ∙ sym (entry_at ns ss c.loop-i.i n (schema_view s) even (omega arith)) in
-    put_step entry_form es c.loop-i.i (n, schema_view s) within here _ _ _ _ c.as_str.ensures c.in_ok-value.ensures c.loop-i.invariant c.in_ok-put.ensures
+    put_step (entry_form c.args.by) es c.loop-i.i (n, schema_view s) within here _ _ _ _ c.as_str.ensures c.in_ok-value.ensures c.loop-i.invariant c.in_ok-put.ensures
 
 pub returns : goal.returns
 returns c =
@@ -28,4 +28,4 @@ returns c =
     let ss = map schema_view c.args.schemas.now in
     let even : length ns ≡ length ss = c.requires ∙ sym (length-map c.args.schemas.now schema_view) in
     let whole : take c.loop-i.i (entries_of ns ss) ≡ entries_of ns ss = take_all_past (entries_of ns ss) c.loop-i.i (omega (arith, length-entries ns ss even)) in
-    c.loop-i.invariant ∙ ap (λ es. members_data (put_all (map entry_form es) no_members)) whole
+    c.loop-i.invariant ∙ ap (λ es. members_data (put_all (map (entry_form c.args.by) es) no_members)) whole

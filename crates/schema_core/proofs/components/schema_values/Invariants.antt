@@ -10,4 +10,4 @@ use Rattle.schema_core.proofs.components.schema_values.Given as goal
 -- the members so far are those of the entries so far
 abbrev pub invariant-loop-i : goal.invariant-loop-i
 invariant-loop-i l =
-    members_view l.values.entries ≡ members_data (put_all (map entry_form (take l.i (entries_of l.names (map schema_view l.schemas)))) no_members)
+    members_view l.values.entries ≡ members_data (put_all (map (entry_form l.by) (take l.i (entries_of l.names (map schema_view l.schemas)))) no_members)

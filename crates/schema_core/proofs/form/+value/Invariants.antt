@@ -8,8 +8,8 @@ use Rattle.schema_core.proofs.form.+value.Given as goal
 -- the members so far are those of the properties so far
 abbrev pub invariant-property_values-loop-property : goal.invariant-property_values-loop-property
 invariant-property_values-loop-property l =
-    members_view l.values.entries ≡ members_data (put_all (map property_form (take l.property-index l.properties)) no_members)
+    members_view l.values.entries ≡ members_data (put_all (map (property_form l.by) (take l.property-index l.properties)) no_members)
 
 -- the values so far are those of the schemas so far
 abbrev pub invariant-schema_values-loop-schema : goal.invariant-schema_values-loop-schema
-invariant-schema_values-loop-schema l = map view l.values.items ≡ map schema_data (take l.schema-index l.schemas)
+invariant-schema_values-loop-schema l = map view l.values.items ≡ map (schema_data l.by) (take l.schema-index l.schemas)

@@ -3,4 +3,4 @@ use Rattle.schema_core.proofs.Refers.{form-refers}
 use Rattle.schema_core.proofs.law.forms_refer.Goals as goal
 
 pub returns : goal.returns
-returns c = λ passes s h. form-refers (λ name. IsTrue (passes name)) s h
+returns c = λ keyword passes s h. form-refers keyword (λ name. IsTrue (passes name)) s h

@@ -18,5 +18,5 @@ returns c =
     let words = c.in_ok-push_words.ensures ∙ ap (λ k. string_bytes c.push_str-2.new.self ++ compact_text (data_of (text k))) target in
     let first = present (codes "$ref") (text (reference_text r.name)) false key (before ++ codes "{") _ _ refl (c.in_ok-push_str-2.ensures.bytes ∙ sym (append_assoc before (codes "{") key)) words (tt, tt) in
     object_text (reference_fields r) before (before ++ codes "{") _ _ refl refl refl
-    (then first (then c.in_ok-later.ensures (then c.in_ok-later-2.ensures (then c.in_ok-later-3.ensures (then c.in_ok-later-4.ensures c.in_ok-push_write_only.ensures)))))
+    (then first c.in_ok-push_annotations.ensures)
     c.in_ok-push_str-3.ensures.bytes

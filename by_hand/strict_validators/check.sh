@@ -1,0 +1,29 @@
+#!/usr/bin/env bash
+# Gives documents that schema_gen_file writes by --any-of and by --openapi to programs that go by the letter of the standards:
+# python3-jsonschema of Debian, and the JSON Schema of OpenAPI documents in its package openapi-specification. By hand; no test rests
+# on it.
+#
+#     by_hand/strict_validators/check.sh
+#
+# Ends with 0 where they agree with what is expected, with 1 where they do not, and else with the status of schema_gen_file.
+set -eu
+here=$(cd "$(dirname "${BASH_SOURCE[0]}")" && pwd)
+cd "$here/../.."
+folder=$(mktemp -d)
+trap 'rm -rf "$folder"' EXIT
+
+take() {
+    ./schema_gen_file --any-of "$2" >"$folder/$1.any.json"
+    ./schema_gen_file "$2" >"$folder/$1.one.json"
+    cp "$3" "$folder/$1.values.json"
+}
+
+take shop examples/shop.rs examples/values.json
+take jobs examples/jobs.rs examples/jobs_values.json
+take overlap "$here/overlap.rs" "$here/overlap_values.json"
+./schema_gen_file --any-of --openapi examples/openapi.json examples/shop.rs >"$folder/openapi.json"
+
+# (the packages of Debian are those of its own Python)
+python=/usr/bin/python3
+[ -x "$python" ] || python=python3
+"$python" "$here/check.py" "$folder" examples/openapi.json "${OPENAPI:-/usr/share/openapi-specification/schemas/v3.0/schema.json}"

@@ -1,0 +1,155 @@
+//! What is written of the components.
+
+ghost use Rattle.std.specs.Prelude.{◌≡◌, option_map, IfOk, IfErr};
+ghost use Rattle.serde_json.specs.View.{view};
+ghost use Rattle.file_runs.specs.Given.{named_view};
+ghost use Rattle.file_runs.specs.Reports.{openapi_line, taken_line, difference_line};
+ghost use Rattle.file_runs.specs.Shown.{alternatives, is_direct, IsMade, IsShown, IsUnmade, IsUnshown, IfLine};
+
+use crate::named::NamedDocument;
+use crate::request::Request;
+use documents::{Difference, Merged, compare, merge, text_of};
+use schema_core::{Alternatives, Components};
+use serde_json::Value;
+use std::alloc::{AllocError, Global};
+use texts::Text;
+
+/// Why nothing is written.
+#[derive(Drop)]
+pub enum Unshown {
+    Memory,
+    /// The line that tells.
+    Line(Text),
+}
+
+impl From<AllocError> for Unshown {
+    ghost use Rattle.std.specs.Prelude.{◌≡◌};
+    ghost use Rattle.file_runs.specs.declared.showing.Unshown.TheVariants.{Memory};
+
+    ghost from_gives = { λ _ unshown. unshown ≡ Memory };
+
+    fn from(_error: AllocError) -> Unshown {
+        Unshown::Memory
+    }
+}
+
+/// The line that the file at the path is no OpenAPI document.
+fn openapi_line(alloc: Global, path: &str) -> Result<Text, AllocError>
+    ensures { IfOk result (λ line. line ≡ openapi_line path.now) }
+{
+    let line = format!(in alloc;
+        "{path}: BadConfig: this is no OpenAPI document: a JSON object, whose components and their schemas are objects\n"
+    )?;
+    Ok(Text::from(line))
+}
+
+/// The line that the OpenAPI document at the path has a schema of the name.
+fn taken_line(alloc: Global, path: &str, name: &str) -> Result<Text, AllocError>
+    ensures { IfOk result (λ line. line ≡ taken_line path.now name.now) }
+{
+    let line = format!(in alloc;
+        "{path}: DuplicateName: the document has a schema {name} of its own\n"
+    )?;
+    Ok(Text::from(line))
+}
+
+/// The line that tells how the document at the path differs.
+fn difference_line(alloc: Global, path: &str, found: &Difference) -> Result<Text, AllocError>
+    ensures { IfOk result (λ line. line ≡ difference_line path.now found.now) }
+{
+    match found {
+        Difference::Missing(name) => {
+            let line = format!(in alloc; "{path}: {} is missing\n", name.as_str())?;
+            Ok(Text::from(line))
+        }
+        Difference::Surplus(name) => {
+            let line = format!(in alloc; "{path}: {} is described no more\n", name.as_str())?;
+            Ok(Text::from(line))
+        }
+        Difference::Another(name) => {
+            let line = format!(in alloc; "{path}: {} is another\n", name.as_str())?;
+            Ok(Text::from(line))
+        }
+        Difference::Elsewhere => {
+            let line = format!(in alloc; "{path}: what stands beside the schemas is another\n")?;
+            Ok(Text::from(line))
+        }
+    }
+}
+
+/// The document, or the OpenAPI document with its schemas.
+fn made(alloc: Global, openapi: Option<NamedDocument>, document: Value) -> Result<Value, Unshown>
+    ensures made { IfOk result (λ value.
+        IsMade (option_map named_view openapi) (view document) (view value)) }
+    ensures line { IfErr result
+        (IfLine (IsUnmade (option_map named_view openapi) (view document))) }
+{
+    let Some(NamedDocument { path, value: api }) = openapi else {
+        return Ok(document);
+    };
+    match merge(alloc, api, document)? {
+        Merged::Document(value) => Ok(value),
+        Merged::NoOpenApi => Err(Unshown::Line(openapi_line(alloc, path.as_str())?)),
+        Merged::Taken(name) => {
+            let line = taken_line(alloc, path.as_str(), name.as_str())?;
+            Err(Unshown::Line(line))
+        }
+    }
+}
+
+/// The keyword of alternatives that the request asks for.
+fn alternatives(request: &Request) -> Alternatives
+    ensures { result ≡ alternatives request.now }
+{
+    if request.any_of {
+        Alternatives::AnyOf
+    } else {
+        Alternatives::OneOf
+    }
+}
+
+/// Whether the document is written straight from the components, without a value of it.
+fn is_direct(
+    request: &Request,
+    openapi: &Option<NamedDocument>,
+    check: &Option<NamedDocument>,
+) -> bool
+    ensures { result ≡ is_direct request.now.pretty (option_map named_view openapi.now)
+        (option_map named_view check.now) }
+{
+    match (request.pretty, openapi, check) {
+        (false, None, None) => true,
+        _ => false,
+    }
+}
+
+/// What is written of the components: the text of their document, or of the OpenAPI document that they go into; nothing where
+/// it is compared, and the same.
+pub(crate) fn shown(
+    alloc: Global,
+    request: &Request,
+    openapi: Option<NamedDocument>,
+    check: &Option<NamedDocument>,
+    components: &Components,
+) -> Result<Text, Unshown>
+    ensures shown { IfOk result (IsShown request.now (option_map named_view openapi)
+        (option_map named_view check.now) components.now) }
+    ensures line { IfErr result (IfLine (IsUnshown request.now components.now
+        (option_map named_view openapi) (option_map named_view check.now))) }
+{
+    let by = alternatives(request);
+    if is_direct(request, &openapi, check) {
+        return Ok(components.to_text_by(alloc, by)?);
+    }
+    let value = made(alloc, openapi, components.to_value_by(alloc, by)?)?;
+    let Some(old) = check else {
+        return Ok(text_of(alloc, &value, request.pretty)?);
+    };
+    match compare(alloc, &old.value, &value)? {
+        None => Ok(Text::new(alloc, "")?),
+        Some(found) => {
+            let line = difference_line(alloc, old.path.as_str(), &found)?;
+            Err(Unshown::Line(line))
+        }
+    }
+}
