@@ -1,0 +1,30 @@
+#!/usr/bin/env bash
+# Compares the stand-ins with the crates that they stand in for. By hand; no test rests on it.
+#
+#     by_hand/stand_ins/check.sh
+#
+# The program beside this script writes and reads values of the crates' types with serde_json; each value that serde writes must be
+# accepted by the component of its stand-in, and of those that serde does not read each that a schema can tell must be refused. The crates
+# are those that Debian packages, without a network, in /usr/share/cargo/registry or in the folder REGISTRY in the same form:
+#
+#     apt-get install librust-{ahash,arc-swap,arrayvec,bigdecimal,bstr+serde1,bytes,bytesize,camino,chrono,chrono-tz,dashmap}-dev \
+#         librust-{either,encoding-rs,enum-map,enumflags2,enumset,eui48,fnv,fxhash,half,hashlink,indexmap,ipnet,ipnetwork}-dev \
+#         librust-{kstring,language-tags,linked-hash-map,num-bigint,num-complex,num-rational,ordered-float,parking-lot}-dev \
+#         librust-{regex-automata,rust-decimal,rustc-hash,secrecy,semver,serde,serde-bytes,serde-derive,serde-json,slab}-dev \
+#         librust-{slotmap,string-cache,time,toml,unic-langid,url,uuid,zeroize}-dev
+#
+# The types of `time` are compared in both of their forms. Ends with 0 where each value is accepted or refused as it should be.
+set -eu
+here=$(cd "$(dirname "${BASH_SOURCE[0]}")" && pwd)
+registry=${REGISTRY:-/usr/share/cargo/registry}
+folder=$(mktemp -d)
+trap 'rm -rf "$folder"' EXIT
+
+words=(--quiet --offline --config 'source.crates-io.replace-with="debian"' --config "source.debian.directory=\"$registry\"")
+mkdir "$folder/program"
+cp -r "$here/Cargo.toml" "$here/src" "$folder/program"
+(cd "$folder/program" && cargo run "${words[@]}") >"$folder/values"
+(cd "$folder/program" && cargo run "${words[@]}" --features time_texts) | grep '"file":"time"' >"$folder/texts"
+
+cd "$here/../.."
+python3 "$here/check.py" "${PROGRAM:-./schema_gen_file}" stand_ins "$folder/values" "$folder/texts"

@@ -1,0 +1,4 @@
+//! Stand-ins for types of the crate `compact_str`, with its feature `serde`. Not compared: the crate's documentation says that it is
+//! a text.
+
+pub struct CompactString(String);
