@@ -16,6 +16,7 @@ fn texts_of(alloc: Global, items: &[FileItem], serde: bool) -> Result<String, Al
         serde,
         only: List::new(alloc),
         exclude: List::new(alloc),
+        skip_refused: false,
     };
     let mut texts = Vec::new(alloc);
     for item in selected(alloc, items, &selection, &[])?.as_slice() {
