@@ -1,7 +1,7 @@
 #!/usr/bin/env bash
 # Derives the sources of two services, examples/shop.rs and examples/jobs.rs, with their configurations and as whole files without
-# one, and examples/generics.rs, and as a whole file with its configuration examples/aliases.rs, and compares each document with the
-# components beside it by bytes; and the OpenAPI document of the shop, of which it asks with --check, too, whether it is still that.
+# one, and examples/generics.rs, and as whole files examples/aliases.rs with its configuration and examples/uploads.rs with stand-ins,
+# and compares each document with the components beside it by bytes; and the OpenAPI document of the shop, of which it asks with --check, too, whether it is still that.
 # Before that it compares the Rust that README.md quotes with its files.
 # Ends with 0 where all are equal, with 1 where some differ, and else with the program's own status.
 set -u
@@ -48,6 +48,8 @@ check() {
 compare $? schema_gen examples/generics.rs examples/generics_components.json
 ./schema_gen_file --config examples/aliases_config.json examples/aliases.rs > "$found"
 compare $? schema_gen_file examples/aliases.rs examples/aliases_components.json
+./schema_gen_file --serde examples/uploads.rs stand_ins/{std,chrono,rust_decimal,semver,url,uuid}.rs > "$found"
+compare $? schema_gen_file examples/uploads.rs examples/uploads_components.json
 check examples/shop.rs examples/config.json examples/components.json
 check examples/jobs.rs examples/jobs_config.json examples/jobs_components.json
 
