@@ -1,5 +1,5 @@
-//! Stand-ins for types of the crate `ecow`, with its feature `serde`. Not compared: the crate's documentation says that they are a text and
-//! a list.
+//! Stand-ins for types of the crate `ecow`, with its feature `serde`: a text and a list.
+//! Not compared: neither the crate nor its documentation was at hand.
 
 pub struct EcoString(String);
 pub struct EcoVec<T>(Vec<T>);

@@ -1,5 +1,5 @@
-//! Stand-ins for types of the crate `jiff`, versions 0.2, with its feature `serde`. Not compared: the crate's documentation says that each
-//! is read and written as its `FromStr` and `Display` have it.
+//! Stand-ins for types of the crate `jiff`, versions 0.2, with its feature `serde`: each as its `FromStr` and `Display` have it.
+//! Not compared: neither the crate nor its documentation was at hand.
 
 /// A point in time, by RFC 3339, such as `2024-02-29T12:30:00.5Z`.
 pub struct Timestamp(String);

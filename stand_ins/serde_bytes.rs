@@ -1,7 +1,7 @@
 //! Stand-ins for types of the crate `serde_bytes`, versions 0.11. Compared with serde_bytes 0.11.5.
 //!
 //! `serde_json` writes bytes as a list of numbers. serde reads a text, too, as its UTF-8, which the schema refuses. `ByteArray` is of
-//! later versions, and is told by the crate's documentation. A field with `#[serde(with = "serde_bytes")]` is the same list, and
+//! later versions, and was not compared. A field with `#[serde(with = "serde_bytes")]` is the same list, and
 //! is warned of.
 
 /// Bytes, as a list of numbers.

@@ -1,3 +1,4 @@
-//! Stand-ins for types of the crate `smol_str`, with its feature `serde`. Not compared: the crate's documentation says that it is a text.
+//! Stand-ins for types of the crate `smol_str`, with its feature `serde`: a text.
+//! Not compared: neither the crate nor its documentation was at hand.
 
 pub struct SmolStr(String);

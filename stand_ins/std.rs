@@ -1,7 +1,7 @@
 //! Stand-ins for types of the standard library (crates `std`, `core` and `alloc`), whose JSON serde itself has.
 //!
 //! serde 1 with its default features and, for `Weak`, with `rc`. `RangeFrom`, `RangeTo`, `Saturating` and `NonZero` need a newer serde
-//! than 1.0.152. Compared with serde 1.0.152 and serde_json 1.0.87; these four are told by serde's documentation.
+//! than 1.0.152. Compared with serde 1.0.152 and serde_json 1.0.87, but for these four.
 //!
 //! Left out: what has no JSON (`Instant`, `Ordering`, `Infallible`, `OnceCell`, `LazyLock`), and `fmt::Arguments`, which is written alone.
 

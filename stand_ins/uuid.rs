@@ -1,6 +1,6 @@
 //! Stand-ins for types of the crate `uuid`, versions 1, with its feature `serde`. Compared with uuid 1.2.1.
 //!
-//! `NonNilUuid` is of later versions, and is told by the crate's documentation. Left out: `Timestamp`, `Variant` and `Version`,
+//! `NonNilUuid` is of later versions, and was not compared. Left out: `Timestamp`, `Variant` and `Version`,
 //! which have no JSON. serde reads a `Uuid` in any of the four forms; all are texts.
 
 /// A UUID, such as `67e55044-10b1-426f-9247-bb680e5fe0c8`.
