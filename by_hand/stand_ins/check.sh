@@ -13,7 +13,8 @@
 #         librust-{regex-automata,rust-decimal,rustc-hash,secrecy,semver,serde,serde-bytes,serde-derive,serde-json,slab}-dev \
 #         librust-{slotmap,string-cache,time,toml,unic-langid,url,uuid,zeroize}-dev
 #
-# The types of `time` are compared in both of their forms. Ends with 0 where each value is accepted or refused as it should be.
+# Python needs the package jsonschema, with Draft 2020-12. The types of `time` are compared in both of their forms. Ends with 0 where
+# each value is accepted or refused as it should be.
 set -eu
 here=$(cd "$(dirname "${BASH_SOURCE[0]}")" && pwd)
 registry=${REGISTRY:-/usr/share/cargo/registry}
