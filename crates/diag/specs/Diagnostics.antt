@@ -1,10 +1,12 @@
 -- Diagnostics as lists of entries, of which the first speaks for all.
-use Rattle.std.specs.Prelude.{ℕ, List, [], ◌∷◌, ◌++◌, Option, Some, None}
+use Rattle.std.specs.Prelude.{ℕ, List, [], ◌∷◌, ◌++◌, Option, Some, None, codes}
+use Rattle.std.specs.Fmt.{decimal}
 use Rattle.std.specs.List.{flat_map, join_by}
 use Rattle.diag.specs.declared.diagnostics.DiangosticsInner.{DiangosticsInner}
 use Rattle.diag.specs.declared.kind.Kind.{Kind}
 use Rattle.texts.specs.declared.span.Span.{Span}
 use Rattle.diag.specs.declared.suggestion.Suggestion.{Suggestion}
+use Rattle.diag.specs.Kind.{name_of}
 use Rattle.diag.specs.Suggestion.{inserted, line_of}
 
 -- an entry without suggestions and instances
@@ -43,6 +45,13 @@ entry_text entry = entry.message ++ lines_of entry.suggestions
 -- the entries as a report prints them, joined by new lines
 abbrev pub text_of : List DiangosticsInner → List ℕ
 text_of entries = join_by entry_text (10 ∷ []) entries
+
+-- the first entry's kind and its span's bytes, and then the entries as a report prints them
+abbrev pub located_of : List DiangosticsInner → List ℕ
+located_of [] = []
+located_of (entry ∷ entries) =
+    name_of entry.kind ++ (codes " " ++ (decimal entry.span.start
+    ++ (codes ".." ++ (decimal entry.span.end ++ (codes ": " ++ text_of (entry ∷ entries))))))
 
 -- the entries of all, in order; of no diagnostics, none
 abbrev pub joined_of : List (List DiangosticsInner) → Option (List DiangosticsInner)

@@ -1,5 +1,5 @@
 ghost use Rattle.std.specs.Prelude.{◌≡◌, [], ◌∷◌, ◌++◌, unwrap_or, IfOk, OnOk, IsSorted};
-ghost use Rattle.diag.specs.Diagnostics.{diagnostic, with_suggestion, with_instance, text_of, entry_text, joined_of, HasFirst};
+ghost use Rattle.diag.specs.Diagnostics.{diagnostic, with_suggestion, with_instance, text_of, located_of, entry_text, joined_of, HasFirst};
 ghost use Rattle.texts.specs.Span.{no_span};
 ghost use Rattle.diag.specs.Suggestion.{suggestion_cmp};
 ghost use Rattle.diag.specs.declared.suggestion.Suggestion.TheVariants.{Help, Note};
@@ -169,6 +169,18 @@ impl Diagnostics {
             push_entry(alloc, &mut text, entry)?;
         }
         Ok(text)
+    }
+
+    /// `KIND START..END: ` and what `text` gives, with the kind and the span of the first entry. `START..END` is
+    /// half-open and counts bytes of the source, in decimal; it is `0..0` of what stands nowhere in it.
+    pub fn located(&self, alloc: Global) -> Result<Text, AllocError>
+        ensures { IfOk result (λ text. text ≡ located_of self.now) }
+    {
+        let kind = self.kind();
+        let span = self.span();
+        let text = self.text(alloc)?;
+        let located = format!(in alloc; "{kind} {}..{}: {}", span.start, span.end, text.as_str())?;
+        Ok(Text::from(located))
     }
 }
 

@@ -20,7 +20,7 @@ type Slots = [Option<usize>; SLOTS];
 type Index = BTreeMap<String, Slots>;
 
 /// What names become by rules. Contracts see the list of the rows, in order; of rows for the same name the first counts.
-#[derive(Drop)]
+#[derive(Debug, Drop)]
 pub struct RenameTable {
     rows: Vec<RenameRow>,
     index: Index,
