@@ -9,7 +9,7 @@ use std::marker::Model;
 use texts::List;
 
 /// An open type without parameters.
-#[derive(Drop)]
+#[derive(Debug, Drop)]
 pub struct ClosedType {
     ty: OpenType,
 }
