@@ -26,6 +26,7 @@ pub enum TypeWord {
 
 /// A schema whose leaves are of any type: what a term, a closed schema and a schema of the document have in common.
 #[cycle(tree)]
+#[derive(Debug)]
 pub enum Tree<L> {
     Object(Box<Object<L>>),
     Array(Box<Array<L>>),
@@ -50,7 +51,7 @@ impl<L: Drop> Drop for Tree<L> {
 
 /// A schema of one type, with the keywords that bind values of that type.
 #[cycle(tree)]
-#[derive(Drop)]
+#[derive(Debug, Drop)]
 pub struct Object<L> {
     pub ty: TypeWord,
     /// The printed name of the format. It binds nothing.
@@ -71,7 +72,7 @@ pub struct Object<L> {
 
 /// What `additionalProperties` says: nothing, a truth value, or a schema.
 #[cycle(tree)]
-#[derive(Drop)]
+#[derive(Debug, Drop)]
 pub enum Additional<L> {
     Absent,
     Truth(bool),
@@ -80,7 +81,7 @@ pub enum Additional<L> {
 
 /// What `items` says: that there are no further elements, or their schema.
 #[cycle(tree)]
-#[derive(Drop)]
+#[derive(Debug, Drop)]
 pub enum ArrayItems<L> {
     False,
     Each(Tree<L>),
@@ -88,7 +89,7 @@ pub enum ArrayItems<L> {
 
 /// Lists, and null where `nullable`.
 #[cycle(tree)]
-#[derive(Drop)]
+#[derive(Debug, Drop)]
 pub struct Array<L> {
     pub nullable: bool,
     /// The elements after those that `prefix_items` speaks of.
@@ -104,7 +105,7 @@ pub struct Array<L> {
 
 /// What at least one of the schemas accepts.
 #[cycle(tree)]
-#[derive(Drop)]
+#[derive(Debug, Drop)]
 pub struct OneOfSchema<L> {
     pub items: List<Tree<L>>,
     pub annotations: Annotations,
@@ -112,7 +113,7 @@ pub struct OneOfSchema<L> {
 
 /// What each of the schemas accepts.
 #[cycle(tree)]
-#[derive(Drop)]
+#[derive(Debug, Drop)]
 pub struct AllOfSchema<L> {
     pub items: List<Tree<L>>,
     pub annotations: Annotations,
