@@ -16,10 +16,10 @@ pub enum Kind {
     TooDeep,
     /// The text is no declaration that can be read, or has an attribute that is refused. Cut it out, or rewrite it.
     Syntax,
-    /// An attribute of the schema has a name that is not known. No crate here refuses so: such attributes are `Syntax`.
+    /// An attribute of the schema has a name that is not known. Not raised so far: such attributes are `Syntax`.
     /// Leave it out.
     UnknownAttribute,
-    /// An attribute of the schema is given twice. No crate here refuses so: such attributes are `Syntax`. Leave one
+    /// An attribute of the schema is given twice. Not raised so far: such attributes are `Syntax`. Leave one
     /// out.
     DuplicateFeature,
     /// An attribute has a value that it cannot have, as a rename rule or a format that there is not. Write one that the
@@ -42,17 +42,17 @@ pub enum Kind {
     BadArgument,
     /// A type has more than 256 names, aliases and arguments put in. Give a part of it a struct of its own.
     TypeSize,
-    /// A struct has two flattened maps. No crate here refuses so: `flatten` is `Syntax`. Keep one.
+    /// A struct has two flattened maps. Not raised so far: `flatten` is `Syntax`. Keep one.
     FlattenedMaps,
-    /// A discriminator stands where there can be none. No crate here refuses so: attributes of the schema are `Syntax`.
+    /// A discriminator stands where there can be none. Not raised so far: attributes of the schema are `Syntax`.
     /// Leave it out.
     Discriminator,
-    /// An attribute of the schema stands on a tuple struct of several fields. No crate here refuses so: such are
+    /// An attribute of the schema stands on a tuple struct of several fields. Not raised so far: such are
     /// `Syntax`. Leave it out.
     TupleBound,
     /// A variant of an enum with a `tag` alone has several unnamed fields, or a tuple or the unit. Add a `content`.
     TaggedTuple,
-    /// An attribute of the schema stands where it has no meaning. No crate here refuses so: such attributes are
+    /// An attribute of the schema stands where it has no meaning. Not raised so far: such attributes are
     /// `Syntax`. Leave it out.
     NotSupported,
     /// More instances of types are reachable than `limit` allows. Raise it in the configuration, or end arguments that
@@ -64,7 +64,7 @@ pub enum Kind {
     InlineDepth,
     /// Schemas stand in others more often than `copies` allows. Raise it in the configuration.
     TooManyCopies,
-    /// What a reader should know of a source that is not refused. No crate here makes one of this kind.
+    /// What a reader should know of a source that is not refused. Not raised so far.
     Warning,
 }
 
