@@ -201,6 +201,9 @@ module _ {S : Type 0} where
   length-entries (n ∷ ns) [] e = absurd (omega arith)
   length-entries (n ∷ ns) (s ∷ ss) e = ap suc (length-entries ns ss (omega arith))
 
+  pub length-viewed : {T : Type 0} (v : T → S) (ns : List (List ℕ)) (ss : List T) → length ns ≡ length ss → length (entries_of ns (map v ss)) ≡ length ns
+  length-viewed v ns ss e = length-entries ns (map v ss) (e ∙ sym (length-map ss v))
+
   pub entry_at : (ns : List (List ℕ)) (ss : List S) (i : ℕ) (n : List ℕ) (s : S) → length ns ≡ length ss → i < length ns → get_or (entries_of ns ss) i (n, s) ≡ (get_or ns i n, get_or ss i s)
   entry_at [] ss i n s e l = absurd (omega arith)
   entry_at (m ∷ ns) [] i n s e l = absurd (omega arith)

@@ -1,6 +1,7 @@
 pub mod Document
 pub mod Entries
 pub mod Form
+pub mod Lent
 pub mod Meaning
 pub mod Members
 pub mod OneText

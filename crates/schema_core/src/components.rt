@@ -4,6 +4,7 @@ ghost use Rattle.std.specs.Prelude.{◌≡◌, ◌<◌, ◌≤◌, ℕ, List as 
 ghost use Rattle.std.specs.declared.cmp.Ordering.TheVariants.{Less, Greater};
 ghost use Rattle.std.specs.Cmp.Lexicographic.{slice_cmp};
 ghost use Rattle.std.specs.Ordering.{nat_cmp};
+ghost use Rattle.std.specs.Iterator.{AlwaysYields, YieldsFirstBy};
 ghost use Rattle.serde_json.specs.View.{view, members_view};
 ghost use Rattle.acceptance.specs.Json.{put_all, no_members};
 ghost use Rattle.acceptance.specs.Data.{data_of, members_data};
@@ -11,9 +12,11 @@ ghost use Rattle.schema_trees.specs.Held.{IsHeld, IsInOrder};
 ghost use Rattle.schema_trees.specs.Schema.{schema_view};
 ghost use Rattle.schema_core.specs.Document.{document, document_by, entry_form, text_of};
 ghost use Rattle.schema_core.specs.Entries.{entries_of, entry_names, find, with_entry};
+ghost use Rattle.schema_core.specs.Lent.{lent_entry};
 ghost use Rattle.schema_core.specs.Writes.{WritesEntry, WritesEntries};
 
 use crate::alternatives::Alternatives;
+use crate::components_iter::ComponentsIter;
 use crate::form::schema_value;
 use crate::members::{object_of, put};
 use crate::pushes::{push_comma, push_words};
@@ -22,6 +25,7 @@ use schema_trees::Schema;
 use serde_json::{Map, Value};
 use std::alloc::{AllocError, Global};
 use std::cmp::Ordering;
+use std::fmt;
 use std::marker::Model;
 use texts::{List, Text};
 
@@ -138,6 +142,17 @@ impl Components {
         self.names.as_slice()
     }
 
+    /// The components by name and schema, in byte order of their names.
+    pub fn iter(&self) -> ComponentsIter<'_>
+        ensures left { result ≡ self.now }
+        // One after the other, these come and no others.
+        ensures all { AlwaysYields (YieldsFirstBy lent_entry (λ left. left)) lent_entry result
+            self.now }
+        ensures order { IsInOrder (entry_names result) }
+    {
+        ComponentsIter::new(self.names.as_slice(), self.schemas.as_slice())
+    }
+
     /// The forms of the schemas under their names.
     fn schemas(&self, alloc: Global, by: Alternatives) -> Result<Map<String, Value>, AllocError>
         ensures { IfOk result
@@ -187,6 +202,25 @@ impl Components {
         )?;
         text.push_str("}}}\n")?;
         Ok(Text::from(text))
+    }
+}
+
+impl<'a> IntoIterator for &'a Components {
+    type Item = (&'a str, &'a Schema);
+
+    type IntoIter = ComponentsIter<'a>;
+
+    ghost into_iter_gives = { λ components left. left ≡ components.now };
+
+    fn into_iter(self) -> ComponentsIter<'a> {
+        self.iter()
+    }
+}
+
+// as a map from names to schemas
+impl fmt::Debug for Components {
+    fn fmt<W: fmt::Write>(&self, f: &mut fmt::Formatter<W>) -> fmt::Result {
+        f.debug_map().entries(self.iter()).finish()
     }
 }
 

@@ -4,6 +4,7 @@
 mod alternatives;
 mod annotation_text;
 mod components;
+mod components_iter;
 mod form;
 mod law;
 mod members;
@@ -12,6 +13,7 @@ mod schema_text;
 
 pub use alternatives::Alternatives;
 pub use components::Components;
+pub use components_iter::ComponentsIter;
 pub use law::{
     documents_are_one, documents_hold, forms_accept, forms_refer, texts_are_one, texts_read_back,
 };
