@@ -29,7 +29,7 @@ use syntax::{Declarations, parse_declarations};
 use texts::List;
 
 /// What is derived of a source.
-#[derive(Drop)]
+#[derive(Debug, Drop)]
 pub struct Derived {
     /// The schema of each component under its name.
     pub components: Components,
