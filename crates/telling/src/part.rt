@@ -2,7 +2,7 @@
 
 ghost use Rattle.std.specs.Prelude.{◌≡◌, ◌≤◌, ◌+◌, ◌-◌, ◌^◌, [], ◌∷◌, ◌++◌, length, min, cond, chars, encode_utf8_all, reverse, count_by, IfOk, MatchOption};
 ghost use Rattle.std.specs.Str.{IsCharBoundary, IsUtf8};
-ghost use Rattle.telling.specs.Positions.{is_feed, begins_char};
+ghost use Rattle.telling.specs.Positions.{is_feed, begins_char, line_of};
 ghost use Rattle.telling.specs.Marking.{IsMark};
 ghost use Rattle.telling.specs.Places.{line_behind, column_behind, line_front, line_back, place_between};
 
@@ -84,6 +84,15 @@ impl<'t> Places<'t> {
             before: text_of(alloc, before.as_slice())?,
             behind: text_of(alloc, behind.as_slice())?,
         })
+    }
+
+    /// The line of the offset, from 1; of an offset past the end, the line of the end.
+    pub fn line(&mut self, at: usize) -> usize
+        ensures line { result ≡ line_of self.old at }
+        ensures same { self.new ≡ self.old }
+    {
+        self.last = mark_at(self.text, self.last, at.min(self.text.len()));
+        self.last.line
     }
 }
 
