@@ -2,6 +2,7 @@ mod Answered
 mod Behind
 mod Groups
 mod Feeds
+mod Few
 mod Lying
 mod One
 mod Parts

@@ -6,7 +6,7 @@ use Rattle.std.specs.Str.{IsUtf8, IsCharBoundary}
 use Rattle.std.proofs.lemmas.Str.{IsCharBoundary-start}
 use Rattle.texts.proofs.Laws.{mapped}
 use Rattle.texts.specs.declared.span.Span.{Span}
-use Rattle.tokens.specs.Trees.{Tree, token, group, Trees, end, ◌▸◌}
+use Rattle.tokens.specs.Trees.{Tree, token, group, Trees, end, ◌▸◌, trees_of}
 use Rattle.lexing.specs.Lying.{LiesIn, AreIn, TreesLie}
 use Rattle.tokens.specs.declared.token.Token.{Token}
 use Rattle.tokens.specs.declared.token.TokenKind.{TokenKind}
@@ -15,19 +15,20 @@ use Rattle.written_types.specs.declared.written.Ident.{Ident}
 use Rattle.words.specs.declared.vocabulary.Keyword.{Keyword}
 use Rattle.words.specs.Words.{name, underscore, cover, ident_of, keyword_of, keyword_or_name, identifier_word, token_word, word_of, opening, start_of}
 use Rattle.prepare.specs.declared.item.Standing.{Standing}
-use Rattle.prepare.specs.Trees.{listed, inside, span_of, extent, before, but_last}
+use Rattle.prepare.specs.Trees.{listed, is_word, inside, span_of, extent, before, but_last}
 use Rattle.prepare.specs.Attributes.{after_attributes, after_visibility, is_for_tests}
-use Rattle.prepare.specs.Forms.{Form, declares, implements, holds, passes, form_at}
+use Rattle.prepare.specs.Forms.{Form, declares, implements, holds, names, imports, passes, ident, form_at}
+use Rattle.prepare.specs.Imports.{import_of, import_at, imports_in, imports_of}
 use Rattle.prepare.specs.Heads.{outside, Implemented, implemented}
 use Rattle.prepare.specs.Items.{Item, stands, passed, written_by, item_of, unless_for_tests, item_from, item_at, stop_at}
 use Rattle.prepare.specs.Items as item
 use Rattle.prepare.specs.Standing.{AreItems, no_items, more_items, StandIn, itself, nothing, StandInside, for_tests, items, StopAt, here, in_item, StopIn, in_module, StopInside, in_items}
 use Rattle.prepare.specs.Standing as standing
 use Rattle.prepare.specs.Prepared.{IsFile}
-use Rattle.prepare.specs.FileItems.{IsSlice, AreSlices}
+use Rattle.prepare.specs.FileItems.{IsSlice, HasSlices, AreSlices}
 use Rattle.prepare.proofs.Behind.{IsBehind, same, later, weakly}
 use Rattle.prepare.proofs.Answered.{StopsLie}
-use Rattle.prepare.proofs.Passed.{IsIn, further, keyword_behind, item_past, item_held}
+use Rattle.prepare.proofs.Passed.{IsIn, further, IsBehindName, form_behind, keyword_behind, item_past, item_held}
 use Rattle.prepare.proofs.Passed as passed_trees
 use Rattle.prepare.proofs.Repeated.{attributes_behind, inner_behind}
 
@@ -114,39 +115,83 @@ module _ (source : List ℕ) (utf8 : IsUtf8 source) where
       cover_is_slice (span_of t) (span_of (get_or (t ∷ ts) (length ts) t)) (tree_is_slice t h.0) (tree_is_slice (get_or (t ∷ ts) (length ts) t) (some_in (t ∷ ts) (length ts) t h h.0))
 
   -- ---- items
-  abbrev IsSliceOf : Item → Type 0
-  IsSliceOf (stands s) = IsSlice source s.span
-  IsSliceOf (item.holds held) = Unit {0}
-  IsSliceOf passed = Unit {0}
+  before_in : (ts rest : List Tree) → AllIn ts → AllIn (before ts rest)
+  before_in ts rest h = front_in _ ts h
 
-  written_slice : (head : List Tree) (x : Option Implemented) (s : Standing) → AllIn head → written_by head x ≡ stands s → IsSlice source s.span
-  written_slice head None s h e = cc
-  written_slice head (Some x) s h e = subst IsSliceOf e (extent_is_slice head h)
+  all_but_last_in : (ts : List Tree) → AllIn ts → AllIn (but_last ts)
+  all_but_last_in ts h = front_in _ ts h
 
-  form_slice : (ts start keyword : List Tree) (form : Form) (rest : List Tree) (s : Standing) → AllIn ts → AllIn keyword → item_of ts start keyword form rest ≡ stands s → IsSlice source s.span
-  form_slice ts start keyword (declares x behind) rest s h g e = subst IsSliceOf e (extent_is_slice (before ts rest) (front_in _ ts h))
-  form_slice ts start keyword implements rest s h g e =
-      let head = but_last (before keyword rest) in
-      written_slice head (implemented (outside head)) s (front_in _ (before keyword rest) (front_in _ keyword g)) e
-  form_slice ts start keyword (holds inner) rest s h g e = cc
-  form_slice ts start keyword passes rest s h g e = cc
+  abbrev AreSlicesOf : Item → Type 0
+  AreSlicesOf (stands s) = HasSlices source s
+  AreSlicesOf (item.all ss) = AreSlices source ss
+  AreSlicesOf (item.holds held) = Unit {0}
+  AreSlicesOf passed = Unit {0}
 
-  stands_itself : (b : Bool) (i : Item) (s : Standing) → cond b passed i ≡ stands s → i ≡ stands s
-  stands_itself true i s e = cc
-  stands_itself false i s e = e
-
-  item_slice : (ts : List Tree) (s : Standing) (rest : List Tree) → AllIn ts → item_at ts ≡ Some (stands s, rest) → IsSlice source s.span
-  unfolding item_at
-  item_slice ts s rest h e =
-      let start = after_attributes ts in
-      let keyword = after_visibility start in
-      let m = mapped (item_from ts start keyword) (form_at keyword) _ e in
-      let is : unless_for_tests (before ts start) (item_of ts start keyword m.0.0 m.0.1) ≡ stands s = ap (λ p. p.0) m.2 in
-      form_slice ts start keyword m.0.0 m.0.1 s h (behind_in (keyword_behind ts) h) (stands_itself (is_for_tests (before ts start)) (item_of ts start keyword m.0.0 m.0.1) s is)
+  written_slices : (head : List Tree) (x : Option Implemented) → AllIn head → AreSlicesOf (written_by head x)
+  written_slices head None h = tt
+  written_slices head (Some x) h = (extent_is_slice head h, tt)
 
   both_slices : (ss us : List Standing) → AreSlices source ss → AreSlices source us → AreSlices source (ss ++ us)
   both_slices [] us h g = g
   both_slices (s ∷ ss) us h g = (h.0, both_slices ss us h.1 g)
+
+  -- ---- imports
+  trees_in : (ts : List Tree) → AllIn ts → AreIn source (trees_of ts)
+  trees_in [] h = tt
+  trees_in (t ∷ ts) h = (h.0, trees_in ts h.1)
+
+  import_by_lies : (b : Bool) (x y : Option Ident) (t v : Tree) → LiesIn source t → LiesIn source v → AreSlices source (cond b (import_of x y t v) [])
+  import_by_lies true None y t v h g = tt
+  import_by_lies true (Some x) None t v h g = tt
+  import_by_lies true (Some x) (Some y) t v h g =
+      let whole = cover_is_slice (span_of t) (span_of v) (tree_is_slice t h) (tree_is_slice v g) in ((whole, tree_is_slice t h), tt)
+  import_by_lies false x y t v h g = tt
+
+  import_lies : (ts : Trees) → AreIn source ts → AreSlices source (import_at ts)
+  import_lies end h = tt
+  import_lies (t ▸ end) h = tt
+  import_lies (t ▸ (u ▸ end)) h = tt
+  import_lies (t ▸ (u ▸ (v ▸ ts))) h = import_by_lies (is_word (codes "as") u) (ident t) (ident v) t v h.0 h.1.1.0
+
+  mutual
+    imports_within : (t : Tree) → LiesIn source t → AreSlices source (imports_in t)
+    imports_within (token t) h = tt
+    imports_within (group b ts s) h = imports_lie ts h.2
+
+    imports_lie : (ts : Trees) → AreIn source ts → AreSlices source (imports_of ts)
+    imports_lie end h = tt
+    imports_lie (t ▸ ts) h =
+        let others = both_slices (imports_in t) (imports_of ts) (imports_within t h.0) (imports_lie ts h.1) in
+        both_slices (import_at (t ▸ ts)) (imports_in t ++ imports_of ts) (import_lies (t ▸ ts) h) others
+
+  -- ---- what stands of an item
+  form_slices : (ts start keyword : List Tree) (form : Form) (rest : List Tree) → AllIn ts → AllIn keyword → IsBehindName keyword form → AreSlicesOf (item_of ts start keyword form rest)
+  form_slices ts start keyword (declares x behind) rest h g b = (extent_is_slice (before ts rest) (before_in ts rest h), tt)
+  form_slices ts start keyword implements rest h g b =
+      let head = but_last (before keyword rest) in
+      written_slices head (implemented (outside head)) (all_but_last_in (before keyword rest) (before_in keyword rest g))
+  form_slices ts start keyword (holds inner) rest h g b = tt
+  form_slices ts start keyword (names x behind) rest h g b =
+      let of = before_in behind rest (behind_in b g) in (
+        extent_is_slice (but_last (before keyword rest)) (all_but_last_in (before keyword rest) (before_in keyword rest g)),
+        extent_is_slice (but_last (before behind rest)) (all_but_last_in (before behind rest) of),
+      )
+  form_slices ts start keyword imports rest h g b = imports_lie (trees_of (before keyword rest)) (trees_in (before keyword rest) (before_in keyword rest g))
+  form_slices ts start keyword passes rest h g b = tt
+
+  unless_slices : (b : Bool) (i : Item) → AreSlicesOf i → AreSlicesOf (cond b passed i)
+  unless_slices true i h = tt
+  unless_slices false i h = h
+
+  item_slices : (ts : List Tree) (i : Item) (rest : List Tree) → AllIn ts → item_at ts ≡ Some (i, rest) → AreSlicesOf i
+  unfolding item_at
+  item_slices ts i rest h e =
+      let start = after_attributes ts in
+      let keyword = after_visibility start in
+      let m = mapped (item_from ts start keyword) (form_at keyword) _ e in
+      let is : unless_for_tests (before ts start) (item_of ts start keyword m.0.0 m.0.1) ≡ i = ap (λ p. p.0) m.2 in
+      let own = form_slices ts start keyword m.0.0 m.0.1 h (behind_in (keyword_behind ts) h) (form_behind keyword m.0 m.1) in
+      subst AreSlicesOf is (unless_slices (is_for_tests (before ts start)) (item_of ts start keyword m.0.0 m.0.1) own)
 
   mutual
     items_lie : {ts : List Tree} {ss : List Standing} → AllIn ts → AreItems ts ss → AreSlices source ss
@@ -155,7 +200,8 @@ module _ (source : List ℕ) (utf8 : IsUtf8 source) where
         both_slices held others (standing_lies ts rest h e s) (items_lie (behind_in (weakly (item_past ts i rest e)) h) more)
 
     standing_lies : (ts rest : List Tree) {i : Item} {ss : List Standing} → AllIn ts → item_at ts ≡ Some (i, rest) → StandIn i ss → AreSlices source ss
-    standing_lies ts rest h e (itself {s = s}) = (item_slice ts s rest h e, tt)
+    standing_lies ts rest h e (itself {s = s}) = (item_slices ts (stands s) rest h e, tt)
+    standing_lies ts rest h e (standing.all {ss = ss}) = item_slices ts (item.all ss) rest h e
     standing_lies ts rest h e (standing.inside {ts = held} k) =
         let t = item_held ts held rest e in
         inside_lies (subst AllIn (sym t.2) (inside_in t.0 (one_in t.1 h))) k

@@ -1,12 +1,13 @@
 -- What stands of a source is one thing.
 use Rattle.std.proofs.Common.{◌≡◌, ◌∙◌, ℕ, List, [], ◌++◌, refl, ap, ap₂, sym, subst, Some}
 use Rattle.tokens.specs.Trees.{Tree}
+use Rattle.prepare.specs.declared.file_items.FileAlias.{FileAlias}
 use Rattle.prepare.specs.declared.file_items.FileItem.{FileItem}
 use Rattle.prepare.specs.declared.item.Standing.{Standing}
 use Rattle.prepare.specs.Trees.{listed}
 use Rattle.prepare.specs.Items.{Item, item_at}
-use Rattle.prepare.specs.Standing.{AreItems, no_items, more_items, StandIn, itself, inside, nothing, StandInside, for_tests, items}
-use Rattle.prepare.specs.FileItems.{items_in, AreItemsOf}
+use Rattle.prepare.specs.Standing.{AreItems, no_items, more_items, StandIn, itself, all, inside, nothing, StandInside, for_tests, items}
+use Rattle.prepare.specs.FileItems.{items_in, AreItemsOf, aliases_in, AreAliasesOf}
 use Rattle.prepare.specs.Prepared.{IsFile}
 use Rattle.prepare.proofs.Answered.{OneCut}
 use Rattle.prepare.proofs.Passed.{item_past}
@@ -28,6 +29,7 @@ mutual
 
   same_standing : {i : Item} {ss us : List Standing} → StandIn i ss → StandIn i us → ss ≡ us
   same_standing itself itself = refl
+  same_standing all all = refl
   same_standing (inside h) (inside g) = same_inside h g
   same_standing nothing nothing = refl
 
@@ -42,3 +44,6 @@ one_file unique source ss us f g = same_inside (subst (λ v. StandInside v ss) (
 
 pub one_list : OneCut → (file : ℕ) (source : List ℕ) (items others : List FileItem) → AreItemsOf file source items → AreItemsOf file source others → items ≡ others
 one_list unique file source xs ys f g = f.2 ∙ ap (items_in file source) (one_file unique source f.0 g.0 f.1 g.1) ∙ sym g.2
+
+pub one_list_of_aliases : OneCut → (file : ℕ) (source : List ℕ) (aliases others : List FileAlias) → AreAliasesOf file source aliases → AreAliasesOf file source others → aliases ≡ others
+one_list_of_aliases unique file source xs ys f g = f.2 ∙ ap (aliases_in file source) (one_file unique source f.0 g.0 f.1 g.1) ∙ sym g.2

@@ -11,7 +11,7 @@ use Rattle.prepare.specs.Attributes.{is_scope, after_scope, after_visibility, af
 use Rattle.prepare.specs.declared.previous.Behind.{Behind}
 use Rattle.prepare.specs.declared.previous.Behind.TheVariants.{Other}
 use Rattle.prepare.specs.Ends.{is_declaration_word, behind, after_semicolon, begins_with_name, after_mut, after_line, is_end, angles, after_block, after_path, after_name, semicolon_at, after_group, behind_path, after_call}
-use Rattle.prepare.specs.Forms.{Form, declares, implements, holds, passes, Found, ending, ident, named_or_none, declared_at, declaration_at, held_at, module_at, form_of, kind_at, form_at}
+use Rattle.prepare.specs.Forms.{Form, declares, implements, holds, names, imports, passes, Found, ending, ident, named_or_none, declared_at, declaration_at, held_at, module_at, alias_by, alias_of, form_of, kind_at, form_at}
 use Rattle.prepare.specs.Heads.{outside, Implemented, implemented}
 use Rattle.prepare.specs.Items.{Item, passed, written_by, item_of, unless_for_tests, item_from, item_at}
 use Rattle.prepare.specs.Items as item
@@ -122,6 +122,22 @@ declares_other : (name : Ident) (ts : List Tree) → no_module (declares name ts
 unfolding no_module
 declares_other name ts held e = cc
 
+imports_other : no_module imports
+unfolding no_module
+imports_other held e = cc
+
+alias_by_other : (b : Bool) (name : Option Ident) (ts : List Tree) → no_module (cond b (alias_by name ts) passes)
+unfolding no_module
+alias_by_other true None ts held e = cc
+alias_by_other true (Some name) ts held e = cc
+alias_by_other false name ts held e = cc
+
+alias_other : (ts : List Tree) → no_module (alias_of ts)
+alias_other [] = passes_other
+alias_other (t ∷ []) = passes_other
+alias_other (t ∷ u ∷ []) = passes_other
+alias_other (t ∷ u ∷ v ∷ ts) = alias_by_other (is_sign (codes "=") v) (ident u) ts
+
 -- past one tree more
 one_more : {t : Tree} {ts : List Tree} {found : Found} → IsWithin ts found → IsWithin (t ∷ ts) found
 one_more {t = t} {ts = ts} h = record { past = past (weakly h.past); less = λ held e. omega (arith, h.less held e); of = λ held e. let o = h.of held e in (o.0, further o.1, o.2) }
@@ -169,7 +185,8 @@ module_within (t ∷ u ∷ ts) found e = elim (either (is_some (word u)) e) [ in
 form_of_within : (k : Kind) (ts : List Tree) (found : Found) → form_of k ts ≡ Some found → IsWithin ts found
 form_of_within kinds.Declaration ts found e = declaration_within ts found e
 form_of_within kinds.Impl ts found e = ending_within implements ts (after_block Other 0 ts) found implements_other (block_past Other 0 ts) e
-form_of_within kinds.Use ts found e = ending_within passes ts (after_semicolon ts) found passes_other (semicolon_past ts) e
+form_of_within kinds.Use ts found e = ending_within imports ts (after_semicolon ts) found imports_other (semicolon_past ts) e
+form_of_within kinds.Alias ts found e = ending_within (alias_of ts) ts (after_line ts) found (alias_other ts) (line_past ts) e
 form_of_within kinds.Module ts found e = module_within ts found e
 form_of_within kinds.Line ts found e = ending_within passes ts (after_line ts) found passes_other (line_past ts) e
 form_of_within kinds.Block ts found e = ending_within passes ts (after_block Other 0 ts) found passes_other (block_past Other 0 ts) e
@@ -178,6 +195,63 @@ form_of_within kinds.Call ts found e = ending_within passes ts (after_call ts) f
 form_within : (ts : List Tree) (found : Found) → form_at ts ≡ Some found → IsWithin ts found
 unfolding form_at
 form_within ts found e = form_of_within (kind_at ts) ts found e
+
+-- ---- type aliases
+
+-- what follows the `=` of a type alias is behind its beginning
+abbrev pub IsBehindName : List Tree → Form → Type 0
+IsBehindName ts (names name behind) = IsBehind behind ts
+IsBehindName ts _ = Unit {0}
+
+ending_behind : (ts : List Tree) (form : Form) (r : Option (List Tree)) (found : Found) → IsBehindName ts form → ending form r ≡ Some found → IsBehindName ts found.0
+ending_behind ts form None found h e = not_none e
+ending_behind ts form (Some rest) found h e = let is : (form, rest) ≡ found = some_same e in subst (λ (p : Found). IsBehindName ts p.0) is h
+
+alias_by_behind : (b : Bool) (name : Option Ident) (all ts : List Tree) → IsBehind ts all → IsBehindName all (cond b (alias_by name ts) passes)
+alias_by_behind true None all ts h = tt
+alias_by_behind true (Some name) all ts h = h
+alias_by_behind false name all ts h = tt
+
+alias_behind : (ts : List Tree) → IsBehindName ts (alias_of ts)
+alias_behind [] = tt
+alias_behind (t ∷ []) = tt
+alias_behind (t ∷ u ∷ []) = tt
+alias_behind (t ∷ u ∷ v ∷ ts) = alias_by_behind (is_sign (codes "=") v) (ident u) (t ∷ u ∷ v ∷ ts) ts (later (later (later same)))
+
+named_behind : (all : List Tree) (name : Option Ident) (ts : List Tree) (found : Found) → named_or_none name ts ≡ Some found → IsBehindName all found.0
+named_behind all None ts found e = not_none e
+named_behind all (Some name) ts found e = ending_behind all (declares name ts) (after_block Other 0 ts) found tt e
+
+declaration_behind : (all ts : List Tree) (found : Found) → declaration_at ts ≡ Some found → IsBehindName all found.0
+declaration_behind all [] found e = not_none e
+declaration_behind all (t ∷ []) found e = not_none e
+declaration_behind all (t ∷ u ∷ ts) found e = named_behind all (ident u) ts found e
+
+held_behind : (all ts : List Tree) (found : Found) → held_at ts ≡ Some found → IsBehindName all found.0
+held_behind all [] found e = not_none e
+held_behind all (t ∷ ts) found e = elim (either (is_curly t) e) [
+  | inl h ↦ let is : (holds (inside t), ts) ≡ found = some_same h in subst (λ (p : Found). IsBehindName all p.0) is tt
+  | inr h ↦ ending_behind all passes (semicolon_at (t ∷ ts)) found tt h
+]
+
+module_behind : (all ts : List Tree) (found : Found) → module_at ts ≡ Some found → IsBehindName all found.0
+module_behind all [] found e = not_none e
+module_behind all (t ∷ []) found e = not_none e
+module_behind all (t ∷ u ∷ ts) found e = elim (either (is_some (word u)) e) [ inl h ↦ held_behind all ts found h | inr h ↦ not_none h ]
+
+form_of_behind : (k : Kind) (ts : List Tree) (found : Found) → form_of k ts ≡ Some found → IsBehindName ts found.0
+form_of_behind kinds.Declaration ts found e = declaration_behind ts ts found e
+form_of_behind kinds.Impl ts found e = ending_behind ts implements (after_block Other 0 ts) found tt e
+form_of_behind kinds.Use ts found e = ending_behind ts imports (after_semicolon ts) found tt e
+form_of_behind kinds.Module ts found e = module_behind ts ts found e
+form_of_behind kinds.Alias ts found e = ending_behind ts (alias_of ts) (after_line ts) found (alias_behind ts) e
+form_of_behind kinds.Line ts found e = ending_behind ts passes (after_line ts) found tt e
+form_of_behind kinds.Block ts found e = ending_behind ts passes (after_block Other 0 ts) found tt e
+form_of_behind kinds.Call ts found e = ending_behind ts passes (after_call ts) found tt e
+
+pub form_behind : (ts : List Tree) (found : Found) → form_at ts ≡ Some found → IsBehindName ts found.0
+unfolding form_at
+form_behind ts found e = form_of_behind (kind_at ts) ts found e
 
 -- ---- items
 
@@ -189,6 +263,8 @@ form_held : (ts start keyword : List Tree) (form : Form) (rest held : List Tree)
 form_held ts start keyword (declares name behind) rest held e = cc
 form_held ts start keyword implements rest held e = let head = but_last (before keyword rest) in absurd (written_other head (implemented (outside head)) held e)
 form_held ts start keyword (holds inner) rest held e = cc
+form_held ts start keyword (names name behind) rest held e = cc
+form_held ts start keyword imports rest held e = cc
 form_held ts start keyword passes rest held e = cc
 
 held_itself : (b : Bool) (i : Item) (held : List Tree) → cond b passed i ≡ item.holds held → i ≡ item.holds held

@@ -58,11 +58,13 @@ no_standing all rest after i found h e none ss r = let left = h.behind ss r in l
 -- how much is left to be read of an item
 abbrev pub item_depth : Item → ℕ
 item_depth (item.stands s) = 0
+item_depth (item.all ss) = 0
 item_depth (item.holds ts) = 3 * depth (trees_of ts) + 3
 item_depth item.passed = 0
 
 pub depth_less : (ts : List Tree) (i : Item) (rest : List Tree) (n : ℕ) → item_at ts ≡ Some (i, rest) → depth (trees_of ts) ≤ n → item_depth i < 3 * n + 1
 depth_less ts (item.stands s) rest n e l = omega arith
+depth_less ts (item.all ss) rest n e l = omega arith
 depth_less ts (item.holds held) rest n e l = let less = item_less ts held rest e in omega arith
 depth_less ts item.passed rest n e l = omega arith
 

@@ -12,15 +12,18 @@ use Rattle.prepare.specs.declared.form.Form.TheVariants as forms
 use Rattle.prepare.specs.declared.kind.Kind.{Kind}
 use Rattle.prepare.specs.declared.kind.Kind.TheVariants as kinds
 use Rattle.prepare.specs.declared.previous.Behind.TheVariants.{Other}
-use Rattle.prepare.specs.Trees.{word, is_curly, inside}
+use Rattle.prepare.specs.Trees.{word, is_sign, is_curly, inside}
 use Rattle.prepare.specs.Kinds.{kind_of}
 use Rattle.prepare.specs.Ends.{after_semicolon, after_line, after_block, semicolon_at, after_call}
 
--- a declaration, by its name and what follows that, an impl, a module, by what stands in its brackets, and any other item
+-- a declaration, by its name and what follows that, an impl, a module, by what stands in its brackets, a type alias, by its
+-- name and what follows its `=`, a `use`, and any other item
 pub data Form : Type 0 where
   declares : Ident → List Tree → Form
   implements : Form
   holds : List Tree → Form
+  names : Ident → List Tree → Form
+  imports : Form
   passes : Form
 
 -- what is found and what follows it
@@ -32,6 +35,8 @@ abbrev pub form_view : program.Form → Form
 form_view (forms.Declares name ts) = declares (ident_of name.now) (map tree_view ts.now)
 form_view forms.Implements = implements
 form_view (forms.Holds ts) = holds (map tree_view ts.now)
+form_view (forms.Names name ts) = names (ident_of name.now) (map tree_view ts.now)
+form_view forms.Imports = imports
 form_view forms.Passes = passes
 
 abbrev pub found_view : program.Form × Bor (List TokenTree) → Found
@@ -97,11 +102,26 @@ module_at [] = None
 module_at (keyword ∷ []) = None
 module_at (keyword ∷ name ∷ ts) = cond (is_some (word name)) (held_at ts) None
 
+-- keyword name "=" any* ";"; what has anything else in front of the `=` passes
+abbrev pub alias_by : Option Ident → List Tree → Form
+alias_by None ts = passes
+alias_by (Some name) ts = names name ts
+
+abbrev pub alias_of : List Tree → Form
+alias_of [] = passes
+alias_of (keyword ∷ []) = passes
+alias_of (keyword ∷ name ∷ []) = passes
+alias_of (keyword ∷ name ∷ equals ∷ ts) = cond (is_sign (codes "=") equals) (alias_by (ident name) ts) passes
+
+abbrev pub alias_at : List Tree → Option Found
+alias_at ts = ending (alias_of ts) (after_line ts)
+
 abbrev pub form_of : Kind → List Tree → Option Found
 form_of kinds.Declaration ts = declaration_at ts
 form_of kinds.Impl ts = ending implements (after_block Other 0 ts)
-form_of kinds.Use ts = ending passes (after_semicolon ts)
+form_of kinds.Use ts = ending imports (after_semicolon ts)
 form_of kinds.Module ts = module_at ts
+form_of kinds.Alias ts = alias_at ts
 form_of kinds.Line ts = ending passes (after_line ts)
 form_of kinds.Block ts = ending passes (after_block Other 0 ts)
 form_of kinds.Call ts = ending passes (after_call ts)

@@ -2,14 +2,14 @@
 use Rattle.std.specs.Prelude.{◌≡◌, List, [], ◌∷◌, map, cond, option_map, Option, Some, None, Result, Ok, Err}
 use Rattle.std.specs.Borrow.{Bor}
 use Rattle.tokens.specs.declared.token.TokenTree.{TokenTree}
-use Rattle.tokens.specs.Trees.{Tree, tree_view}
+use Rattle.tokens.specs.Trees.{Tree, trees_of, tree_view}
 use Rattle.texts.specs.Span.{no_span}
 use Rattle.texts.specs.declared.span.Span.{Span}
 use Rattle.words.specs.Words.{word_of, start_of}
 use Rattle.written_types.specs.declared.written.Ident.{Ident}
 use Rattle.reaching.specs.declared.node.Node.{Node}
 use Rattle.prepare.specs.declared.item.Standing.{Standing}
-use Rattle.prepare.specs.declared.item.Stands.TheVariants.{Declared, Written}
+use Rattle.prepare.specs.declared.item.Stands.TheVariants.{Declared, Written, Alias}
 use Rattle.prepare.specs.declared.item.Stop.{Stop}
 use Rattle.prepare.specs.declared.item.Stop.TheVariants as stop
 use Rattle.prepare.specs.declared.item.Item as program
@@ -19,17 +19,20 @@ use Rattle.prepare.specs.Attributes.{after_attributes, after_visibility, is_for_
 use Rattle.prepare.specs.Fields.{declared_names}
 use Rattle.prepare.specs.Traits.{are_deriving}
 use Rattle.prepare.specs.Heads.{outside, Implemented, implemented}
-use Rattle.prepare.specs.Forms.{Form, declares, implements, form_at}
+use Rattle.prepare.specs.Imports.{imports_of}
+use Rattle.prepare.specs.Forms.{Form, declares, implements, names, imports, form_at}
 use Rattle.prepare.specs.Forms as form
 
--- what stands, a module, by what stands in its brackets, and an item that does not stand
+-- what stands, several things that stand, a module, by what stands in its brackets, and an item that does not stand
 pub data Item : Type 0 where
   stands : Standing → Item
+  all : List Standing → Item
   holds : List Tree → Item
   passed : Item
 
 abbrev pub item_view : program.Item → Item
 item_view (items.Stands s) = stands s
+item_view (items.All ss) = all ss
 item_view (items.Holds ts) = holds (map tree_view ts.now)
 item_view items.Passed = passed
 
@@ -50,12 +53,18 @@ written_by head (Some x) = stands (record { what = Written x.0 x.1.text; span = 
 abbrev pub written_of : (head : List Tree) → Item
 written_of head = written_by head (implemented (outside head))
 
+-- a type alias, by its trees and those of its type, both with the `;` at their end
+abbrev pub named_of : Ident → (whole of : List Tree) → Standing
+named_of name whole of = record { what = Alias name.text (extent (but_last of)); span = extent (but_last whole) }
+
 -- The item of the form among these trees, from its start, behind its attributes, and from its keyword on; it ends before the rest.
 abbrev pub item_of : (ts start keyword : List Tree) → Form → List Tree → Item
 item_of ts start keyword (declares name behind) rest =
-    stands (record { what = Declared (declared_of name (before ts start) keyword (before behind rest)); span = extent (before ts rest) })
+    stands (record { what = Declared (declared_of name (before ts start) keyword (before behind rest)) name.span; span = extent (before ts rest) })
 item_of ts start keyword implements rest = written_of (but_last (before keyword rest))
 item_of ts start keyword (form.holds inside) rest = holds inside
+item_of ts start keyword (names name behind) rest = stands (named_of name (before keyword rest) (before behind rest))
+item_of ts start keyword imports rest = all (imports_of (trees_of (before keyword rest)))
 item_of ts start keyword form.passes rest = passed
 
 abbrev pub unless_for_tests : List Tree → Item → Item

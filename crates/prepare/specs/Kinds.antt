@@ -23,7 +23,8 @@ kind_of first next =
     (cond (is_among first (codes "impl" ∷ [])) kinds.Impl
     (cond (is_among first (codes "use" ∷ [])) kinds.Use
     (cond (is_among first (codes "mod" ∷ [])) kinds.Module
-    (cond (is_among first (codes "type" ∷ codes "static" ∷ [])) kinds.Line
+    (cond (is_among first (codes "type" ∷ [])) kinds.Alias
+    (cond (is_among first (codes "static" ∷ [])) kinds.Line
     (cond (is_among first (codes "fn" ∷ codes "trait" ∷ codes "unsafe" ∷ codes "async" ∷ codes "extern" ∷ codes "macro" ∷ [])) kinds.Block
     (cond (is_among first (codes "const" ∷ [])) (const_kind next)
-    (cond (is_among first (codes "union" ∷ codes "auto" ∷ codes "safe" ∷ codes "default" ∷ codes "gen" ∷ [])) (weak_kind next) kinds.Call)))))))
+    (cond (is_among first (codes "union" ∷ codes "auto" ∷ codes "safe" ∷ codes "default" ∷ codes "gen" ∷ [])) (weak_kind next) kinds.Call))))))))

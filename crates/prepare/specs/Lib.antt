@@ -5,6 +5,7 @@ pub mod FileItems
 pub mod FileTexts
 pub mod Forms
 pub mod Heads
+pub mod Imports
 pub mod Items
 pub mod Kinds
 pub mod Names

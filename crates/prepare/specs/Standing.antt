@@ -8,6 +8,7 @@ use Rattle.prepare.specs.declared.item.Stop.TheVariants as stop
 use Rattle.prepare.specs.Trees.{before}
 use Rattle.prepare.specs.Attributes.{after_inner, is_for_tests}
 use Rattle.prepare.specs.Items.{Item, stands, holds, passed, item_at, stop_of}
+use Rattle.prepare.specs.Items as item
 
 mutual
   -- all of the trees are items, of which this stands
@@ -18,6 +19,7 @@ mutual
   -- what stands of an item
   pub data StandIn : Item → List Standing → Type 0 where
     itself : {s : Standing} → StandIn (stands s) (s ∷ [])
+    all : {ss : List Standing} → StandIn (item.all ss) ss
     inside : {ts : List Tree} {ss : List Standing} → StandInside ts ss → StandIn (holds ts) ss
     nothing : StandIn passed []
 

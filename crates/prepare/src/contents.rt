@@ -4,22 +4,23 @@ ghost use Rattle.std.specs.Prelude.{◌≡◌, ◌⊎◌, ◌++◌, IfOk, OnOk};
 ghost use Rattle.diag.specs.Refusal.{Refuses};
 ghost use Rattle.texts.specs.declared.span.Span.{Span as AnySpan};
 ghost use Rattle.lexing.specs.Cut.{IsDepthError, OpensTooDeep};
-ghost use Rattle.prepare.specs.FileItems.{IsSlice, AreSlices, item_of_span, items_in, AreItemsOf, impl_of_span, impls_in, AreImplsOf};
+ghost use Rattle.prepare.specs.FileItems.{HasSlices, AreSlices, item_of_span, items_in, AreItemsOf, impl_of_span, impls_in, AreImplsOf, alias_of_span, aliases_in, AreAliasesOf};
 ghost use Rattle.prepare.specs.Prepared.{IsNoFile};
 
 use crate::file::standing_in;
-use crate::file_items::{FileImpl, FileItem};
+use crate::file_items::{FileAlias, FileImpl, FileItem};
 use crate::item::{Standing, Stands};
 use diag::DeriveError;
 use std::alloc::{AllocError, Global};
 use telling::Places;
 use texts::{List, Text};
 
-/// The declarations of a file, and its impls of serde's traits that are written by hand.
+/// The declarations of a file, its impls of serde's traits that are written by hand, and its aliases.
 #[derive(Debug, Drop)]
 pub struct FileParts {
     pub items: List<FileItem>,
     pub impls: List<FileImpl>,
+    pub aliases: List<FileAlias>,
 }
 
 /// Adds what stands.
@@ -32,22 +33,25 @@ fn push_part(
     standing: &Standing,
 ) -> Result<(), AllocError>
     requires source { places.old ≡ source.now }
-    requires slice { IsSlice source.now standing.now.span }
+    requires slices { HasSlices source.now standing.now }
     ensures items { OnOk result (parts.new.items
         ≡ parts.old.items ++ item_of_span file source.now standing.now.span standing.now.what) }
     ensures impls { OnOk result (parts.new.impls
         ≡ parts.old.impls ++ impl_of_span file source.now standing.now.span standing.now.what) }
+    ensures aliases { OnOk result (parts.new.aliases
+        ≡ parts.old.aliases ++ alias_of_span file source.now standing.now.span standing.now.what) }
     ensures source { places.new ≡ places.old }
 {
     let (start, end) = (standing.span.start, standing.span.end);
     let place = places.place(alloc, start, end)?;
     let text = Text::new(alloc, &source[start..end])?;
     match &standing.what {
-        Stands::Declared(node) => parts.items.push(FileItem {
+        Stands::Declared(node, name) => parts.items.push(FileItem {
             file,
             declared: node.copy(alloc)?,
             text,
             place,
+            line: places.line(name.start),
         }),
         Stands::Written(of, name) => parts.impls.push(FileImpl {
             file,
@@ -56,10 +60,17 @@ fn push_part(
             text,
             place,
         }),
+        Stands::Alias(name, of) => parts.aliases.push(FileAlias {
+            file,
+            name: name.copy(alloc)?,
+            of: Text::new(alloc, &source[of.start..of.end])?,
+            text,
+            place,
+        }),
     }
 }
 
-/// The declarations and the impls among what stands.
+/// The declarations, the impls and the aliases among what stands.
 fn parts_in(
     alloc: Global,
     file: usize,
@@ -71,10 +82,13 @@ fn parts_in(
         (λ parts. parts.items ≡ items_in file source.now standing.now) }
     ensures impls { IfOk result
         (λ parts. parts.impls ≡ impls_in file source.now standing.now) }
+    ensures aliases { IfOk result
+        (λ parts. parts.aliases ≡ aliases_in file source.now standing.now) }
 {
     let mut parts = FileParts {
         items: List::new(alloc),
         impls: List::new(alloc),
+        aliases: List::new(alloc),
     };
     let mut places = Places::new(source);
     for standing in standing {
@@ -83,9 +97,10 @@ fn parts_in(
     Ok(parts)
 }
 
-/// The declarations of the file of this number, and its impls of serde's traits that are written by hand for a path, modules
-/// looked into, in its order. What is for tests alone is none of them: an item with an attribute `cfg(test)`, or
-/// `cfg(all(..))` in which `test` stands; nor is what stands in a block, as that of a function.
+/// The declarations of the file of this number, its impls of serde's traits that are written by hand for a path, and its
+/// aliases: the names that it gives to types. Modules are looked into, and all are in its order. What is for tests alone
+/// is none of them: an item with an attribute `cfg(test)`, or `cfg(all(..))` in which `test` stands; nor is what stands in
+/// a block, as that of a function.
 ///
 /// A refusal of kind `Syntax` has a span of the source: where it cannot be cut, as `lexing::lex` says; or that of the first
 /// token or opening bracket, behind attributes and doc comments, of what is no item. One of kind `TooDeep` has the span of
@@ -93,6 +108,7 @@ fn parts_in(
 pub fn file_parts(alloc: Global, file: usize, source: &str) -> Result<FileParts, DeriveError>
     ensures items { IfOk result (λ parts. AreItemsOf file source.now parts.items) }
     ensures impls { IfOk result (λ parts. AreImplsOf file source.now parts.impls) }
+    ensures aliases { IfOk result (λ parts. AreAliasesOf file source.now parts.aliases) }
     ensures shallow { IfOk result (λ _. (span : AnySpan) → ¬ (OpensTooDeep source.now span)) }
     ensures refused { Refuses result (λ e. IsDepthError source.now e ⊎ IsNoFile source.now e) }
 {

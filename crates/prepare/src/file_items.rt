@@ -14,6 +14,8 @@ pub struct FileItem {
     pub text: Text,
     /// Where that text stands in the file.
     pub place: Place,
+    /// The line of its name, from 1.
+    pub line: usize,
 }
 
 /// An impl of a trait of serde's that is written by hand in one of several files.
@@ -25,6 +27,20 @@ pub struct FileImpl {
     /// The last name of the path of the type that it is for.
     pub name: Text,
     /// Its head, from the word `impl` to the end of what stands before the block.
+    pub text: Text,
+    /// Where that text stands in the file.
+    pub place: Place,
+}
+
+/// A name that one of several files gives to a type: by a `type` item, or by `as` in a `use`.
+#[derive(Debug, Drop)]
+pub struct FileAlias {
+    /// The number of its file, from 0.
+    pub file: usize,
+    pub name: Text,
+    /// The text of the type that it names.
+    pub of: Text,
+    /// Its own text: from the word `type` to the end of the type, or `B as C`.
     pub text: Text,
     /// Where that text stands in the file.
     pub place: Place,

@@ -3,11 +3,11 @@
 ghost use Rattle.std.specs.Prelude.{◌≡◌, map, option_map};
 ghost use Rattle.tokens.specs.Trees.{tree_view};
 ghost use Rattle.words.specs.Words.{ident_of};
-ghost use Rattle.prepare.specs.Forms.{form_view, found_view, first_word, kind_at, ending, is_later_keyword, ident, named_at, declared_at, declaration_at, held_at, module_at, form_at};
+ghost use Rattle.prepare.specs.Forms.{form_view, found_view, first_word, kind_at, ending, is_later_keyword, ident, named_at, declared_at, declaration_at, held_at, module_at, alias_of, alias_at, form_at};
 
 use crate::ends::{after_block, after_call, after_line, after_semicolon, semicolon_at};
 use crate::kind::{Kind, kind_of};
-use crate::trees::{inside, is_curly, word};
+use crate::trees::{inside, is_curly, is_sign, word};
 use tokens::{Token, TokenTree};
 use words::{Word, word_of};
 
@@ -20,6 +20,10 @@ pub enum Form<'t> {
     Implements,
     /// A module, by what stands in its brackets.
     Holds(&'t [TokenTree]),
+    /// A type alias, by its name and what follows the `=` behind that.
+    Names(&'t Token, &'t [TokenTree]),
+    /// A `use`.
+    Imports,
     /// Any other.
     Passes,
 }
@@ -73,7 +77,7 @@ fn is_later_keyword(text: &str) -> bool
 }
 
 /// The name that the tree is in one of the editions.
-fn ident(tree: &TokenTree) -> Option<&Token>
+pub(crate) fn ident(tree: &TokenTree) -> Option<&Token>
     ensures { option_map (λ token. ident_of token.now) result ≡ ident (tree_view tree.now) }
 {
     match tree {
@@ -129,6 +133,26 @@ fn module_at(trees: &[TokenTree]) -> Option<(Form<'_>, &[TokenTree])>
     }
 }
 
+/// The type alias whose keyword the trees begin with; one that has no `=` right behind its name passes.
+fn alias_of(trees: &[TokenTree]) -> Form<'_>
+    ensures { form_view result ≡ alias_of (map tree_view trees.now) }
+{
+    match trees {
+        [_, name, equals, rest @ ..] if is_sign(equals, "=") => match ident(name) {
+            Some(name) => Form::Names(name, rest),
+            None => Form::Passes,
+        },
+        _ => Form::Passes,
+    }
+}
+
+/// The type alias, with what follows its end.
+fn alias_at(trees: &[TokenTree]) -> Option<(Form<'_>, &[TokenTree])>
+    ensures { option_map found_view result ≡ alias_at (map tree_view trees.now) }
+{
+    ending(alias_of(trees), after_line(trees))
+}
+
 /// What the item is that the trees begin with, behind its attributes and visibility, and what follows it.
 #[tactic(auto, unfolding(crate::specs::Forms::form_at))]
 pub(crate) fn form_at(trees: &[TokenTree]) -> Option<(Form<'_>, &[TokenTree])>
@@ -137,8 +161,9 @@ pub(crate) fn form_at(trees: &[TokenTree]) -> Option<(Form<'_>, &[TokenTree])>
     match kind_at(trees) {
         Kind::Declaration => declaration_at(trees),
         Kind::Impl => ending(Form::Implements, after_block(trees)),
-        Kind::Use => ending(Form::Passes, after_semicolon(trees)),
+        Kind::Use => ending(Form::Imports, after_semicolon(trees)),
         Kind::Module => module_at(trees),
+        Kind::Alias => alias_at(trees),
         Kind::Line => ending(Form::Passes, after_line(trees)),
         Kind::Block => ending(Form::Passes, after_block(trees)),
         Kind::Call => ending(Form::Passes, after_call(trees)),

@@ -1,7 +1,7 @@
 use crate::serde_trait::SerdeTrait;
 use reaching::Node;
 use std::alloc::AllocError;
-use texts::{Span, Text};
+use texts::{List, Span, Text};
 use tokens::TokenTree;
 
 /// What stands of a file.
@@ -9,13 +9,17 @@ use tokens::TokenTree;
 pub enum Stands {
     /// A declaration of a struct or an enum. It is first where it derives one of the traits by which declarations are chosen,
     /// and it names the identifiers in the types of its fields, but for those that serde skips.
-    Declared(Node),
+    /// The span is that of its name.
+    Declared(Node, Span),
     /// An impl of the trait that is written by hand, with the last name of the path of the type that it is for.
     Written(SerdeTrait, Text),
+    /// A name for a type: its text, and the bytes of the type.
+    Alias(Text, Span),
 }
 
 /// What stands, with its bytes: of a declaration from the first attribute or doc comment to the end, of an impl from the word
-/// `impl` to the end of what stands before its block.
+/// `impl` to the end of what stands before its block, of a type alias from the word `type` to the end of the type, and of a
+/// name in a `use` what `B as C` is.
 #[derive(Debug, Drop)]
 pub struct Standing {
     pub what: Stands,
@@ -26,6 +30,8 @@ pub struct Standing {
 #[derive(Drop)]
 pub enum Item<'t> {
     Stands(Standing),
+    /// Several things stand.
+    All(List<Standing>),
     /// A module, with what stands in its brackets.
     Holds(&'t [TokenTree]),
     /// It does not stand.

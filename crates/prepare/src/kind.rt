@@ -11,7 +11,9 @@ pub enum Kind {
     Impl,
     Use,
     Module,
-    /// What goes to a semicolon, as a type alias.
+    /// A type alias, which goes to a semicolon.
+    Alias,
+    /// Another that goes to a semicolon.
     Line,
     /// What goes to a block, as a function.
     Block,
@@ -59,7 +61,8 @@ pub(crate) fn kind_of(first: &str, next: Option<&str>) -> Kind
         "impl" => Kind::Impl,
         "use" => Kind::Use,
         "mod" => Kind::Module,
-        "type" | "static" => Kind::Line,
+        "type" => Kind::Alias,
+        "static" => Kind::Line,
         "fn" | "trait" | "unsafe" | "async" | "extern" | "macro" => Kind::Block,
         "const" => const_kind(next),
         "union" | "auto" | "safe" | "default" | "gen" => weak_kind(next),

@@ -1,10 +1,10 @@
-//! Whole files of Rust: their text, the declarations of structs and enums in them, and the impls of serde's traits that are
-//! written by hand.
+//! Whole files of Rust: their text, the declarations of structs and enums in them, the impls of serde's traits that are written
+//! by hand, and the names that are given to types.
 //!
 //! ```text
 //! file   = inner* item*
 //! inner  = inner-doc | "#" "!" square-group
-//! item   = attr* vis? ( decl | impl | use | module | line | block | call )
+//! item   = attr* vis? ( decl | impl | use | module | alias | line | block | call )
 //! attr   = outer-doc | "#" square-group
 //! vis    = "pub" scope?
 //! scope  = "(" ( "crate" | "self" | "super" | "in" any* ) ")"
@@ -12,6 +12,7 @@
 //! impl   = "impl" to-block
 //! use    = "use" to-semicolon
 //! module = "mod" word ( ";" | "{" file "}" )
+//! alias  = "type" name "=" any* ";"
 //! line   = ("type" | "static" | "const") "mut"? word (":" | "=" | "<" | ";" | "where") to-semicolon
 //! block  = ("fn" | "trait" | "unsafe" | "async" | "extern" | "macro") to-block
 //!        | "const" ("fn" | "unsafe" | "async" | "extern" | "trait" | "impl") to-block
@@ -26,7 +27,13 @@
 //!
 //! Declarations stand, also in modules, and so do impls by hand of serde's traits. Such an impl has, outside of `<` and `>`, the
 //! word `Serialize` or `Deserialize` right before `for`, and behind that a path up to `where` or the block: words but for `dyn`,
-//! and `::`. Its type is named by the last name of the path. Any other item passes. An item with the attribute `cfg(test)`, or
+//! and `::`. Its type is named by the last name of the path.
+//!
+//! Names for types stand too, as aliases: that of a `type` item with `=` right behind it, for what stands between that and the
+//! `;`; and each C of `B as C` in a `use`, at any depth, where both are names, for B. A `type` item with anything else in front
+//! of its `=`, as parameters, passes as a line.
+//!
+//! Any other item passes. An item with the attribute `cfg(test)`, or
 //! `cfg(all(..))` in which `test` is, does not stand, and is not looked into; nor does anything stand in a file or a module whose
 //! inner attributes have such a one.
 #![tactic(auto)]
@@ -39,6 +46,7 @@ mod file;
 mod file_items;
 mod form;
 mod heads;
+mod imports;
 mod item;
 mod kind;
 mod law;
@@ -52,7 +60,7 @@ mod traits;
 mod trees;
 
 pub use contents::{FileParts, file_parts};
-pub use file_items::{FileImpl, FileItem};
-pub use law::items_are_one;
+pub use file_items::{FileAlias, FileImpl, FileItem};
+pub use law::{aliases_are_one, items_are_one};
 pub use line_ends::file_text;
 pub use serde_trait::SerdeTrait;

@@ -1,16 +1,18 @@
 //! Single items, with their attributes.
 
 ghost use Rattle.std.specs.Prelude.{◌≡◌, length, map, IfOk};
-ghost use Rattle.tokens.specs.Trees.{tree_view};
+ghost use Rattle.tokens.specs.Trees.{tree_view, trees_view};
 ghost use Rattle.words.specs.Words.{ident_of};
 ghost use Rattle.prepare.specs.declared.item.Stop.TheVariants.{At};
 ghost use Rattle.prepare.specs.Forms.{form_view};
-ghost use Rattle.prepare.specs.Items.{declared_of, item_view, read_view, written_of, item_of, item_at, stop_at, ReadsItem};
+ghost use Rattle.prepare.specs.Imports.{imports_of};
+ghost use Rattle.prepare.specs.Items.{declared_of, item_view, read_view, written_of, named_of, item_of, item_at, stop_at, ReadsItem};
 
 use crate::attributes::{after_attributes, after_visibility, is_for_tests};
 use crate::fields::push_declared;
 use crate::form::{Form, form_at};
 use crate::heads::{implemented, outside};
+use crate::imports::push_all_imports;
 use crate::item::{Item, Standing, Stands, Stop};
 use crate::traits::are_deriving;
 use crate::trees::{before, but_last, extent};
@@ -59,6 +61,32 @@ fn written_of<'t>(alloc: Global, head: &[TokenTree]) -> Result<Item<'t>, AllocEr
     }))
 }
 
+/// What stands of the type alias: from its keyword on up to its end, and from behind its `=` up to there.
+fn named_of(
+    alloc: Global,
+    name: &Token,
+    whole: &[TokenTree],
+    of: &[TokenTree],
+) -> Result<Standing, AllocError>
+    ensures { IfOk result (λ standing. standing
+        ≡ named_of (ident_of name.now) (map tree_view whole.now) (map tree_view of.now)) }
+{
+    let ident = ident_of(alloc, name)?;
+    Ok(Standing {
+        what: Stands::Alias(ident.text, extent(but_last(of))),
+        span: extent(but_last(whole)),
+    })
+}
+
+/// What stands of the `use`.
+fn imported(alloc: Global, trees: &[TokenTree]) -> Result<List<Standing>, AllocError>
+    ensures { IfOk result (λ standing. standing ≡ imports_of (trees_view trees.now)) }
+{
+    let mut standing = List::new(alloc);
+    push_all_imports(alloc, &mut standing, trees)?;
+    Ok(standing)
+}
+
 /// What is done with the item of the form, which is not for tests and ends before the rest.
 fn item_of<'t>(
     alloc: Global,
@@ -77,12 +105,17 @@ fn item_of<'t>(
             let attributes = before(trees, start);
             let declared = declared_of(alloc, name, attributes, keyword, before(behind, rest))?;
             Ok(Item::Stands(Standing {
-                what: Stands::Declared(declared),
+                what: Stands::Declared(declared, name.span),
                 span: extent(before(trees, rest)),
             }))
         }
         Form::Implements => written_of(alloc, but_last(before(keyword, rest))),
         Form::Holds(trees) => Ok(Item::Holds(trees)),
+        Form::Names(name, behind) => {
+            let of = before(behind, rest);
+            Ok(Item::Stands(named_of(alloc, name, before(keyword, rest), of)?))
+        }
+        Form::Imports => Ok(Item::All(imported(alloc, before(keyword, rest))?)),
         Form::Passes => Ok(Item::Passed),
     }
 }

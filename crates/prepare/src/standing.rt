@@ -24,6 +24,7 @@ fn stand_in(alloc: Global, item: Item<'_>) -> Result<List<Standing>, Stop>
             one.push(standing)?;
             Ok(one)
         }
+        Item::All(standing) => Ok(standing),
         Item::Holds(trees) => stand_inside(alloc, trees),
         Item::Passed => Ok(List::new(alloc)),
     }

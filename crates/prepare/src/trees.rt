@@ -149,7 +149,7 @@ pub(crate) fn inside(tree: &TokenTree) -> &[TokenTree]
 }
 
 /// The bytes of the tree.
-fn span_of(tree: &TokenTree) -> Span
+pub(crate) fn span_of(tree: &TokenTree) -> Span
     ensures { result ≡ span_of (tree_view tree.now) }
 {
     match tree {

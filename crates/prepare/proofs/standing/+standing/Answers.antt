@@ -5,7 +5,7 @@ use Rattle.tokens.specs.Trees.{tree_view, trees_view, trees_of, depth}
 use Rattle.prepare.specs.Trees.{before}
 use Rattle.prepare.specs.Attributes.{after_inner, is_for_tests}
 use Rattle.prepare.specs.Items.{item_view}
-use Rattle.prepare.specs.Standing.{AreItems, StandIn, itself, nothing, for_tests, StopAt, StopIn, Finds}
+use Rattle.prepare.specs.Standing.{AreItems, StandIn, itself, all, nothing, for_tests, StopAt, StopIn, Finds}
 use Rattle.prepare.proofs.Behind.{weakly, length_past, depth_behind}
 use Rattle.prepare.proofs.Passed.{item_past}
 use Rattle.prepare.proofs.Repeated.{inner_behind}
@@ -56,6 +56,9 @@ pub stand_in-returns-in_ok-push-in-Stands : goal.stand_in-returns-in_ok-push-in-
 stand_in-returns-in_ok-push-in-Stands t c =
     let one : c.push.new.self ≡ c.in-Stands.standing ∷ [] = rw c.new-one.ensures at c.in_ok-push-in-Stands.ensures.ok in
     rw one (subst (λ i. StandIn (item_view i) (c.in-Stands.standing ∷ [])) (sym c.in-Stands.is) itself)
+
+pub stand_in-returns-in-All : goal.stand_in-returns-in-All
+stand_in-returns-in-All t c = subst (λ i. StandIn (item_view i) c.in-All.standing) (sym c.in-All.is) all
 
 pub stand_in-returns-in-Holds : goal.stand_in-returns-in-Holds
 stand_in-returns-in-Holds t c = subst (λ i. Finds (StandIn (item_view i)) (StopIn (item_view i)) c.stand_inside.result) (sym c.in-Holds.is) (held_finds (map tree_view c.in-Holds.trees.now) c.stand_inside.result c.stand_inside.ensures)
