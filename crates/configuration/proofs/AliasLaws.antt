@@ -1,10 +1,11 @@
 -- Aliases as they are stored, and how deep they stand in each other.
-use Rattle.std.proofs.Common.{◌≡◌, ◌<◌, ◌≤◌, inl, inr, ◌↔◌, ℕ, zero, suc, List, [], ◌∷◌, ◌++◌, true, false, Option, Some, None, IsTrue, map, length, refl, sym, ap, ◌∙◌, subst, arith}
+use Rattle.std.proofs.Common.{◌≡◌, ◌<◌, ◌≤◌, ◌+◌, inl, inr, ◌↔◌, ℕ, zero, suc, List, [], ◌∷◌, ◌++◌, true, false, Option, Some, None, IsTrue, map, length, bytes_eq, refl, sym, ap, ◌∙◌, subst, arith}
 use Rattle.std.specs.List.{filter_map, cons_option}
+use Rattle.std.specs.Map.{update}
 use Rattle.std.proofs.lemmas.Bool.{false≢true}
-use Rattle.std.proofs.lemmas.List.{length-map}
+use Rattle.std.proofs.lemmas.List.{length-map, length_push, map_push}
 use Rattle.texts.specs.Names.{place_in}
-use Rattle.texts.proofs.Laws.{place-found}
+use Rattle.texts.proofs.Laws.{place-found, places_more}
 use Rattle.inlining.specs.declared.order.Depth.{Depth}
 use Rattle.inlining.specs.declared.order.Depth.TheVariants.{Within, Beyond}
 use Rattle.inlining.specs.Depths.{IsDepth}
@@ -46,6 +47,15 @@ aliases-push [] [] n t e = refl
 aliases-push [] (u ∷ ts) n t e = absurd (omega arith)
 aliases-push (m ∷ ns) [] n t e = absurd (omega arith)
 aliases-push (m ∷ ns) (u ∷ ts) n t e = ap (λ xs. record { name = m; of = written_view u } ∷ xs) (aliases-push ns ts n t (omega arith))
+
+-- they are stored with one more, whose name is new
+pub stored-push : (ns : List (List ℕ)) (ts bares : List WrittenType) (f g : List ℕ → Option ℕ) (n : List ℕ) (t b : WrittenType) → AreStored ns ts bares f → f n ≡ None → written_view b ≡ bare (written_view t) →
+    ((k : List ℕ) → g k ≡ update bytes_eq f n (Some (length ns)) k) → AreStored (ns ++ n ∷ []) (ts ++ t ∷ []) (bares ++ b ∷ []) g
+stored-push ns ts bares f g n t b s new same grown = record {
+  many = length_push ns n ∙ ap (λ m. m + 1) s.many ∙ sym (length_push ts t);
+  without = map_push written_view bares b ∙ (λ i. s.without i ++ same i ∷ []) ∙ sym (map_push (λ u. bare (written_view u)) ts t);
+  places = places_more ns n f g s.places new grown;
+}
 
 -- ---- which stand in which
 

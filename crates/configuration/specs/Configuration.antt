@@ -26,3 +26,7 @@ empty_configuration = record { limit = 1000; copies = 10000; collect = NonInline
 -- with rows behind its own
 abbrev pub with_rows : Configuration → List RenameRow → Configuration
 with_rows c rows = record c { renames = c.renames ++ rows }
+
+-- with aliases behind its own
+abbrev pub with_aliases : Configuration → List Alias → Configuration
+with_aliases c aliases = record c { aliases = c.aliases ++ aliases }

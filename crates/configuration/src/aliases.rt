@@ -1,7 +1,8 @@
 //! Aliases: names, and the types that they stand for.
 
-ghost use Rattle.std.specs.Prelude.{◌≡◌, ◌↔◌, ℕ, List as Items, [], length, map, IfOk, IfSome, IsSomeAnd, IsTrue};
-ghost use Rattle.std.specs.BTreeMap.{get_by_text};
+ghost use Rattle.std.specs.Prelude.{◌≡◌, ◌<◌, ◌-◌, ◌↔◌, ℕ, List as Items, [], ◌∷◌, ◌++◌, length, map, remove, None, cond, IfOk, IfSome, IsSomeAnd, IsTrue, OnOk, OnErr, Some, bytes_eq, string_bytes};
+ghost use Rattle.std.specs.BTreeMap.{get_by_text, IsUnchanged};
+ghost use Rattle.std.specs.Map.{update};
 ghost use Rattle.serde_json.specs.Find.{get};
 ghost use Rattle.serde_json.specs.View.{view as view_of, members_view};
 ghost use Rattle.texts.specs.Names.{place_in};
@@ -11,7 +12,7 @@ ghost use Rattle.configuration.specs.Aliases.{alias_names, alias_types, bare, Ar
 ghost use Rattle.configuration.specs.Form.{SaysType, AreMembers, AreAliases, SaysOrDefault, HoldsTexts, LackType, LacksType, IsBadRow};
 ghost use Rattle.configuration.specs.Stored.{aliases_of};
 
-use crate::bare::bare_types;
+use crate::bare::{bare_type, bare_types};
 use crate::targets::targets_of;
 use diag::{DeriveError, Kind};
 use inlining::{Depth, inline_order};
@@ -92,6 +93,31 @@ impl Aliases {
             bare,
             places,
         })
+    }
+
+    /// Puts the alias behind the others where its name is new, and tells whether it is. A name that they have, or a
+    /// refused call, changes nothing.
+    pub fn push(&mut self, alloc: Global, name: &str, ty: WrittenType) -> Result<bool, AllocError>
+        ensures ok { IfOk result (λ added. self.new
+            ≡ cond added (self.old ++ record { name = name.now; of = written_view ty } ∷ []) self.old) }
+        ensures new { IfOk result (λ added. IsTrue added
+            ↔ (place_in name.now (alias_names self.old) ≡ None)) }
+        ensures err { OnErr result (self.new ≡ self.old) }
+    {
+        if let Some(_) = self.places.get(name) {
+            return Ok(false);
+        }
+        let at = self.names.len();
+        let key = String::from_str(alloc, name)?;
+        let name = Text::new(alloc, name)?;
+        let bare = bare_type(alloc, &ty)?;
+        push_both(&mut self.names, name, &mut self.types, ty)?;
+        if push_placed(&mut self.bare, bare, &mut self.places, key, at).is_ok() {
+            return Ok(true);
+        }
+        take_last(&mut self.names);
+        take_last(&mut self.types);
+        Err(AllocError)
     }
 
     /// Whether more aliases than may stand in each other.
@@ -198,6 +224,60 @@ fn places_of(alloc: Global, names: &[Text]) -> Result<BTreeMap<String, usize>, A
         let _ = places.insert(name, at).map_err(AllocError::from)?;
     }
     Ok(places)
+}
+
+/// Adds the items at the ends of the lists. A refused call changes nothing.
+fn push_both<T: Drop, U: Drop>(
+    ones: &mut List<T>,
+    one: T,
+    others: &mut List<U>,
+    other: U,
+) -> Result<(), AllocError>
+    ensures ones { OnOk result (ones.new ≡ ones.old ++ one ∷ []) }
+    ensures others { OnOk result (others.new ≡ others.old ++ other ∷ []) }
+    ensures ones_kept { OnErr result (ones.new ≡ ones.old) }
+    ensures others_kept { OnErr result (others.new ≡ others.old) }
+{
+    ones.push(one)?;
+    match others.push(other) {
+        Ok(()) => Ok(()),
+        Err(error) => {
+            take_last(ones);
+            Err(error)
+        }
+    }
+}
+
+/// Takes out the last item.
+fn take_last<T: Drop>(list: &mut List<T>)
+    requires { 0 < length list.old }
+    ensures { list.new ≡ remove list.old (length list.old - 1) }
+{
+    let _ = list.remove(list.len() - 1);
+}
+
+/// Adds the type at the end of the list, and the place of the name. A refused call changes nothing.
+fn push_placed(
+    bare: &mut List<WrittenType>,
+    ty: WrittenType,
+    places: &mut BTreeMap<String, usize>,
+    name: String,
+    at: usize,
+) -> Result<(), AllocError>
+    ensures bare { OnOk result (bare.new ≡ bare.old ++ ty ∷ []) }
+    ensures places { OnOk result ((k : Items ℕ) → get_by_text places.new k
+        ≡ update bytes_eq (get_by_text places.old) (string_bytes name) (Some at) k) }
+    ensures bare_kept { OnErr result (bare.new ≡ bare.old) }
+    ensures places_kept { OnErr result (IsUnchanged places.old places.new) }
+{
+    bare.push(ty)?;
+    match places.insert(name, at) {
+        Ok(_) => Ok(()),
+        Err(_) => {
+            take_last(bare);
+            Err(AllocError)
+        }
+    }
 }
 
 /// The aliases of the member, of which there are none without the member.

@@ -20,8 +20,9 @@ pub fn bare_types(alloc: Global, types: &[WrittenType]) -> Result<List<WrittenTy
     Ok(found)
 }
 
+/// The type without what nothing is resolved from.
 #[cycle(bare)]
-fn bare_type(alloc: Global, ty: &WrittenType) -> Result<WrittenType, AllocError>
+pub fn bare_type(alloc: Global, ty: &WrittenType) -> Result<WrittenType, AllocError>
     ensures { IfOk result (λ found. written_view found ≡ bare (written_view ty.now)) }
 {
     match ty {

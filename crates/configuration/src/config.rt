@@ -1,12 +1,12 @@
-ghost use Rattle.std.specs.Prelude.{◌≡◌, ◌≤◌, ◌⊎◌, ◌↔◌, ℕ, List, [], ◌∷◌, map, IsTrue, IfOk, IfSome, OnOk, OnErr, MatchOption, codes};
+ghost use Rattle.std.specs.Prelude.{◌≡◌, ◌≤◌, ◌⊎◌, ◌↔◌, ℕ, List, [], ◌∷◌, map, IsTrue, IfOk, IfSome, OnOk, OnErr, MatchOption, None, cond, codes};
 ghost use Rattle.std.specs.BTreeMap.{get_by_text};
 ghost use Rattle.diag.specs.Refusal.{Refuses, IsErrorFor};
 ghost use Rattle.serde_json.specs.Find.{get};
 ghost use Rattle.serde_json.specs.View.{view as view_of};
 ghost use Rattle.texts.specs.Names.{place_in};
 ghost use Rattle.written_types.specs.Written.{written_view};
-ghost use Rattle.configuration.specs.Configuration.{empty_configuration, with_rows, Configuration};
-ghost use Rattle.configuration.specs.Aliases.{alias_names, alias_types, bare};
+ghost use Rattle.configuration.specs.Configuration.{empty_configuration, with_rows, with_aliases, Configuration};
+ghost use Rattle.configuration.specs.Aliases.{alias_names, alias_types, bare, AreDeep};
 ghost use Rattle.configuration.specs.Form.{KeepsEmpty, HoldsTexts, SaysOthers, HasForm, IsConfiguration, IsConfigurationText, IsBadConfig, IsAliasDepth, IsRefusedConfiguration, IsRefusedText};
 
 use crate::aliases::{Aliases, aliases_at};
@@ -130,6 +130,31 @@ impl Config {
         ensures err { OnErr result (self.new ≡ self.old) }
     {
         self.renames.push(row)
+    }
+
+    /// Puts an alias behind those of the configuration where its name is new, and tells whether it is. A name that the
+    /// configuration has, or a refused call, changes nothing. How deep the aliases stand in each other is not judged.
+    pub fn push_alias(
+        &mut self,
+        alloc: Global,
+        name: &str,
+        ty: WrittenType,
+    ) -> Result<bool, AllocError>
+        ensures ok { IfOk result (λ added. self.new ≡ cond added
+            (with_aliases self.old (record { name = name.now; of = written_view ty } ∷ []))
+            self.old) }
+        ensures new { IfOk result (λ added. IsTrue added
+            ↔ (place_in name.now (alias_names self.old.aliases) ≡ None)) }
+        ensures err { OnErr result (self.new ≡ self.old) }
+    {
+        self.aliases.push(alloc, name, ty)
+    }
+
+    /// Whether more than 32 aliases stand in each other.
+    pub fn deep_aliases(&self, alloc: Global) -> Result<bool, AllocError>
+        ensures { IfOk result (λ deep. IsTrue deep ↔ AreDeep self.now.aliases) }
+    {
+        self.aliases.are_deep(alloc)
     }
 
     /// The most instances that may be reachable.
