@@ -20,7 +20,7 @@ IsSlice source span = IsCharBoundary source span.start × IsCharBoundary source 
 abbrev pub HasOwnSlice : List ℕ → Stands → Type 0
 HasOwnSlice source (Declared node at) = Unit {0}
 HasOwnSlice source (Written k name) = Unit {0}
-HasOwnSlice source (Alias name of) = IsSlice source of
+HasOwnSlice source (Alias node of) = IsSlice source of
 
 abbrev pub HasSlices : List ℕ → Standing → Type 0
 HasSlices source s = IsSlice source s.span × HasOwnSlice source s.what
@@ -39,7 +39,7 @@ item_of_span file source span (Declared node at) =
       line = line_of source at.start;
     } ∷ []
 item_of_span file source span (Written k name) = []
-item_of_span file source span (Alias name of) = []
+item_of_span file source span (Alias node of) = []
 
 abbrev pub items_in : ℕ → List ℕ → List Standing → List FileItem
 items_in file source standing = flat_map (λ s. item_of_span file source s.span s.what) standing
@@ -53,7 +53,7 @@ abbrev pub impl_of_span : ℕ → List ℕ → Span → Stands → List FileImpl
 impl_of_span file source span (Declared node at) = []
 impl_of_span file source span (Written k name) =
     record { file = file; of = k; name = name; text = slice_range source span.start span.end; place = place_between source span.start span.end } ∷ []
-impl_of_span file source span (Alias name of) = []
+impl_of_span file source span (Alias node of) = []
 
 abbrev pub impls_in : ℕ → List ℕ → List Standing → List FileImpl
 impls_in file source standing = flat_map (λ s. impl_of_span file source s.span s.what) standing
@@ -66,10 +66,10 @@ AreImplsOf file source impls = (standing : List Standing) × IsFile source stand
 abbrev pub alias_of_span : ℕ → List ℕ → Span → Stands → List FileAlias
 alias_of_span file source span (Declared node at) = []
 alias_of_span file source span (Written k name) = []
-alias_of_span file source span (Alias name of) =
+alias_of_span file source span (Alias node of) =
     record {
       file = file;
-      name = name;
+      declared = node;
       of = slice_range source of.start of.end;
       text = slice_range source span.start span.end;
       place = place_between source span.start span.end;

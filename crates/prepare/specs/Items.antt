@@ -1,5 +1,5 @@
 -- Items with their attributes (The Rust Reference, "Items", "Conditional compilation").
-use Rattle.std.specs.Prelude.{◌≡◌, List, [], ◌∷◌, map, cond, option_map, Option, Some, None, Result, Ok, Err}
+use Rattle.std.specs.Prelude.{◌≡◌, List, [], ◌∷◌, map, false, cond, option_map, Option, Some, None, Result, Ok, Err}
 use Rattle.std.specs.Borrow.{Bor}
 use Rattle.tokens.specs.declared.token.TokenTree.{TokenTree}
 use Rattle.tokens.specs.Trees.{Tree, trees_of, tree_view}
@@ -20,6 +20,7 @@ use Rattle.prepare.specs.Fields.{declared_names}
 use Rattle.prepare.specs.Traits.{are_deriving}
 use Rattle.prepare.specs.Heads.{outside, Implemented, implemented}
 use Rattle.prepare.specs.Imports.{imports_of}
+use Rattle.prepare.specs.Names.{all_names}
 use Rattle.prepare.specs.Forms.{Form, declares, implements, names, imports, form_at}
 use Rattle.prepare.specs.Forms as form
 
@@ -55,7 +56,9 @@ written_of head = written_by head (implemented (outside head))
 
 -- a type alias, by its trees and those of its type, both with the `;` at their end
 abbrev pub named_of : Ident → (whole of : List Tree) → Standing
-named_of name whole of = record { what = Alias name.text (extent (but_last of)); span = extent (but_last whole) }
+named_of name whole of =
+    let own : List Tree = but_last of in
+    record { what = Alias (record { name = name.text; is_first = false; names = all_names own }) (extent own); span = extent (but_last whole) }
 
 -- The item of the form among these trees, from its start, behind its attributes, and from its keyword on; it ends before the rest.
 abbrev pub item_of : (ts start keyword : List Tree) → Form → List Tree → Item

@@ -60,9 +60,9 @@ fn push_part(
             text,
             place,
         }),
-        Stands::Alias(name, of) => parts.aliases.push(FileAlias {
+        Stands::Alias(node, of) => parts.aliases.push(FileAlias {
             file,
-            name: name.copy(alloc)?,
+            declared: node.copy(alloc)?,
             of: Text::new(alloc, &source[of.start..of.end])?,
             text,
             place,

@@ -37,8 +37,9 @@ pub struct FileImpl {
 pub struct FileAlias {
     /// The number of its file, from 0.
     pub file: usize,
-    pub name: Text,
-    /// The text of the type that it names.
+    /// It is not first, and names what stands in its type.
+    pub declared: Node,
+    /// The text of the type.
     pub of: Text,
     /// Its own text: from the word `type` to the end of the type, or `B as C`.
     pub text: Text,

@@ -8,6 +8,7 @@ ghost use Rattle.prepare.specs.Imports.{import_of, import_at, imports_in, import
 use crate::form::ident;
 use crate::item::{Standing, Stands};
 use crate::trees::{is_word, span_of};
+use reaching::Node;
 use std::alloc::{AllocError, Global};
 use texts::List;
 use tokens::TokenTree;
@@ -25,10 +26,16 @@ fn push_import(
         (tree_view name.now)) }
 {
     match (ident(of), ident(name)) {
-        (Some(_), Some(token)) => {
-            let ident = ident_of(alloc, token)?;
+        (Some(of_token), Some(token)) => {
+            let mut names = List::new(alloc);
+            names.push(ident_of(alloc, of_token)?.text)?;
+            let node = Node {
+                name: ident_of(alloc, token)?.text,
+                is_first: false,
+                names,
+            };
             standing.push(Standing {
-                what: Stands::Alias(ident.text, span_of(of)),
+                what: Stands::Alias(node, span_of(of)),
                 span: covering(span_of(of), span_of(name)),
             })
         }

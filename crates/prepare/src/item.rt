@@ -13,8 +13,8 @@ pub enum Stands {
     Declared(Node, Span),
     /// An impl of the trait that is written by hand, with the last name of the path of the type that it is for.
     Written(SerdeTrait, Text),
-    /// A name for a type: its text, and the bytes of the type.
-    Alias(Text, Span),
+    /// A name for a type, with the identifiers in that, and the bytes of the type. It is not first.
+    Alias(Node, Span),
 }
 
 /// What stands, with its bytes: of a declaration from the first attribute or doc comment to the end, of an impl from the word

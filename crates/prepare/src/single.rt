@@ -14,6 +14,7 @@ use crate::form::{Form, form_at};
 use crate::heads::{implemented, outside};
 use crate::imports::push_all_imports;
 use crate::item::{Item, Standing, Stands, Stop};
+use crate::names::push_all_names;
 use crate::traits::are_deriving;
 use crate::trees::{before, but_last, extent};
 use reaching::Node;
@@ -72,8 +73,16 @@ fn named_of(
         ≡ named_of (ident_of name.now) (map tree_view whole.now) (map tree_view of.now)) }
 {
     let ident = ident_of(alloc, name)?;
+    let own = but_last(of);
+    let mut names = List::new(alloc);
+    push_all_names(alloc, &mut names, own)?;
+    let node = Node {
+        name: ident.text,
+        is_first: false,
+        names,
+    };
     Ok(Standing {
-        what: Stands::Alias(ident.text, extent(but_last(of))),
+        what: Stands::Alias(node, extent(own)),
         span: extent(but_last(whole)),
     })
 }
