@@ -1,18 +1,18 @@
 -- What the members of an object say of aliases.
-use Rattle.std.proofs.Common.{◌≡◌, ◌+◌, ◌⊎◌, inl, inr, ℕ, List, [], ◌∷◌, ◌++◌, Option, Some, None, IfSome, IsSomeAnd, length, refl, sym, ap, ◌∙◌, subst, append_assoc, append-nil}
+use Rattle.std.proofs.Common.{◌≡◌, ◌+◌, ◌⊎◌, inl, inr, ℕ, List, [], ◌∷◌, ◌++◌, Option, Some, None, Result, Ok, Err, IfOk, IfSome, IsSomeAnd, length, refl, sym, ap, ◌∙◌, subst, append_assoc, append-nil}
 use Rattle.std.proofs.lemmas.List.{length_push}
 use Rattle.serde_json.specs.Data.{Data, null, boolean, number, string, array, object, Members, no_members, member}
 use Rattle.serde_json.specs.Find.{as_str}
-use Rattle.texts.specs.declared.span.Span.{Span}
 use Rattle.diag.specs.declared.diagnostics.DiangosticsInner.{DiangosticsInner}
+use Rattle.diag.specs.Refusal.{Refuses}
 use Rattle.diag.specs.declared.error.DeriveError.{DeriveError}
 use Rattle.diag.specs.declared.error.DeriveError.TheVariants.{Refused, Memory}
-use Rattle.type_grammar.specs.Source.{ReadsType, TypeNestsTooDeep, IsNoType, IsDeepType}
+use Rattle.type_grammar.specs.Source.{IsNoType, IsDeepType}
 use Rattle.written_types.specs.declared.written.WrittenType.{WrittenType}
 use Rattle.written_types.specs.Written.{Written, written_view}
 use Rattle.configuration.specs.Configuration.{Alias}
 use Rattle.configuration.specs.Stored.{aliases_of}
-use Rattle.configuration.specs.Form.{SaysOrDefault, IsTypeText, SaysType, AreMembers, AreAliases, AreTexts, HoldsTexts, LackType, LacksType}
+use Rattle.configuration.specs.Form.{SaysOrDefault, IsBadRow, IsTypeText, SaysType, AreMembers, AreAliases, AreTexts, HoldsTexts, LackType, LacksType}
 use Rattle.configuration.proofs.AliasLaws.{aliases-push}
 
 -- ---- one value
@@ -25,15 +25,21 @@ is_text (string s) text e = cc
 is_text (array ds) text e = cc
 is_text (object ms) text e = cc
 
--- a text that is read as a type, and nests no deeper than it may, says it
-pub type_read : (d : Data) (text : List ℕ) (t : Written) → d ≡ string text → ReadsType text t → ((span : Span) → TypeNestsTooDeep text span → ⊥) → SaysType d t
-type_read d text t is reads shallow = subst (λ v. SaysType v t) (sym is) (reads, shallow)
+-- a value that is a text says the type that this is, and none where it is none
+pub types_said : (d : Data) (text : List ℕ) (r : Result WrittenType DeriveError) → d ≡ string text → IfOk r (λ t. IsTypeText text (written_view t)) → IfOk r (λ t. SaysType d (written_view t))
+types_said d text (Ok t) is says = subst (λ v. SaysType v (written_view t)) (sym is) says
+types_said d text (Err e) is says = tt
 
--- one that is refused says none
-pub type_unread : (d : Data) (text : List ℕ) (e : DeriveError) (ds : List DiangosticsInner) → d ≡ string text → e ≡ Refused ds → (e ≡ Memory) ⊎ IsDeepType text e ⊎ IsNoType text e → (t : Written) → SaysType d t → ⊥
-type_unread d text e ds is refused (inl memory) t h = let both : Refused ds ≡ Memory = sym refused ∙ memory in cc
-type_unread d text e ds is refused (inr (inl deep)) t h = let says : IsTypeText text t = subst (λ v. SaysType v t) is h in says.1 deep.0 deep.2
-type_unread d text e ds is refused (inr (inr none)) t h = let says : IsTypeText text t = subst (λ v. SaysType v t) is h in none.3 t says.0
+pub types_unsaid : (d : Data) (text : List ℕ) (r : Result WrittenType DeriveError) → d ≡ string text → Refuses r (λ e. IsBadRow e × ((t : Written) → IsTypeText text t → ⊥)) → Refuses r (λ e. IsBadRow e × ((t : Written) → SaysType d t → ⊥))
+types_unsaid d text (Ok t) is refused = tt
+types_unsaid d text (Err e) is (inl memory) = inl memory
+types_unsaid d text (Err e) is (inr (bad, none)) = inr (bad, λ t h. none t (subst (λ v. SaysType v t) is h))
+
+-- a text that is refused is no type
+pub text_unread : (text : List ℕ) (e : DeriveError) (ds : List DiangosticsInner) → e ≡ Refused ds → (e ≡ Memory) ⊎ IsDeepType text e ⊎ IsNoType text e → (t : Written) → IsTypeText text t → ⊥
+text_unread text e ds refused (inl memory) t says = let both : Refused ds ≡ Memory = sym refused ∙ memory in cc
+text_unread text e ds refused (inr (inl deep)) t says = says.1 deep.0 deep.2
+text_unread text e ds refused (inr (inr none)) t says = none.3 t says.0
 
 -- ---- members that are read one by one
 

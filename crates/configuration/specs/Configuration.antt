@@ -23,6 +23,17 @@ pub record Configuration : Type 0 where
 abbrev pub empty_configuration : Configuration
 empty_configuration = record { limit = 1000; copies = 10000; collect = NonInlined; renames = []; aliases = [] }
 
+-- with another bound
+abbrev pub with_limit : Configuration → ℕ → Configuration
+with_limit c n = record c { limit = n }
+
+abbrev pub with_copies : Configuration → ℕ → Configuration
+with_copies c n = record c { copies = n }
+
+-- with others that get a component
+abbrev pub with_collect : Configuration → SchemaCollect → Configuration
+with_collect c collect = record c { collect = collect }
+
 -- with rows behind its own
 abbrev pub with_rows : Configuration → List RenameRow → Configuration
 with_rows c rows = record c { renames = c.renames ++ rows }

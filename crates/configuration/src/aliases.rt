@@ -9,7 +9,7 @@ ghost use Rattle.texts.specs.Names.{place_in};
 ghost use Rattle.diag.specs.Refusal.{IsErrorFor, Refuses};
 ghost use Rattle.written_types.specs.Written.{Written, written_view};
 ghost use Rattle.configuration.specs.Aliases.{alias_names, alias_types, bare, AreDeep};
-ghost use Rattle.configuration.specs.Form.{SaysType, AreMembers, AreAliases, SaysOrDefault, HoldsTexts, LackType, LacksType, IsBadRow};
+ghost use Rattle.configuration.specs.Form.{IsTypeText, SaysType, AreMembers, AreAliases, SaysOrDefault, HoldsTexts, LackType, LacksType, IsBadRow};
 ghost use Rattle.configuration.specs.Stored.{aliases_of};
 
 use crate::bare::{bare_type, bare_types};
@@ -29,6 +29,7 @@ const MAX_DEPTH: usize = 32;
 
 /// Aliases in the order of their names: what they stand for, the same without what nothing is resolved from, and the
 /// places of the names. Contracts see the list of the aliases.
+#[derive(Debug)]
 pub struct Aliases {
     names: List<Text>,
     types: List<WrittenType>,
@@ -86,7 +87,7 @@ impl Aliases {
     {
         let (names, types) = rows_of(alloc, members)?;
         let bare = bare_types(alloc, types.as_slice())?;
-        let places = places_of(alloc, names.as_slice())?;
+        let places = name_places(alloc, names.as_slice())?;
         Ok(Aliases {
             names,
             types,
@@ -173,19 +174,28 @@ fn bad_row(alloc: Global) -> DeriveError
     )
 }
 
+/// The type that the text is. A text that is none is refused with the kind `BadRow`.
+pub(crate) fn type_in(alloc: Global, text: &str) -> Result<WrittenType, DeriveError>
+    ensures said { IfOk result (λ ty. IsTypeText text.now (written_view ty)) }
+    ensures refused { Refuses result
+        (λ e. (IsBadRow e × ((t : Written) → ¬ IsTypeText text.now t))) }
+{
+    match parse_type(alloc, text) {
+        Ok(ty) => Ok(ty),
+        Err(DeriveError::Memory) => Err(DeriveError::Memory),
+        Err(DeriveError::Refused(_)) => Err(bad_row(alloc)),
+    }
+}
+
 /// The type that the value says. A value that says none is refused with the kind `BadRow`.
 fn type_of(alloc: Global, value: &Value) -> Result<WrittenType, DeriveError>
     ensures said { IfOk result (λ ty. SaysType (view_of value.now) (written_view ty)) }
     ensures refused { Refuses result
         (λ e. (IsBadRow e × ((t : Written) → ¬ SaysType (view_of value.now) t))) }
 {
-    let Some(text) = value.as_str() else {
-        return Err(bad_row(alloc));
-    };
-    match parse_type(alloc, text) {
-        Ok(ty) => Ok(ty),
-        Err(DeriveError::Memory) => Err(DeriveError::Memory),
-        Err(DeriveError::Refused(_)) => Err(bad_row(alloc)),
+    match value.as_str() {
+        Some(text) => type_in(alloc, text),
+        None => Err(bad_row(alloc)),
     }
 }
 
@@ -210,7 +220,7 @@ fn rows_of(
 }
 
 /// The place of each name; of several that are equal, that of the first.
-fn places_of(alloc: Global, names: &[Text]) -> Result<BTreeMap<String, usize>, AllocError>
+pub fn name_places(alloc: Global, names: &[Text]) -> Result<BTreeMap<String, usize>, AllocError>
     ensures { IfOk result (λ places. (name : Items ℕ)
         → get_by_text places name ≡ place_in name names.now) }
 {

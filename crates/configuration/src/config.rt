@@ -1,19 +1,20 @@
-ghost use Rattle.std.specs.Prelude.{◌≡◌, ◌≤◌, ◌⊎◌, ◌↔◌, ℕ, List, [], ◌∷◌, map, IsTrue, IfOk, IfSome, OnOk, OnErr, MatchOption, None, cond, codes};
+ghost use Rattle.std.specs.Prelude.{◌≡◌, ◌≤◌, ◌⊎◌, ◌↔◌, ℕ, List, [], ◌∷◌, map, IsTrue, IfOk, IfSome, OnOk, OnErr, IfErr, IsOk, MatchOption, None, cond, codes};
 ghost use Rattle.std.specs.BTreeMap.{get_by_text};
 ghost use Rattle.diag.specs.Refusal.{Refuses, IsErrorFor};
 ghost use Rattle.serde_json.specs.Find.{get};
 ghost use Rattle.serde_json.specs.View.{view as view_of};
 ghost use Rattle.texts.specs.Names.{place_in};
-ghost use Rattle.written_types.specs.Written.{written_view};
-ghost use Rattle.configuration.specs.Configuration.{empty_configuration, with_rows, with_aliases, Configuration};
+ghost use Rattle.written_types.specs.Written.{Written, written_view};
+ghost use Rattle.configuration.specs.Configuration.{empty_configuration, with_limit, with_copies, with_collect, with_rows, with_aliases, Configuration};
 ghost use Rattle.configuration.specs.Aliases.{alias_names, alias_types, bare, AreDeep};
-ghost use Rattle.configuration.specs.Form.{KeepsEmpty, HoldsTexts, SaysOthers, HasForm, IsConfiguration, IsConfigurationText, IsBadConfig, IsAliasDepth, IsRefusedConfiguration, IsRefusedText};
+ghost use Rattle.configuration.specs.Form.{IsTypeText, IsBadRow, KeepsEmpty, HoldsTexts, SaysOthers, HasForm, IsConfiguration, IsConfigurationText, IsBadConfig, IsAliasDepth, IsRefusedConfiguration, IsRefusedText};
 
-use crate::aliases::{Aliases, aliases_at};
+use crate::aliases::{Aliases, aliases_at, type_in};
 use crate::collect::SchemaCollect;
 use crate::members::{
     collect_at, holds_texts_at, is_empty_list_at, is_empty_object_at, is_object_of, whole_at,
 };
+use crate::range::{OutOfRange, within};
 use crate::renames::renames_at;
 use crate::value::value_of;
 use diag::{DeriveError, Kind, RenameRow, RenameTable};
@@ -38,6 +39,7 @@ pub const MEMBERS: [&str; 8] = [
 ];
 
 /// A configuration. Contracts see the record of what is configured.
+#[derive(Debug)]
 pub struct Config {
     limit: usize,
     copies: usize,
@@ -123,6 +125,39 @@ impl Config {
         }
     }
 
+    /// Sets the most instances that may be reachable. A number that is not from 1 to 4096 is refused, and changes nothing.
+    pub fn set_limit(&mut self, limit: usize) -> Result<(), OutOfRange>
+        ensures ok { OnOk result (self.new ≡ with_limit self.old limit) }
+        ensures within { IsOk result ↔ ((1 ≤ limit) × (limit ≤ 4096)) }
+        ensures err { OnErr result (self.new ≡ self.old) }
+        ensures told { IfErr result (λ e. e ≡ record { value = limit; least = 1; most = 4096 }) }
+    {
+        within(limit, 1, 4096)?;
+        self.limit = limit;
+        Ok(())
+    }
+
+    /// Sets the most copies of schemas that may be inlined. A number that is not from 1 to 100000 is refused, and changes
+    /// nothing.
+    pub fn set_copies(&mut self, copies: usize) -> Result<(), OutOfRange>
+        ensures ok { OnOk result (self.new ≡ with_copies self.old copies) }
+        ensures within { IsOk result ↔ ((1 ≤ copies) × (copies ≤ 100000)) }
+        ensures err { OnErr result (self.new ≡ self.old) }
+        ensures told { IfErr result
+            (λ e. e ≡ record { value = copies; least = 1; most = 100000 }) }
+    {
+        within(copies, 1, 100_000)?;
+        self.copies = copies;
+        Ok(())
+    }
+
+    /// Sets which instances get a component beside the roots.
+    pub fn set_collect(&mut self, collect: SchemaCollect)
+        ensures { self.new ≡ with_collect self.old collect }
+    {
+        self.collect = collect;
+    }
+
     /// Puts a row behind those of the configuration. It counts where none of these is for the same name. A refused call
     /// changes nothing.
     pub fn push_row(&mut self, row: RenameRow) -> Result<(), AllocError>
@@ -148,6 +183,23 @@ impl Config {
         ensures err { OnErr result (self.new ≡ self.old) }
     {
         self.aliases.push(alloc, name, ty)
+    }
+
+    /// Reads the text as a type, and puts an alias for it behind those of the configuration where its name is new, and tells
+    /// whether it is. A text that is no type, or nests deeper than 64 levels, is refused with the kind `BadRow`. A name that
+    /// the configuration has, or a refused call, changes nothing. How deep the aliases stand in each other is not judged.
+    pub fn add_alias(&mut self, alloc: Global, name: &str, of: &str) -> Result<bool, DeriveError>
+        ensures ok { IfOk result (λ added. (t : Written) × IsTypeText of.now t
+            × (self.new ≡ cond added
+            (with_aliases self.old (record { name = name.now; of = t } ∷ [])) self.old)) }
+        ensures new { IfOk result (λ added. IsTrue added
+            ↔ (place_in name.now (alias_names self.old.aliases) ≡ None)) }
+        ensures refused { Refuses result
+            (λ e. (IsBadRow e × ((t : Written) → ¬ IsTypeText of.now t))) }
+        ensures err { OnErr result (self.new ≡ self.old) }
+    {
+        let ty = type_in(alloc, of)?;
+        Ok(self.push_alias(alloc, name, ty)?)
     }
 
     /// Whether more than 32 aliases stand in each other.

@@ -10,10 +10,12 @@ mod law;
 mod members;
 mod names;
 mod part;
+mod range;
 mod renames;
 mod targets;
 mod value;
 
+pub use aliases::name_places;
 pub use collect::SchemaCollect;
 pub use config::{Config, bad_config};
 pub use law::{
@@ -22,3 +24,4 @@ pub use law::{
 };
 pub use names::last_names;
 pub use part::{ConfigPart, faulty_part, part_help};
+pub use range::OutOfRange;

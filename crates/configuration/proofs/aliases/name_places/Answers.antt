@@ -7,7 +7,7 @@ use Rattle.std.proofs.lemmas.List.{take_more, length-take-le}
 use Rattle.std.proofs.lemmas.Map.Text.{btree_map_updates_text}
 use Rattle.texts.specs.Names.{place_in}
 use Rattle.texts.proofs.Laws.{places_more, places_stay, ok_before}
-use Rattle.configuration.proofs.aliases.places_of.Goals as goal
+use Rattle.configuration.proofs.aliases.name_places.Goals as goal
 
 pub loop-at-preserved-in-Some : goal.loop-at-preserved-in-Some
 loop-at-preserved-in-Some c =
