@@ -2,13 +2,14 @@
 #![tactic(auto)]
 
 use anyhow::bail;
-use gathering::{Selection, selected};
+use configuration::Config;
 use prepare::{FileItem, file_parts};
 use rows::given::text_of;
 use rows::{Row, refusal_text, run};
+use selecting::{Selection, select};
 use serde_json::Value;
 use std::alloc::{AllocError, Global};
-use texts::List;
+use texts::{List, Text};
 
 /// The JSON list of the texts of those that are selected.
 fn texts_of(alloc: Global, items: &[FileItem], serde: bool) -> Result<String, AllocError> {
@@ -17,9 +18,13 @@ fn texts_of(alloc: Global, items: &[FileItem], serde: bool) -> Result<String, Al
         only: List::new(alloc),
         exclude: List::new(alloc),
         skip_refused: false,
+        own: 1,
     };
+    let names = [Text::new(alloc, "a.rs")?];
+    let mut config = Config::new(alloc);
+    let selected = select(alloc, &selection, &names, items, &[], &mut config)?;
     let mut texts = Vec::new(alloc);
-    for item in selected(alloc, items, &selection, &[])?.as_slice() {
+    for item in selected.items.as_slice() {
         texts.push(Value::String(String::from_str(alloc, item.text.as_str())?))?;
     }
     Value::Array(texts).to_string(alloc)

@@ -3,8 +3,9 @@
 use anyhow::bail;
 use configuration::Config;
 use file_derivation::{Outcome, derive_files};
-use gathering::{Selection, Source};
+use gathering::Source;
 use rows::given::text_of;
+use selecting::Selection;
 use serde_json::Value;
 use std::alloc::Global;
 use texts::List;
@@ -20,6 +21,7 @@ pub(crate) fn document(alloc: Global, given: &Value) -> anyhow::Result<String> {
         only: List::new(alloc),
         exclude: List::new(alloc),
         skip_refused: false,
+        own: 1,
     };
     match derive_files(alloc, &[source], &selection, Config::new(alloc))? {
         Outcome::Derived(derived, _) => {

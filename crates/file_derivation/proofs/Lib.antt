@@ -1,4 +1,3 @@
-pub mod Aliased
 pub mod Hundred
 pub mod Judging
 pub mod Out

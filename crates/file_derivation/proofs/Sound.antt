@@ -22,12 +22,16 @@ use Rattle.shapes.specs.Declarations.{DeclarationOf}
 use Rattle.compose.specs.Bounds.{AreBounded, BoundedAreNotRefused}
 use Rattle.compose.specs.Faults.{AreClear, AreRefused}
 use Rattle.telling.specs.declared.told.Told.{Told}
+use Rattle.prepare.specs.declared.file_items.FileAlias.{FileAlias}
 use Rattle.prepare.specs.declared.file_items.FileItem.{FileItem}
-use Rattle.gathering.specs.Files.{FileOf, AreGathered, most_bytes}
+use Rattle.gathering.specs.Files.{FileOf, AreGathered, HaveAliases, most_bytes}
 use Rattle.gathering.specs.Reading.{IsReadAs, told_of, AreRead, nothing_read, is_read, is_refused}
-use Rattle.gathering.specs.Laws.{GatheredAsOne, ReadAsOne}
-use Rattle.gathering.specs.Selected.{AreThose, no_others, one_holds, one_fails, AreSelected, unknown_in}
-use Rattle.gathering.specs.declared.selection.Selection.{Selection}
+use Rattle.gathering.specs.Laws.{GatheredAsOne, AliasedAsOne, ReadAsOne}
+use Rattle.selecting.specs.Clashes.{clash_lines}
+use Rattle.selecting.specs.Laws.{SelectedAsOne, AddedAsOne}
+use Rattle.selecting.specs.Standing.{unknown_only, unknown_exclude}
+use Rattle.selecting.specs.Types.{Adds}
+use Rattle.selecting.specs.declared.selection.Selection.{Selection}
 use Rattle.file_derivation.specs.Faults.{AreFaults}
 use Rattle.file_derivation.specs.Faults as faults
 use Rattle.file_derivation.specs.Helps.{Origin, origin_of}
@@ -39,7 +43,7 @@ use Rattle.file_derivation.specs.declared.judged.Verdict.TheVariants.{Fault, Sou
 use Rattle.file_derivation.proofs.Judging.{names_behind}
 use Rattle.serde_names.specs.Asked.{asked_of}
 use Rattle.renaming.specs.Rows.{AreRowsOf}
-use Rattle.file_derivation.specs.Outcomes.{names_of, AreDeclaredIn, aliases_of, Selects, AreTold, of_files, of_only, of_exclude, of_length, of_items, of_declarations, of_bounds, AreLeft, all_are, some_are, bytes_of, AreSound, SoundAreNotTold}
+use Rattle.file_derivation.specs.Outcomes.{names_of, Selects, RefusesSelected, of_depth, of_length, of_items, of_clashes, of_declarations, of_bounds, AreTold, of_files, of_only, of_exclude, of_selected, AreLeft, all_are, some_are, AreSound, SoundAreNotTold}
 
 -- ---- names
 
@@ -110,15 +114,6 @@ module _ (decide : RepeatOrNot) (c : Configuration) (ds : List DeclaredItem) (cl
   not_refused law bounded e (inl (inr faulty)) = clear.faultless e faulty.1
   not_refused law bounded e (inr beyond) = law c (declared_idents ds) beyond.1.0 e (bounded beyond.1.0 beyond.1.1) beyond.1.2
 
--- ---- what is selected is one thing
-
-same_those : {A : Type 0} {Holds : A → Type 0} {xs ys zs : List A} → AreThose Holds xs ys → AreThose Holds xs zs → ys ≡ zs
-same_those no_others no_others = refl
-same_those (one_holds {x = x} h more) (one_holds g rest) = ap (λ v. x ∷ v) (same_those more rest)
-same_those (one_holds h more) (one_fails g rest) = absurd (g h)
-same_those (one_fails h more) (one_holds g rest) = absurd (h g)
-same_those (one_fails h more) (one_fails g rest) = same_those more rest
-
 -- ---- nothing is left out
 
 no_one_out : {items : List FileItem} {name : List ℕ} → IsLeftOut items [] name → ⊥
@@ -149,59 +144,75 @@ sound_texts law (is_refused r more) e (one_text j is rest) = cc
 
 -- ---- all stages
 
-module _ (law : BoundedAreNotRefused) (decide : RepeatOrNot) (gathered : GatheredAsOne) (read : ReadAsOne) (s : Selection) (c : Configuration) (files : List FileOf) (h : AreSound s c files) where
-  same_all : {all : List FileItem} {faults : List Told} → AreGathered 0 files all faults → (h.all ≡ all) × (faults ≡ [])
-  same_all {all = all} {faults = faults} g = gathered 0 files h.all all faults h.declared g
-
-  same_chosen : {all chosen : List FileItem} {faults : List Told} → AreGathered 0 files all faults → Selects s c all chosen → h.chosen ≡ chosen
-  same_chosen {chosen = chosen} g selects = same_those h.selects.1 (subst (λ v. AreSelected s (aliases_of c) v chosen) (sym (same_all g).0) selects.1)
-
+module _ (law : BoundedAreNotRefused) (decide : RepeatOrNot) (gathered : GatheredAsOne) (aliased : AliasedAsOne) (read : ReadAsOne) (selected : SelectedAsOne) (added : AddedAsOne) (s : Selection) (c : Configuration) (files : List FileOf) (h : AreSound s c files) where
   read_as_one : {chosen from : List FileItem} {ds : List DeclaredItem} {faults : List Told} → h.chosen ≡ chosen → AreRead (names_of files) chosen from ds faults → (h.declarations ≡ ds) × (faults ≡ [])
   read_as_one {from = from} {ds = ds} {faults = faults} same r =
       let all = read (names_of files) h.chosen h.from from h.declarations ds faults h.read (subst (λ v. AreRead (names_of files) v from ds faults) (sym same) r) in
       (all.1, all.2)
 
-  same_read : {all chosen from : List FileItem} {ds : List DeclaredItem} {faults : List Told} → AreDeclaredIn files all → Selects s c all chosen → AreRead (names_of files) chosen from ds faults → (h.declarations ≡ ds) × (faults ≡ [])
-  same_read g selects r = read_as_one (same_chosen g selects) r
-
   -- what is read so is clear, and refused for no bound
-  none_refused : {ds : List DeclaredItem} {rows : List RenameRow} → h.declarations ≡ ds → AreRowsOf (asked_of h.declarations) rows → (e : DeriveError) → AreRefused (with_rows c rows) ds e → ⊥
+  none_refused : {ds : List DeclaredItem} {rows : List RenameRow} → h.declarations ≡ ds → AreRowsOf (asked_of h.declarations) rows → (e : DeriveError) → AreRefused (with_rows h.with_them rows) ds e → ⊥
   none_refused {rows = rows} same rows_are e refused =
-      not_refused decide (with_rows c rows) h.declarations (h.clear rows rows_are) law (h.bounded rows rows_are) e (subst (λ v. AreRefused (with_rows c rows) v e) (sym same) refused)
+      not_refused decide (with_rows h.with_them rows) h.declarations (h.clear rows rows_are) law (h.bounded rows rows_are) e (subst (λ v. AreRefused (with_rows h.with_them rows) v e) (sym same) refused)
 
   -- by rounds nothing is left out
-  same_last : {items last : List FileItem} {told : List Told} (rows : List RenameRow) → h.chosen ≡ items → AreRowsOf (asked_of h.declarations) rows → LeavesFaults s (with_rows c rows) (names_of files) items told last → h.chosen ≡ last
+  same_last : {items last : List FileItem} {told : List Told} (rows : List RenameRow) → h.chosen ≡ items → AreRowsOf (asked_of h.declarations) rows → LeavesFaults s (with_rows h.with_them rows) (names_of files) items told last → h.chosen ≡ last
   same_last rows same rows_are (nothing_more judged none) = same
   same_last rows same rows_are (one_round {judged = judged} all some round more) =
       let one : h.declarations ≡ all.declarations = (read_as_one same all.read).0 in
-      let verdicts = subst (λ v. AreVerdicts (with_rows c rows) v (origin_of (names_of files) s all.from) (length v) judged) (sym one) all.verdicts in
-      absurd (some (no_verdicts decide (with_rows c rows) h.declarations (h.clear rows rows_are) verdicts))
+      let verdicts = subst (λ v. AreVerdicts (with_rows h.with_them rows) v (origin_of (names_of files) s all.from) (length v) judged) (sym one) all.verdicts in
+      absurd (some (no_verdicts decide (with_rows h.with_them rows) h.declarations (h.clear rows rows_are) verdicts))
 
-  left_refused : {chosen from : List FileItem} {ds : List DeclaredItem} {rows : List RenameRow} {told : List Told} → h.chosen ≡ chosen → AreLeft s c (names_of files) chosen told from ds rows → (e : DeriveError) → AreRefused (with_rows c rows) ds e → ⊥
-  left_refused {rows = rows} same (all_are whole r) e refused =
-      let one = (read_as_one same r.read).0 in
-      none_refused one (subst (λ v. AreRowsOf (asked_of v) rows) (sym one) r.rows_are) e refused
-  left_refused {chosen = chosen} {rows = rows} same (some_are {readable = readable} skip few (judged, texts, round) first rows_are faulty last) e refused =
-      let own = subst (λ v. AreRead (names_of files) v h.from h.declarations []) same h.read in
-      let kept : h.chosen ≡ readable = same ∙ sym (round_keeps round (sound_texts read own refl texts)) in
+  -- what is left is all that is declared
+  same_left : {from : List FileItem} {ds : List DeclaredItem} {rows : List RenameRow} {told : List Told} → AreLeft s h.with_them (names_of files) h.chosen told from ds rows → (h.declarations ≡ ds) × AreRowsOf (asked_of h.declarations) rows
+  same_left {rows = rows} (all_are whole r) = let one = (read_as_one refl r.read).0 in (one, subst (λ v. AreRowsOf (asked_of v) rows) (sym one) r.rows_are)
+  same_left {rows = rows} (some_are skip few (judged, texts, round) first rows_are faulty last) =
+      let kept = sym (round_keeps round (sound_texts read h.read refl texts)) in
       let one = (read_as_one kept first).0 in
       let all_rows = subst (λ v. AreRowsOf (asked_of v) rows) (sym one) rows_are in
-      none_refused (read_as_one (same_last rows kept all_rows faulty) last).0 all_rows e refused
+      ((read_as_one (same_last rows kept all_rows faulty) last).0, all_rows)
+
+  none_selected : (told : List Told) → RefusesSelected s h.with_them (names_of files) h.chosen h.needed told → ⊥
+  none_selected told (of_depth deep) = h.shallow deep
+  none_selected told (of_length long) = let short = h.few in absurd (omega arith)
+  none_selected told (of_items whole few r some) = some (read_as_one refl r).1
+  none_selected told (of_clashes left some) = some (subst (λ v. clash_lines (names_of files) v h.needed ≡ []) (same_left left).0 h.distinct)
+  none_selected told (of_declarations {from = from} {ds = ds} {rows = rows} whole r faults some) =
+      let same : h.declarations ≡ ds = (read_as_one refl r.read).0 in
+      let rows_are = subst (λ v. AreRowsOf (asked_of v) rows) (sym same) r.rows_are in
+      some (no_faults decide (with_rows h.with_them rows) h.declarations (h.clear rows rows_are) (subst (λ v. AreFaults (with_rows h.with_them rows) v (origin_of (names_of files) s from) (length v) told) (sym same) faults))
+  none_selected told (of_bounds {d = d} left faults refused) = let all = same_left left in none_refused all.0 all.1 (Refused d) refused
+
+  same_all : {items : List FileItem} {faults : List Told} → AreGathered 0 files items faults → (h.items ≡ items) × (faults ≡ [])
+  same_all {items = items} {faults = faults} g = gathered 0 files h.items items faults h.declared.0 g
+
+  same_aliases : {aliases : List FileAlias} → HaveAliases 0 files aliases → h.aliases ≡ aliases
+  same_aliases {aliases = aliases} have = aliased 0 files h.items h.aliases aliases h.declared.0 h.declared.1 have
+
+  -- what is selected is one thing
+  same_selection : {chosen : List FileItem} {needed : List FileAlias} {with_them : Configuration} → Selects s c (names_of files) h.items chosen h.aliases needed with_them
+      → (h.chosen ≡ chosen) × (h.needed ≡ needed) × (h.with_them ≡ with_them)
+  same_selection {chosen = chosen} {needed = needed} {with_them = with_them} other =
+      let one = selected s c (names_of files) h.items h.chosen chosen h.aliases h.needed needed h.selects.selected other.selected in
+      (one.0, one.1, added c h.with_them with_them h.needed h.selects.adds (subst (λ v. Adds c v with_them) (sym one.1) other.adds))
+
+  none_of : {items chosen : List FileItem} {aliases needed : List FileAlias} {with_them : Configuration} (told : List Told) → h.items ≡ items → h.aliases ≡ aliases → Selects s c (names_of files) items chosen aliases needed with_them
+      → RefusesSelected s with_them (names_of files) chosen needed told → ⊥
+  none_of {items = items} {chosen = chosen} {aliases = aliases} {needed = needed} {with_them = with_them} told all beside selects refused =
+      let mine = subst (λ v. Selects s c (names_of files) v chosen h.aliases needed with_them) (sym all) (subst (λ v. Selects s c (names_of files) items chosen v needed with_them) (sym beside) selects) in
+      let one = same_selection mine in
+      none_selected told
+      (subst (λ v. RefusesSelected s v (names_of files) h.chosen h.needed told) (sym one.2)
+      (subst (λ v. RefusesSelected s with_them (names_of files) v h.needed told) (sym one.0)
+      (subst (λ v. RefusesSelected s with_them (names_of files) chosen v told) (sym one.1) refused)))
 
   not_told : (told : List Told) → AreTold s c files told → ⊥
   not_told told (of_files whole g some) = some (same_all g).1
-  not_told told (of_only {name = name} taken found) = absurd (none-some name (sym h.selects.0.0 ∙ subst (λ v. unknown_in v s.only ≡ Some name) (sym (same_all taken.0).0) found))
-  not_told told (of_exclude {name = name} taken known found) = absurd (none-some name (sym h.selects.0.1 ∙ subst (λ v. unknown_in v s.exclude ≡ Some name) (sym (same_all taken.0).0) found))
-  not_told told (of_length taken selects long) =
-      let short = h.few in
-      let longer : most_bytes < bytes_of h.chosen = subst (λ v. most_bytes < bytes_of v) (sym (same_chosen taken.0 selects)) long in
-      absurd (omega arith)
-  not_told told (of_items whole g selects few r some) = some (same_read g selects r).1
-  not_told told (of_declarations {from = from} {ds = ds} {rows = rows} whole g selects r faults some) =
-      let same : h.declarations ≡ ds = (same_read g selects r.read).0 in
-      let rows_are = subst (λ v. AreRowsOf (asked_of v) rows) (sym same) r.rows_are in
-      some (no_faults decide (with_rows c rows) h.declarations (h.clear rows rows_are) (subst (λ v. AreFaults (with_rows c rows) v (origin_of (names_of files) s from) (length v) told) (sym same) faults))
-  not_told told (of_bounds {d = d} taken selects left faults refused) = left_refused (same_chosen taken.0 selects) left (Refused d) refused
+  not_told told (of_only {name = name} taken found) = absurd (none-some name (sym h.selects.known.0 ∙ subst (λ v. unknown_only v s.only ≡ Some name) (sym (same_all taken.0).0) found))
+  not_told told (of_exclude {items = items} {text = text} taken known found) =
+      let all = subst (λ v. unknown_exclude (names_of files) items v s.exclude ≡ Some text) (sym (same_aliases taken.1)) found in
+      absurd (none-some text (sym h.selects.known.1 ∙ subst (λ v. unknown_exclude (names_of files) v h.aliases s.exclude ≡ Some text) (sym (same_all taken.0).0) all))
+  not_told told (of_selected taken selects refused) = none_of told (same_all taken.0).0 (same_aliases taken.1) selects refused
 
-pub sound : BoundedAreNotRefused → RepeatOrNot → GatheredAsOne → ReadAsOne → SoundAreNotTold
-sound law decide gathered read s c files told h is = not_told law decide gathered read s c files h told is
+pub sound : BoundedAreNotRefused → RepeatOrNot → GatheredAsOne → AliasedAsOne → ReadAsOne → SelectedAsOne → AddedAsOne → SoundAreNotTold
+sound law decide gathered aliased read selected added s c files told h is = not_told law decide gathered aliased read selected added s c files h told is

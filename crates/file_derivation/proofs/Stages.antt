@@ -1,17 +1,19 @@
 -- Stages of a derivation of files.
-use Rattle.std.proofs.Common.{◌≡◌, ◌∙◌, ◌⊎◌, ◌↔◌, ◌≢◌, inl, inr, refl, sym, subst, arith, ℕ, List, [], length, replicate, Bool, true, false, IsTrue, length-append}
+use Rattle.std.proofs.Common.{◌≡◌, ◌∙◌, ◌⊎◌, ◌↔◌, ◌≢◌, inl, inr, refl, sym, subst, arith, ℕ, List, [], length, replicate, Bool, true, false, IsTrue, Some, Result, Ok, Err, IfOk, IfErr, length-append}
 use Rattle.std.proofs.lemmas.List.{length-replicate}
 use Rattle.diag.specs.declared.diagnostics.DiangosticsInner.{DiangosticsInner}
 use Rattle.diag.specs.declared.error.DeriveError.{DeriveError}
 use Rattle.diag.specs.declared.error.DeriveError.TheVariants.{Refused, Memory}
 use Rattle.configuration.specs.Configuration.{Configuration}
 use Rattle.syntax.specs.Items.{DeclaredItem}
+use Rattle.prepare.specs.declared.file_items.FileAlias.{FileAlias}
 use Rattle.prepare.specs.declared.file_items.FileItem.{FileItem}
+use Rattle.selecting.specs.Standing.{unknown_exclude}
 use Rattle.telling.specs.declared.told.Told.{Told}
 use Rattle.gathering.specs.Files.{FileOf}
 use Rattle.gathering.specs.Reading.{AreRead, nothing_read, is_read, is_refused}
-use Rattle.gathering.specs.declared.selection.Selection.{Selection}
-use Rattle.file_derivation.specs.Outcomes.{AreDerivedFrom, AreTold, IsOutcome, IfDerived, IfRefused, IsDerivation, IfToldIs}
+use Rattle.selecting.specs.declared.selection.Selection.{Selection}
+use Rattle.file_derivation.specs.Outcomes.{names_of, AreTaken, AreNotKnown, AreDerivedFrom, AreTold, of_only, of_exclude, IsOutcome, IfDerived, IfRefused, IsDerivation, IfToldIs}
 use Rattle.file_derivation.specs.declared.derive.Outcome.{Outcome}
 use Rattle.file_derivation.specs.declared.derive.Outcome.TheVariants as outcomes
 use Rattle.file_derivation.specs.declared.derive.Refusal.{Refusal}
@@ -27,6 +29,20 @@ refused_so P e d own is same (inr cause) = subst (λ v. P (Refused v)) (sym same
 pub told_if : {P Q : List Told → Type 0} (r : Refusal) → ((told : List Told) → P told → Q told) → IfToldIs P r → IfToldIs Q r
 told_if refusals.Memory h is = tt
 told_if (refusals.Told told) h is = h told is
+
+pub if_ok : {A E : Type 0} {P Q : A → Type 0} (r : Result A E) → ((x : A) → P x → Q x) → IfOk r P → IfOk r Q
+if_ok (Ok x) h is = h x is
+if_ok (Err e) h is = tt
+
+pub if_err : {A : Type 0} {P Q : List Told → Type 0} (r : Result A Refusal) → ((told : List Told) → P told → Q told) → IfErr r (IfToldIs P) → IfErr r (IfToldIs Q)
+if_err (Ok x) h is = tt
+if_err (Err e) h is = told_if e h is
+
+pub not_known : {s : Selection} {c : Configuration} {files : List FileOf} {names : List (List ℕ)} {items : List FileItem} {aliases : List FileAlias} {faults told : List Told} → names ≡ names_of files → AreTaken s files items aliases faults
+    → AreNotKnown s names items aliases told → AreTold s c files told
+not_known {s = s} {c = c} {files = files} same taken (inl (name, found, is)) = subst (AreTold s c files) (sym is) (of_only taken found)
+not_known {s = s} {c = c} {files = files} {items = items} {aliases = aliases} same taken (inr (text, known, found, is)) =
+    subst (AreTold s c files) (sym is) (of_exclude taken known (subst (λ v. unknown_exclude v items aliases s.exclude ≡ Some text) same found))
 
 pub read_for : {names others : List (List ℕ)} {items chosen from : List FileItem} {ds : List DeclaredItem} {faults told : List Told} → names ≡ others → items ≡ chosen → faults ≡ told → AreRead names items from ds faults → AreRead others chosen from ds told
 read_for {names = names} {others = others} {items = items} {chosen = chosen} {from = from} {ds = ds} {faults = faults} {told = told} e f g are =

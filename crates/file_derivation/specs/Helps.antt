@@ -14,7 +14,7 @@ use Rattle.telling.specs.declared.told.Told.{Told}
 use Rattle.prepare.specs.declared.file_items.FileItem.{FileItem}
 use Rattle.gathering.specs.Reading.{file_name, told_of}
 use Rattle.gathering.specs.Telling.{unknown_type}
-use Rattle.gathering.specs.declared.selection.Selection.{Selection}
+use Rattle.selecting.specs.declared.selection.Selection.{Selection}
 use Rattle.file_derivation.specs.declared.helps.Around.{Around}
 
 -- what declarations are read from: the names of the files, the names that are excluded, and the items
@@ -30,7 +30,7 @@ origin_of names s from = record { names = names; excluded = s.exclude; from = fr
 -- the declaration that is read from the item has its name first
 abbrev pub first_help : Origin → Option DeclaredItem → Option FileItem → Option (List ℕ)
 first_help o (Some d) (Some i) =
-    Some (codes "the first stands at " ++ (place_in (file_name o.names i.file) i.place i.text d.ident.span.start ++ codes "; leave one out"))
+    Some (codes "the first stands at " ++ (place_in (file_name o.names i.file) i.place i.text d.ident.span.start ++ codes "; leave one out by --exclude PATH:LINE"))
 first_help o _ _ = None
 
 -- of a declaration that is not the first of its name

@@ -5,10 +5,8 @@ use Rattle.diag.specs.declared.error.DeriveError.TheVariants.{Refused}
 use Rattle.diag.specs.declared.rename_row.RenameRow.{RenameRow}
 use Rattle.schema_core.specs.Document.{Entry, document_by}
 use Rattle.schema_core.specs.declared.alternatives.Alternatives.{Alternatives}
-use Rattle.configuration.specs.Aliases.{last_names}
+use Rattle.configuration.specs.Aliases.{AreDeep}
 use Rattle.configuration.specs.Configuration.{Configuration, with_rows}
-use Rattle.configuration.specs.Configuration as configured
-use Rattle.reaching.specs.declared.node.Node.{Node}
 use Rattle.syntax.specs.Items.{DeclaredItem}
 use Rattle.closing.specs.Described.{Describes}
 use Rattle.compose.specs.Bounds.{AreBounded, collects_all}
@@ -19,12 +17,16 @@ use Rattle.serde_names.specs.Asked.{asked_of}
 use Rattle.renaming.specs.Rows.{AreRowsOf}
 use Rattle.telling.specs.declared.told.Told.{Told}
 use Rattle.prepare.specs.declared.file_items.FileItem.{FileItem}
-use Rattle.gathering.specs.Files.{FileOf, AreGathered, HaveImpls, most_bytes}
+use Rattle.gathering.specs.Files.{FileOf, AreGathered, HaveAliases, HaveImpls, most_bytes}
+use Rattle.prepare.specs.declared.file_items.FileAlias.{FileAlias}
 use Rattle.prepare.specs.declared.file_items.FileImpl.{FileImpl}
 use Rattle.gathering.specs.Reading.{AreRead}
-use Rattle.gathering.specs.Selected.{AreSelected, unknown_in}
 use Rattle.gathering.specs.Telling.{told_plainly, told_unplaced}
-use Rattle.gathering.specs.declared.selection.Selection.{Selection}
+use Rattle.selecting.specs.Clashes.{clash_lines, told_deep}
+use Rattle.selecting.specs.Selected.{AreKnown, AreSelected}
+use Rattle.selecting.specs.Standing.{unknown_only, unknown_exclude}
+use Rattle.selecting.specs.Types.{Adds}
+use Rattle.selecting.specs.declared.selection.Selection.{Selection}
 use Rattle.file_derivation.specs.Faults.{AreFaults}
 use Rattle.file_derivation.specs.Helps.{origin_of}
 use Rattle.file_derivation.specs.LeftOut.{told_of_file}
@@ -40,28 +42,20 @@ names_of files = map (λ f. f.name) files
 
 -- ---- stages, each of which stands on the one before
 
--- each file has its declarations, and these are all
-abbrev pub AreDeclaredIn : List FileOf → List FileItem → Type 0
-AreDeclaredIn files all = AreGathered 0 files all []
+-- each file has its declarations, and these are all, with all aliases
+abbrev pub AreDeclaredIn : List FileOf → List FileItem → List FileAlias → Type 0
+AreDeclaredIn files items aliases = AreGathered 0 files items [] × HaveAliases 0 files aliases
 
--- these are all declarations of the files, and this is told of those that have none; without skip_refused each has its own
-abbrev pub AreTaken : Selection → List FileOf → (all : List FileItem) → (faults : List Told) → Type 0
-AreTaken s files all faults = AreGathered 0 files all faults × (s.skip_refused ≡ false → faults ≡ [])
+-- these are all declarations and aliases of the files, and this is told of those that have none; without skip_refused each has its own
+abbrev pub AreTaken : Selection → List FileOf → (items : List FileItem) → (aliases : List FileAlias) → (faults : List Told) → Type 0
+AreTaken s files items aliases faults = AreGathered 0 files items faults × HaveAliases 0 files aliases × (s.skip_refused ≡ false → faults ≡ [])
 
--- each name of the selection is that of a declaration
-abbrev pub AreKnown : Selection → List FileItem → Type 0
-AreKnown s all = (unknown_in all s.only ≡ None) × (unknown_in all s.exclude ≡ None)
-
--- an alias names what stands last in the paths of its type, and is not first
-abbrev pub alias_of : configured.Alias → Node
-alias_of alias = record { name = alias.name; is_first = false; names = last_names alias.of }
-
-abbrev pub aliases_of : Configuration → List Node
-aliases_of c = map alias_of c.aliases
-
--- these are selected, by names that are known, and with the aliases
-abbrev pub Selects : Selection → Configuration → (all chosen : List FileItem) → Type 0
-Selects s c all chosen = AreKnown s all × AreSelected s (aliases_of c) all chosen
+-- By names that are known these declarations are selected of files of these names, and these aliases with them; the second
+-- configuration has them behind those of the first.
+pub record Selects (s : Selection) (c : Configuration) (names : List (List ℕ)) (items chosen : List FileItem) (aliases needed : List FileAlias) (with_them : Configuration) : Type 0 where
+  pub known : AreKnown s names items aliases
+  pub selected : AreSelected s c names items chosen aliases needed
+  pub adds : Adds c needed with_them
 
 -- how many bytes the texts of declarations have
 abbrev pub bytes_of : List FileItem → ℕ
@@ -80,60 +74,84 @@ pub data AreLeft (s : Selection) (c : Configuration) (names : List (List ℕ)) (
       → AreRead names readable first es [] → AreRowsOf (asked_of es) rows → LeavesFaults s (with_rows c rows) names readable faulty last → AreRead names last from ds []
       → AreLeft s c names chosen (unread ++ faulty) from ds rows
 
--- ---- the answers
+-- ---- what is selected
 
--- The components are those of the declarations that are selected of the files and left, each read from its own text, with the rows of names behind those of the configuration; their document, with alternatives under either keyword, describes what the declarations are resolved to, and these are the warnings, behind what is told of what is left out.
-pub record AreDerivedFrom (s : Selection) (c : Configuration) (files : List FileOf) (components : List Entry) (warnings : List Told) : Type 0 where
-  pub all : List FileItem
-  pub faults : List Told
-  pub taken : AreTaken s files all faults
-  pub chosen : List FileItem
-  pub selects : Selects s c all chosen
+-- The components are those of the declarations that are left of what is selected, each read from its own text, with the rows of names behind those of the configuration; their document, with alternatives under either keyword, describes what the declarations are resolved to, and these are the warnings, behind those in front and what is told of what is left out. No name is that of an alias and of something else.
+pub record DerivesSelected (s : Selection) (c : Configuration) (names : List (List ℕ)) (chosen : List FileItem) (needed : List FileAlias) (impls : List FileImpl) (front : List Told) (components : List Entry) (warnings : List Told) : Type 0 where
+  pub shallow : ¬ (AreDeep c.aliases)
   pub told : List Told
   pub from : List FileItem
   pub declarations : List DeclaredItem
   pub rows : List RenameRow
-  pub left : AreLeft s c (names_of files) chosen told from declarations rows
+  pub left : AreLeft s c names chosen told from declarations rows
+  pub distinct : clash_lines names declarations needed ≡ []
   pub derived : AreDerived (with_rows c rows) declarations components
   pub describes : (by : Alternatives) → Describes derived.resolved (collects_all c.collect) (document_by by components)
-  pub impls : List FileImpl
-  pub written : HaveImpls 0 files impls
-  pub warned : AreAllWarned (names_of files) declarations from impls components (map told_of_file faults ++ told) warnings
-
-abbrev pub unknown_message : List ℕ → List ℕ
-unknown_message name = codes "no declaration has the name " ++ name
+  pub warned : AreAllWarned names declarations from impls components (front ++ told) warnings
 
 abbrev pub long_message : List ℕ
 long_message = codes "the declarations are longer than 16777216 bytes"
 
--- There are no components, and this is told: of files, or else of a name by which declarations are selected, or else that these are too long, or else of those that cannot be read, or else of those at fault, or else of a bound. With skip_refused no fault of a file or a declaration is among these.
-pub data AreTold (s : Selection) (c : Configuration) (files : List FileOf) : List Told → Type 0 where
-  of_files : {all : List FileItem} {faults : List Told} → s.skip_refused ≡ false → AreGathered 0 files all faults → faults ≢ [] → AreTold s c files faults
-  of_only : {all : List FileItem} {faults : List Told} {name : List ℕ} → AreTaken s files all faults → unknown_in all s.only ≡ Some name
-      → AreTold s c files (told_plainly (codes "--only") [] (unknown_message name) ∷ [])
-  of_exclude : {all : List FileItem} {faults : List Told} {name : List ℕ} → AreTaken s files all faults → unknown_in all s.only ≡ None → unknown_in all s.exclude ≡ Some name
-      → AreTold s c files (told_plainly (codes "--exclude") [] (unknown_message name) ∷ [])
-  of_length : {all chosen : List FileItem} {faults : List Told} → AreTaken s files all faults → Selects s c all chosen → most_bytes < bytes_of chosen
-      → AreTold s c files (told_plainly [] (codes "TooLong") long_message ∷ [])
-  of_items : {all chosen from : List FileItem} {ds : List DeclaredItem} {faults : List Told} → s.skip_refused ≡ false → AreDeclaredIn files all → Selects s c all chosen → bytes_of chosen ≤ most_bytes → AreRead (names_of files) chosen from ds faults → faults ≢ []
-      → AreTold s c files faults
-  of_declarations : {all chosen from : List FileItem} {ds : List DeclaredItem} {rows : List RenameRow} {faults : List Told} → s.skip_refused ≡ false → AreDeclaredIn files all → Selects s c all chosen → AreReadWhole (names_of files) chosen from ds rows
-      → AreFaults (with_rows c rows) ds (origin_of (names_of files) s from) (length ds) faults → faults ≢ [] → AreTold s c files faults
-  of_bounds : {all chosen from : List FileItem} {ds : List DeclaredItem} {rows : List RenameRow} {faults told : List Told} {d : List DiangosticsInner} → AreTaken s files all faults → Selects s c all chosen → AreLeft s c (names_of files) chosen told from ds rows
-      → AreFaults (with_rows c rows) ds (origin_of (names_of files) s from) (length ds) [] → AreRefused (with_rows c rows) ds (Refused d) → AreTold s c files (told_unplaced [] d ∷ [])
+-- There are no components of what is selected, and this is told: that aliases stand too deep in each other, or that the declarations are too long, or of those that cannot be read, or of names that an alias and something else have, or of declarations at fault, or of a bound. With skip_refused no fault of a declaration is among these.
+pub data RefusesSelected (s : Selection) (c : Configuration) (names : List (List ℕ)) (chosen : List FileItem) (needed : List FileAlias) : List Told → Type 0 where
+  of_depth : AreDeep c.aliases → RefusesSelected s c names chosen needed (told_deep names needed ∷ [])
+  of_length : most_bytes < bytes_of chosen → RefusesSelected s c names chosen needed (told_plainly [] (codes "TooLong") long_message ∷ [])
+  of_items : {from : List FileItem} {ds : List DeclaredItem} {faults : List Told} → s.skip_refused ≡ false → bytes_of chosen ≤ most_bytes → AreRead names chosen from ds faults → faults ≢ [] → RefusesSelected s c names chosen needed faults
+  of_clashes : {from : List FileItem} {ds : List DeclaredItem} {rows : List RenameRow} {told : List Told} → AreLeft s c names chosen told from ds rows → clash_lines names ds needed ≢ [] → RefusesSelected s c names chosen needed (clash_lines names ds needed)
+  of_declarations : {from : List FileItem} {ds : List DeclaredItem} {rows : List RenameRow} {faults : List Told} → s.skip_refused ≡ false → AreReadWhole names chosen from ds rows
+      → AreFaults (with_rows c rows) ds (origin_of names s from) (length ds) faults → faults ≢ [] → RefusesSelected s c names chosen needed faults
+  of_bounds : {from : List FileItem} {ds : List DeclaredItem} {rows : List RenameRow} {told : List Told} {d : List DiangosticsInner} → AreLeft s c names chosen told from ds rows
+      → AreFaults (with_rows c rows) ds (origin_of names s from) (length ds) [] → AreRefused (with_rows c rows) ds (Refused d) → RefusesSelected s c names chosen needed (told_unplaced [] d ∷ [])
 
--- Nothing refuses the files: each has its declarations, the selection is of known names, what is selected is read, and with the rows of its names no declaration is at fault and nothing is beyond a bound.
-pub record AreSound (s : Selection) (c : Configuration) (files : List FileOf) : Type 0 where
-  pub all : List FileItem
-  pub declared : AreDeclaredIn files all
+-- ---- the answers
+
+-- The components are those of what is selected of the files, with its aliases behind those of the configuration; the warnings tell first of files that are left out.
+pub record AreDerivedFrom (s : Selection) (c : Configuration) (files : List FileOf) (components : List Entry) (warnings : List Told) : Type 0 where
+  pub items : List FileItem
+  pub aliases : List FileAlias
+  pub faults : List Told
+  pub taken : AreTaken s files items aliases faults
   pub chosen : List FileItem
-  pub selects : Selects s c all chosen
+  pub needed : List FileAlias
+  pub with_them : Configuration
+  pub selects : Selects s c (names_of files) items chosen aliases needed with_them
+  pub impls : List FileImpl
+  pub written : HaveImpls 0 files impls
+  pub derives : DerivesSelected s with_them (names_of files) chosen needed impls (map told_of_file faults) components warnings
+
+abbrev pub only_message : List ℕ → List ℕ
+only_message name = codes "no declaration has the name " ++ name
+
+abbrev pub exclude_message : List ℕ → List ℕ
+exclude_message text = codes "no declaration and no alias has the name or the line " ++ text
+
+-- There are no components, and this is told: of files, or else of a name by which declarations are selected, or else of what is selected. With skip_refused no fault of a file is among these.
+pub data AreTold (s : Selection) (c : Configuration) (files : List FileOf) : List Told → Type 0 where
+  of_files : {items : List FileItem} {faults : List Told} → s.skip_refused ≡ false → AreGathered 0 files items faults → faults ≢ [] → AreTold s c files faults
+  of_only : {items : List FileItem} {aliases : List FileAlias} {faults : List Told} {name : List ℕ} → AreTaken s files items aliases faults → unknown_only items s.only ≡ Some name
+      → AreTold s c files (told_plainly (codes "--only") [] (only_message name) ∷ [])
+  of_exclude : {items : List FileItem} {aliases : List FileAlias} {faults : List Told} {text : List ℕ} → AreTaken s files items aliases faults → unknown_only items s.only ≡ None → unknown_exclude (names_of files) items aliases s.exclude ≡ Some text
+      → AreTold s c files (told_plainly (codes "--exclude") [] (exclude_message text) ∷ [])
+  of_selected : {items chosen : List FileItem} {aliases needed : List FileAlias} {with_them : Configuration} {faults told : List Told} → AreTaken s files items aliases faults → Selects s c (names_of files) items chosen aliases needed with_them
+      → RefusesSelected s with_them (names_of files) chosen needed told → AreTold s c files told
+
+-- Nothing refuses the files: each has its declarations, the selection is of known names, what is selected is read, no name is that of an alias and of something else, and with the rows of its names no declaration is at fault and nothing is beyond a bound.
+pub record AreSound (s : Selection) (c : Configuration) (files : List FileOf) : Type 0 where
+  pub items : List FileItem
+  pub aliases : List FileAlias
+  pub declared : AreDeclaredIn files items aliases
+  pub chosen : List FileItem
+  pub needed : List FileAlias
+  pub with_them : Configuration
+  pub selects : Selects s c (names_of files) items chosen aliases needed with_them
+  pub shallow : ¬ (AreDeep with_them.aliases)
   pub few : bytes_of chosen ≤ most_bytes
   pub from : List FileItem
   pub declarations : List DeclaredItem
   pub read : AreRead (names_of files) chosen from declarations []
-  pub clear : (rows : List RenameRow) → AreRowsOf (asked_of declarations) rows → AreClear (with_rows c rows) declarations
-  pub bounded : (rows : List RenameRow) → AreRowsOf (asked_of declarations) rows → (ss : List DeclarationOf) → resolved_declarations (with_rows c rows) declarations ≡ Some ss → AreBounded (with_rows c rows) ss
+  pub distinct : clash_lines (names_of files) declarations needed ≡ []
+  pub clear : (rows : List RenameRow) → AreRowsOf (asked_of declarations) rows → AreClear (with_rows with_them rows) declarations
+  pub bounded : (rows : List RenameRow) → AreRowsOf (asked_of declarations) rows → (ss : List DeclarationOf) → resolved_declarations (with_rows with_them rows) declarations ≡ Some ss → AreBounded (with_rows with_them rows) ss
 
 -- The law: of files that are sound nothing is told.
 abbrev pub SoundAreNotTold : Type 0
@@ -150,13 +168,15 @@ abbrev pub IfToldIs : (List Told → Type 0) → Refusal → Type 0
 IfToldIs Is refusals.Memory = Unit {0}
 IfToldIs Is (refusals.Told told) = Is told
 
--- what is told of files whose declarations these are
-abbrev pub IfToldOf : Selection → Configuration → List FileItem → Refusal → Type 0
-IfToldOf s c all refusal = IfToldIs (λ told. (files : List FileOf) (faults : List Told) → AreTaken s files all faults → AreTold s c files told) refusal
+-- this is told of the first name of the selection that is not known
+abbrev pub AreNotKnown : Selection → (names : List (List ℕ)) → List FileItem → List FileAlias → List Told → Type 0
+AreNotKnown s names items aliases told =
+    ((name : List ℕ) × (unknown_only items s.only ≡ Some name) × (told ≡ told_plainly (codes "--only") [] (only_message name) ∷ []))
+    ⊎ ((text : List ℕ) × (unknown_only items s.only ≡ None) × (unknown_exclude names items aliases s.exclude ≡ Some text) × (told ≡ told_plainly (codes "--exclude") [] (exclude_message text) ∷ []))
 
 -- what is told of the declarations that these items read as: their faults, or else this refusal
-abbrev pub AreToldOf : Selection → Configuration → List (List ℕ) → List FileItem → List DiangosticsInner → List Told → Type 0
-AreToldOf s c names items d told = (from : List FileItem) (ds : List DeclaredItem) → AreRead names items from ds [] →
+abbrev pub AreFaultsOrBound : Selection → Configuration → List (List ℕ) → List FileItem → List DiangosticsInner → List Told → Type 0
+AreFaultsOrBound s c names items d told = (from : List FileItem) (ds : List DeclaredItem) → AreRead names items from ds [] →
     (AreFaults c ds (origin_of names s from) (length ds) told × (told ≢ [])) ⊎ (AreFaults c ds (origin_of names s from) (length ds) [] × (told ≡ told_unplaced [] d ∷ []))
 
 -- what holds of an outcome that is one or the other

@@ -10,7 +10,7 @@ use Rattle.texts.specs.Span.{no_span}
 use Rattle.texts.specs.declared.span.Span.{Span}
 use Rattle.prepare.specs.declared.file_items.FileItem.{FileItem}
 use Rattle.gathering.specs.Reading.{IsReadAs, IsRefusedText, told_of, AreRead}
-use Rattle.gathering.specs.declared.selection.Selection.{Selection}
+use Rattle.selecting.specs.declared.selection.Selection.{Selection}
 use Rattle.file_derivation.specs.Faults.{IsFaultAt}
 use Rattle.file_derivation.specs.Helps.{Origin, origin_of}
 use Rattle.file_derivation.specs.LeftOut.{faulty_names, IsRound}

@@ -1,7 +1,5 @@
 -- What declarations that are read of files are warned of.
 use Rattle.std.specs.Prelude.{◌≡◌, ◌<◌, ◌≤◌, ℕ, suc, List, [], ◌∷◌, ◌++◌, length, map, filter, take, slice_get, codes, is_some, Bool, true, false, Option, Some, None}
-use Rattle.std.proofs.Common.{arith}
-use Rattle.texts.specs.declared.span.Span.{Span}
 use Rattle.schema_core.specs.Document.{Entry}
 use Rattle.syntax.specs.Items.{DeclaredItem}
 use Rattle.scopes.specs.Names.{place_among}
@@ -13,7 +11,7 @@ use Rattle.prepare.specs.declared.serde_trait.SerdeTrait.TheVariants.{Serialize,
 use Rattle.warnings.specs.Rules.{WarningItem}
 use Rattle.warnings.specs.Warned.{warnings_of}
 use Rattle.gathering.specs.Reading.{file_name}
-use Rattle.gathering.specs.Telling.{told_plainly}
+use Rattle.gathering.specs.Telling.{told_plainly, whole_span}
 use Rattle.prepare.specs.declared.file_items.FileImpl.{FileImpl}
 use Rattle.file_derivation.specs.declared.warned.Warnings.{Warnings}
 
@@ -39,14 +37,6 @@ trait_name Deserialize = codes "Deserialize"
 
 abbrev pub impl_message : FileImpl → List ℕ
 impl_message x = codes "`" ++ (trait_name x.of ++ (codes "` of " ++ (x.name ++ codes " is written by hand; the schema is that of the declaration")))
-
--- a text begins before it ends
-pub from_zero : (n : ℕ) → 0 ≤ n
-from_zero n = omega arith
-
--- all of a text
-abbrev pub whole_span : List ℕ → Span
-whole_span text = record { start = 0; end = length text; ordered = from_zero (length text) }
 
 -- what is told of an impl by hand, under its head
 abbrev pub told_impl : (names : List (List ℕ)) → FileImpl → Told

@@ -10,9 +10,10 @@ ghost use Rattle.file_derivation.specs.Helps.{first_help, second_help, feature_h
 
 use derive_decl::{Feature, first_feature};
 use diag::{Diagnostics, Kind};
-use gathering::{file_name, is_in, told_by, unknown_type};
+use gathering::{file_name, told_by, unknown_type};
 use prepare::FileItem;
 use scopes::Places;
+use selecting::is_in;
 use std::alloc::{AllocError, Global};
 use syntax::Declaration;
 use telling::{Told, place_in};
@@ -44,7 +45,10 @@ fn first_text(
     let name = file_name(around.names, item.file);
     let offset = declaration.ident.span.start;
     let place = place_in(alloc, name, &item.place, item.text.as_str(), offset)?;
-    let help = format!(in alloc; "the first stands at {}; leave one out", place.as_str())?;
+    let help = format!(in alloc;
+        "the first stands at {}; leave one out by --exclude PATH:LINE",
+        place.as_str()
+    )?;
     Ok(Some(Text::from(help)))
 }
 

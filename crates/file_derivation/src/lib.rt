@@ -1,7 +1,6 @@
 //! From the files of a crate to components, or to what is told of their faults.
 #![tactic(auto)]
 
-mod aliases;
 mod derive;
 mod faults;
 mod helps;
@@ -10,6 +9,7 @@ mod law;
 mod left_out;
 mod rounds;
 mod rows;
+mod selected;
 mod warned;
 
 pub use derive::{Outcome, derive_files, derive_gathered};

@@ -16,8 +16,9 @@ ghost use Rattle.file_derivation.specs.Rounds.{CanBeRead, LeavesTexts, LeavesFau
 use crate::judged::{Judged, Verdict, judge_declarations, judge_texts};
 use crate::left_out::leave_out;
 use configuration::Config;
-use gathering::{Reading, Selection, one_reading_of_items, read_items};
+use gathering::{Reading, one_reading_of_items, read_items};
 use prepare::FileItem;
+use selecting::Selection;
 use std::alloc::{AllocError, Global};
 use telling::Told;
 use texts::{List, Text};

@@ -223,7 +223,7 @@ derived_at_end tells held had has paths files are w c gathered gathers (Ok writt
     short : (w.request.selection.skip_refused ≡ false) ⊎ ((text : List ℕ) × (had ≡ Some text) × (length text ≤ most_bytes)) → (f : FileOf) → IsFileIn files f → IsAll had f.bytes → length f.bytes ≤ most_bytes
     short (inl none) f k all =
         let derived = (derives files gathers).2 in
-        none_long 0 files derived.all (subst (AreGathered 0 files derived.all) (derived.taken.1 none) derived.taken.0) f k
+        none_long 0 files derived.items (subst (AreGathered 0 files derived.items) (derived.taken.2 none) derived.taken.0) f k
     short (inr (text, told, fits)) f k all = subst (λ v. length v ≤ most_bytes) (subst (λ o. IsAll o f.bytes) told all) fits
 derived_at_end tells held had has paths files are w c gathered gathers (Err (Done text beside)) derives ends done of = absurd ends
 derived_at_end tells held had has paths files are w c gathered gathers (Err (Refused report)) derives ends done of = cc

@@ -7,7 +7,7 @@ use Rattle.documents.specs.declared.comparing.Difference.TheVariants.{Missing as
 use Rattle.file_runs.specs.declared.request.Question.{Question}
 use Rattle.file_runs.specs.declared.request.Question.TheVariants.{Help, Version}
 use Rattle.file_runs.specs.declared.request.Valued.{Valued}
-use Rattle.file_runs.specs.declared.request.Valued.TheVariants.{Config, Only, Exclude, OpenApi, Check}
+use Rattle.file_runs.specs.declared.request.Valued.TheVariants.{Config, Only, Exclude, StandIn, OpenApi, Check}
 use Rattle.file_runs.specs.declared.request.Misuse.{Misuse}
 use Rattle.file_runs.specs.declared.request.Misuse.TheVariants.{UnknownOption, NoValue, GivenTwice, InputTwice, NoFile}
 use Rattle.file_runs.specs.declared.reports.TheConstants.{HELP, VERSION}
@@ -16,6 +16,7 @@ abbrev pub option_name : Valued → List ℕ
 option_name Config = codes "--config"
 option_name Only = codes "--only"
 option_name Exclude = codes "--exclude"
+option_name StandIn = codes "--stand-in"
 option_name OpenApi = codes "--openapi"
 option_name Check = codes "--check"
 

@@ -1,6 +1,6 @@
 -- What the words after the program's name ask for, by the conventions of Unix tools (POSIX, "Utility Syntax Guidelines"; GNU,
 -- "Program Argument Syntax Conventions"): each word is one step, and the words are taken one after the other.
-use Rattle.std.specs.Prelude.{◌≡◌, ◌≤◌, ◌⊎◌, ℕ, List, [], ◌∷◌, ◌++◌, Bool, true, false, not, cond, ◌&&◌, length, take, drop, codes, is_some, Option, Some, None, Result, Ok, Err}
+use Rattle.std.specs.Prelude.{◌≡◌, ◌≤◌, ◌⊎◌, ℕ, List, [], ◌∷◌, ◌++◌, Bool, true, false, not, cond, ◌&&◌, ◌||◌, length, take, drop, codes, is_some, Option, Some, None, Result, Ok, Err}
 use Rattle.std.specs.Option.{option_or}
 use Rattle.std.specs.Str.{bytes_eq}
 use Rattle.texts.specs.Names.{is_in}
@@ -10,7 +10,7 @@ use Rattle.file_runs.specs.declared.request.Question.TheVariants.{Help, Version}
 use Rattle.file_runs.specs.declared.request.Flag.{Flag}
 use Rattle.file_runs.specs.declared.request.Flag.TheVariants.{Serde, Strict, AnyOf, Pretty, SkipRefused}
 use Rattle.file_runs.specs.declared.request.Valued.{Valued}
-use Rattle.file_runs.specs.declared.request.Valued.TheVariants.{Config, Only, Exclude, OpenApi, Check}
+use Rattle.file_runs.specs.declared.request.Valued.TheVariants.{Config, Only, Exclude, StandIn, OpenApi, Check}
 use Rattle.file_runs.specs.declared.request.Misuse.{Misuse}
 use Rattle.file_runs.specs.declared.request.Misuse.TheVariants.{UnknownOption, NoValue, GivenTwice, InputTwice, NoFile}
 use Rattle.file_runs.specs.declared.request.Request.{Request}
@@ -34,7 +34,7 @@ abbrev pub valued_of : List ℕ → Option Valued
 valued_of word =
     cond (is (codes "--config") word) (Some Config)
     (cond (is (codes "--only") word) (Some Only)
-    (cond (is (codes "--exclude") word) (Some Exclude) (cond (is (codes "--openapi") word) (Some OpenApi) (cond (is (codes "--check") word) (Some Check) None))))
+    (cond (is (codes "--exclude") word) (Some Exclude) (cond (is (codes "--stand-in") word) (Some StandIn) (cond (is (codes "--openapi") word) (Some OpenApi) (cond (is (codes "--check") word) (Some Check) None)))))
 
 -- ---- questions, which are answered whatever else the words say
 
@@ -59,8 +59,9 @@ given_of word =
     cond (bytes_eq (take 9 word) (codes "--config=")) (Some (Config, drop 9 word))
     (cond (bytes_eq (take 7 word) (codes "--only=")) (Some (Only, drop 7 word))
     (cond (bytes_eq (take 10 word) (codes "--exclude=")) (Some (Exclude, drop 10 word))
+    (cond (bytes_eq (take 11 word) (codes "--stand-in=")) (Some (StandIn, drop 11 word))
     (cond (bytes_eq (take 10 word) (codes "--openapi=")) (Some (OpenApi, drop 10 word))
-    (cond (bytes_eq (take 8 word) (codes "--check=")) (Some (Check, drop 8 word)) None))))
+    (cond (bytes_eq (take 8 word) (codes "--check=")) (Some (Check, drop 8 word)) None)))))
 
 -- the path of the input
 abbrev pub is_input : List ℕ → Bool
@@ -75,15 +76,20 @@ abbrev pub once : Valued → Option (List ℕ) → Request → Result Request Mi
 once valued None r = Ok r
 once valued (Some before) r = Err (GivenTwice valued)
 
+-- the path is that of the input, which is named before
+abbrev pub names_input_again : List ℕ → Request → Bool
+names_input_again path r = is_input path && (is_in path r.files || is_in path r.stand_ins)
+
 abbrev pub with_value : Valued → List ℕ → Request → Result Request Misuse
 with_value Config path r = once Config r.config (record r { config = Some path })
 with_value Only name r = Ok (record r { selection = record r.selection { only = r.selection.only ++ name ∷ [] } })
 with_value Exclude name r = Ok (record r { selection = record r.selection { exclude = r.selection.exclude ++ name ∷ [] } })
+with_value StandIn path r = cond (names_input_again path r) (Err InputTwice) (Ok (record r { stand_ins = r.stand_ins ++ path ∷ [] }))
 with_value OpenApi path r = once OpenApi r.openapi (record r { openapi = Some path })
 with_value Check path r = once Check r.check (record r { check = Some path })
 
 abbrev pub with_file : List ℕ → Request → Result Request Misuse
-with_file path r = cond (is_input path && is_in path r.files) (Err InputTwice) (Ok (record r { files = r.files ++ path ∷ [] }))
+with_file path r = cond (names_input_again path r) (Err InputTwice) (Ok (record r { files = r.files ++ path ∷ [] }))
 
 -- ---- one word
 
@@ -132,7 +138,7 @@ after (word ∷ words) s = and_then (after words) (with_word s.pending word s)
 abbrev pub nothing_asked : State
 nothing_asked = record {
   request = record {
-    selection = record { serde = false; only = []; exclude = []; skip_refused = false };
+    selection = record { serde = false; only = []; exclude = []; skip_refused = false; own = 0 };
     strict = false;
     any_of = false;
     pretty = false;
@@ -140,14 +146,19 @@ nothing_asked = record {
     openapi = None;
     check = None;
     files = [];
+    stand_ins = [];
   };
   pending = None;
   ended = false;
 }
 
+-- the stand-ins are read behind the files, which are the user's own
+abbrev pub with_stand_ins : Request → Request
+with_stand_ins r = record r { selection = record r.selection { own = length r.files }; files = r.files ++ r.stand_ins; stand_ins = [] }
+
 abbrev pub with_some : List (List ℕ) → Request → Result Request Misuse
 with_some [] r = Err NoFile
-with_some (path ∷ paths) r = Ok r
+with_some (path ∷ paths) r = Ok (with_stand_ins r)
 
 abbrev pub at_end : Option Valued → Request → Result Request Misuse
 at_end (Some valued) r = Err (NoValue valued)

@@ -1,11 +1,12 @@
 //! How words are taken, one after the other.
 
-ghost use Rattle.std.specs.Prelude.{◌≡◌, ◌≢◌, None, map, option_map, string_bytes, IfOk, IfErr};
-ghost use Rattle.file_runs.specs.Words.{question_of, question_in, flag_of, valued_of, given_of, is_option, with_value, with_file, with_given, with_flag, with_option, with_word, at_end, nothing_asked, asked, Answers};
+ghost use Rattle.std.specs.Prelude.{◌≡◌, ◌≢◌, true, false, None, map, option_map, string_bytes, IfOk, IfErr};
+ghost use Rattle.file_runs.specs.Words.{question_of, question_in, flag_of, valued_of, given_of, is_option, names_input_again, with_value, with_file, with_given, with_flag, with_option, with_word, at_end, nothing_asked, asked, Answers};
 
 use crate::request::{Flag, Misuse, Question, Request, Valued};
-use gathering::{Selection, is_in};
+use selecting::{Selection, is_in};
 use std::alloc::{AllocError, Global};
+use std::mem;
 use texts::{List, Text};
 
 /// How far words are taken.
@@ -70,6 +71,7 @@ fn valued_of(word: &str) -> Option<Valued>
         "--config" => Some(Valued::Config),
         "--only" => Some(Valued::Only),
         "--exclude" => Some(Valued::Exclude),
+        "--stand-in" => Some(Valued::StandIn),
         "--openapi" => Some(Valued::OpenApi),
         "--check" => Some(Valued::Check),
         _ => None,
@@ -109,6 +111,9 @@ fn given_of(word: &str) -> Option<(Valued, &str)>
     if let Some(name) = word.strip_prefix("--exclude=") {
         return Some((Valued::Exclude, name));
     }
+    if let Some(path) = word.strip_prefix("--stand-in=") {
+        return Some((Valued::StandIn, path));
+    }
     if let Some(path) = word.strip_prefix("--openapi=") {
         return Some((Valued::OpenApi, path));
     }
@@ -136,6 +141,19 @@ fn once(valued: Valued, before: &Option<Text>) -> Result<(), Stop>
     }
 }
 
+/// Refuses the input where it is named before.
+fn input_once(request: &Request, path: &str) -> Result<(), Stop>
+    ensures once { IfOk result (λ _. names_input_again path.now request.now ≡ false) }
+    ensures twice { IfErr result (λ stop. (stop ≡ Stop.Misused Misuse.InputTwice)
+        × (names_input_again path.now request.now ≡ true)) }
+{
+    let (files, stand_ins) = (request.files.as_slice(), request.stand_ins.as_slice());
+    if path == "-" && (is_in(path, files) || is_in(path, stand_ins)) {
+        return Err(Stop::Misused(Misuse::InputTwice));
+    }
+    Ok(())
+}
+
 /// What is asked for with the value of the option, too.
 fn with_value(alloc: Global, request: Request, valued: Valued, value: &str) -> Result<Request, Stop>
     ensures { Answers (with_value valued value.now request) result }
@@ -149,6 +167,10 @@ fn with_value(alloc: Global, request: Request, valued: Valued, value: &str) -> R
         }
         Valued::Only => request.selection.only.push(value)?,
         Valued::Exclude => request.selection.exclude.push(value)?,
+        Valued::StandIn => {
+            input_once(&request, value.as_str())?;
+            request.stand_ins.push(value)?;
+        }
         Valued::OpenApi => {
             once(valued, &request.openapi)?;
             request.openapi = Some(value);
@@ -166,9 +188,7 @@ fn with_file(alloc: Global, request: Request, path: &str) -> Result<Request, Sto
     ensures { Answers (with_file path.now request) result }
 {
     let mut request = request;
-    if path == "-" && is_in(path, request.files.as_slice()) {
-        return Err(Stop::Misused(Misuse::InputTwice));
-    }
+    input_once(&request, path)?;
     request.files.push(Text::new(alloc, path)?)?;
     Ok(request)
 }
@@ -251,11 +271,11 @@ fn with_word(alloc: Global, state: State, word: &str) -> Result<State, Stop>
 }
 
 /// What is asked for where no word is left.
-fn at_end(state: State) -> Result<Request, Stop>
+fn at_end(alloc: Global, state: State) -> Result<Request, Stop>
     ensures { Answers (at_end state.pending state.request) result }
 {
     let State {
-        request,
+        mut request,
         pending,
         ..
     } = state;
@@ -265,6 +285,9 @@ fn at_end(state: State) -> Result<Request, Stop>
     if request.files.is_empty() {
         return Err(Stop::Misused(Misuse::NoFile));
     }
+    request.selection.own = request.files.len();
+    let stand_ins = mem::replace(&mut request.stand_ins, List::new(alloc));
+    request.files.append(stand_ins)?;
     Ok(request)
 }
 
@@ -279,6 +302,7 @@ fn nothing_asked(alloc: Global) -> State
                 only: List::new(alloc),
                 exclude: List::new(alloc),
                 skip_refused: false,
+                own: 0,
             },
             strict: false,
             any_of: false,
@@ -287,6 +311,7 @@ fn nothing_asked(alloc: Global) -> State
             openapi: None,
             check: None,
             files: List::new(alloc),
+            stand_ins: List::new(alloc),
         },
         pending: None,
         ended: false,
@@ -304,5 +329,5 @@ pub fn request_of(alloc: Global, words: &[String]) -> Result<Request, Stop>
         state = with_word(alloc, state, first.as_str())?;
         rest = after;
     }
-    at_end(state)
+    at_end(alloc, state)
 }

@@ -22,13 +22,13 @@ pub use arguments::{Stop, question_in, request_of};
 pub use document::Written;
 pub use ending::Ending;
 pub use files::{Cause, FileAnswer, FileBytes, Files, HonestFiles, MemoryFiles, StdFiles};
-pub use gathering::Selection;
 pub use law::sound_runs_are_not_refused;
 pub use named::NamedDocument;
 pub use program::run;
 pub use reporting::Words;
 pub use reports::{HELP, VERSION, answer_text, misuse_text};
 pub use request::{Flag, Misuse, Question, Request, Valued};
+pub use selecting::Selection;
 pub use showing::Unshown;
 pub use status::Status;
 pub use streams::{

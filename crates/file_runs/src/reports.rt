@@ -23,7 +23,12 @@ for tests alone. All files together declare what is described, and no two of the
   --serde          only declarations that derive Serialize, Deserialize or ToSchema, and those that they name
   --only NAME      only declarations of this name, and those that they name, also without --serde's traits; again for
                    one name more
-  --exclude NAME   no declaration of this name, and none for its sake; again for one name more
+  --exclude NAME   no declaration or alias of this name, and none for its sake; NAME may be PATH:LINE, the line where
+                   one has its name; again for one more
+  --stand-in PATH  the file at PATH says the JSON of another crate's types: what it declares is described where it is
+                   named, unless a FILE declares the name; again for one file more
+  --stand-ins      of the script schema_gen_file: --stand-in with files of the folder stand_ins/, of the standard library
+                   and of each crate that begins a path in a FILE
   --config PATH    by the configuration in the JSON file at PATH
   --openapi PATH   puts the components into the OpenAPI document in the JSON file at PATH, and writes all of that
   --check PATH     writes nothing, and refuses a document that is another than the one in the JSON file at PATH
@@ -51,6 +56,7 @@ fn option_name(valued: Valued) -> &'static str
         Valued::Config => "--config",
         Valued::Only => "--only",
         Valued::Exclude => "--exclude",
+        Valued::StandIn => "--stand-in",
         Valued::OpenApi => "--openapi",
         Valued::Check => "--check",
     }

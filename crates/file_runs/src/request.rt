@@ -1,6 +1,6 @@
 //! What words ask for, and why they may ask for nothing.
 
-use gathering::Selection;
+use selecting::Selection;
 use texts::{List, Text};
 
 /// What is answered without any file.
@@ -34,8 +34,10 @@ pub enum Valued {
     Config,
     /// `--only`, with the name of a declaration.
     Only,
-    /// `--exclude`, with the name of a declaration.
+    /// `--exclude`, with the name of a declaration or an alias, or the line where it stands.
     Exclude,
+    /// `--stand-in`, with the path of a file that says the JSON of another crate's types.
+    StandIn,
     /// `--openapi`, with the path of an OpenAPI document.
     OpenApi,
     /// `--check`, with the path of a document to compare with.
@@ -74,6 +76,8 @@ pub struct Request {
     pub openapi: Option<Text>,
     /// The path of the document that is compared with, where one is named; nothing is written then.
     pub check: Option<Text>,
-    /// The paths of the files, in order; `-` is the input.
+    /// The paths of the files, in order, and then those of the stand-ins; `-` is the input.
     pub files: List<Text>,
+    /// The paths of stand-ins, until all words are taken.
+    pub stand_ins: List<Text>,
 }

@@ -1,4 +1,3 @@
-mod Choosing
 mod Stopping
 mod Taking
 mod Together

@@ -3,17 +3,18 @@ use Rattle.std.proofs.Common.{◌≡◌, ◌∙◌, ◌⊎◌, refl, ap, ap₂, 
 use Rattle.std.proofs.lemmas.List.{append-nil, length-map, map_push}
 use Rattle.prepare.specs.declared.file_items.FileItem.{FileItem}
 use Rattle.telling.specs.declared.told.Told.{Told}
-use Rattle.prepare.specs.FileItems.{AreItemsOf}
+use Rattle.prepare.specs.FileItems.{AreItemsOf, AreAliasesOf}
 use Rattle.prepare.specs.FileTexts.{text_of_file}
-use Rattle.gathering.specs.Files.{FileOf, HasItems, HasImpls, IsToldOfFile, too_long, no_text, no_file, AreGathered, no_files, has_items, is_told, HaveImpls, no_impls, has_impls, none_told, Gathers}
+use Rattle.gathering.specs.Files.{FileOf, HasItems, HasImpls, HasAliases, IsToldOfFile, too_long, no_text, no_file, AreGathered, no_files, has_items, is_told, Have, have_none, has_own, none_told, HaveImpls, HaveAliases, Gathers}
 use Rattle.prepare.specs.declared.file_items.FileImpl.{FileImpl}
+use Rattle.prepare.specs.declared.file_items.FileAlias.{FileAlias}
 use Rattle.gathering.specs.declared.gathered.Gathered.{Gathered}
 use Rattle.diag.specs.declared.diagnostics.DiangosticsInner.{DiangosticsInner}
 use Rattle.diag.specs.declared.error.DeriveError.{DeriveError}
 use Rattle.diag.specs.declared.error.DeriveError.TheVariants.{Refused, Memory}
 use Rattle.lexing.specs.Cut.{IsDepthError}
 use Rattle.prepare.specs.Prepared.{IsNoFile}
-use Rattle.gathering.specs.Laws.{GatheredAsOne}
+use Rattle.gathering.specs.Laws.{GatheredAsOne, AliasedAsOne}
 
 next : (n : ℕ) (files : List FileOf) (f : FileOf) → n + length (f ∷ files) ≡ suc n + length files
 next n files f = omega arith
@@ -39,39 +40,43 @@ many names files e = ap length e ∙ length-map files (λ f. f.name) ∙ (omega 
 pub named_after : (names : List (List ℕ)) (files : List FileOf) (f : FileOf) → names ≡ map (λ f. f.name) files → names ++ f.name ∷ [] ≡ map (λ f. f.name) (files ++ f ∷ [])
 named_after names files f e = ap (λ v. v ++ f.name ∷ []) e ∙ sym (map_push (λ f. f.name) files f)
 
--- one file more, with its impls or told of
-pub impls_after : {n : ℕ} (files : List FileOf) (f : FileOf) {own impls : List FileImpl} → HaveImpls n files impls → HasImpls (n + length files) f.bytes own → HaveImpls n (files ++ f ∷ []) (impls ++ own)
-impls_after {n = n} [] f {own = own} no_impls h =
-    let first : HasImpls n f.bytes own = subst (λ m. HasImpls m f.bytes own) (omega arith) h in
-    subst (λ v. HaveImpls n (f ∷ []) v) (append-nil own) (has_impls first no_impls)
-impls_after {n = n} (g ∷ files) f {own = own} (has_impls {own = mine} {impls = rest} k more) h =
-    subst (λ v. HaveImpls n (g ∷ (files ++ f ∷ [])) v) (sym (append_assoc mine rest own)) (has_impls k (impls_after files f more (subst (λ m. HasImpls m f.bytes own) (next n files g) h)))
-impls_after {n = n} (g ∷ files) f {own = own} (none_told k more) h = none_told k (impls_after files f more (subst (λ m. HasImpls m f.bytes own) (next n files g) h))
+-- one file more, with its own or told of
+module _ {A : Type 0} (Has : ℕ → List ℕ → List A → Type 0) where
+  pub own_after : {n : ℕ} (files : List FileOf) (f : FileOf) {own others : List A} → Have Has n files others → Has (n + length files) f.bytes own → Have Has n (files ++ f ∷ []) (others ++ own)
+  own_after {n = n} [] f {own = own} have_none h =
+      let first : Has n f.bytes own = subst (λ m. Has m f.bytes own) (omega arith) h in
+      subst (λ v. Have Has n (f ∷ []) v) (append-nil own) (has_own first have_none)
+  own_after {n = n} (g ∷ files) f {own = own} (has_own {own = mine} {others = rest} k more) h =
+      subst (λ v. Have Has n (g ∷ (files ++ f ∷ [])) v) (sym (append_assoc mine rest own)) (has_own k (own_after {n = suc n} files f more (subst (λ m. Has m f.bytes own) (next n files g) h)))
+  own_after {n = n} (g ∷ files) f {own = own} (none_told k more) h = none_told k (own_after {n = suc n} files f more (subst (λ m. Has m f.bytes own) (next n files g) h))
 
-pub no_impls_after : {n : ℕ} (files : List FileOf) (f : FileOf) {told : Told} {impls : List FileImpl} → HaveImpls n files impls → IsToldOfFile f told → HaveImpls n (files ++ f ∷ []) impls
-no_impls_after [] f no_impls h = none_told h no_impls
-no_impls_after (g ∷ files) f (has_impls k more) h = has_impls k (no_impls_after files f more h)
-no_impls_after (g ∷ files) f (none_told k more) h = none_told k (no_impls_after files f more h)
+  pub none_after : {n : ℕ} (files : List FileOf) (f : FileOf) {told : Told} {others : List A} → Have Has n files others → IsToldOfFile f told → Have Has n (files ++ f ∷ []) others
+  none_after [] f have_none h = none_told h have_none
+  none_after {n = n} (g ∷ files) f (has_own k more) h = has_own k (none_after {n = suc n} files f more h)
+  none_after {n = n} (g ∷ files) f (none_told k more) h = none_told k (none_after {n = suc n} files f more h)
 
 -- a file more is gathered
-pub gathers_file : (files : List FileOf) (f : FileOf) (g after : Gathered) (n : ℕ) (own : List FileItem) (mine : List FileImpl) → n ≡ length g.names → after.names ≡ g.names ++ f.name ∷ [] → after.items ≡ g.items ++ own → after.impls ≡ g.impls ++ mine
-    → after.faults ≡ g.faults → HasItems n f.bytes own → HasImpls n f.bytes mine → Gathers files g → Gathers (files ++ f ∷ []) after
-gathers_file files f g after n own mine number names items impls faults has have gathers =
+pub gathers_file : (files : List FileOf) (f : FileOf) (g after : Gathered) (n : ℕ) (own : List FileItem) (mine : List FileImpl) (named : List FileAlias) → n ≡ length g.names → after.names ≡ g.names ++ f.name ∷ [] → after.items ≡ g.items ++ own
+    → after.impls ≡ g.impls ++ mine → after.aliases ≡ g.aliases ++ named → after.faults ≡ g.faults → HasItems n f.bytes own → HasImpls n f.bytes mine → HasAliases n f.bytes named → Gathers files g → Gathers (files ++ f ∷ []) after
+gathers_file files f g after n own mine named number names items impls aliases faults has have gives gathers =
     let at = number ∙ many g.names files gathers.named in
-    let has_own = subst (λ m. HasItems m f.bytes own) at has in
+    let has_own_items = subst (λ m. HasItems m f.bytes own) at has in
     let has_mine = subst (λ m. HasImpls m f.bytes mine) at have in
+    let has_named = subst (λ m. HasAliases m f.bytes named) at gives in
     record {
       named = names ∙ named_after g.names files f gathers.named;
-      items = subst (λ (v : List FileItem). AreGathered 0 (files ++ f ∷ []) v after.faults) (sym items) (subst (AreGathered 0 (files ++ f ∷ []) (g.items ++ own)) (sym faults) (file_after files f gathers.items has_own));
-      impls = subst (HaveImpls 0 (files ++ f ∷ [])) (sym impls) (impls_after files f gathers.impls has_mine);
+      items = subst (λ (v : List FileItem). AreGathered 0 (files ++ f ∷ []) v after.faults) (sym items) (subst (AreGathered 0 (files ++ f ∷ []) (g.items ++ own)) (sym faults) (file_after files f gathers.items has_own_items));
+      impls = subst (HaveImpls 0 (files ++ f ∷ [])) (sym impls) (own_after HasImpls files f gathers.impls has_mine);
+      aliases = subst (HaveAliases 0 (files ++ f ∷ [])) (sym aliases) (own_after HasAliases files f gathers.aliases has_named);
     }
 
-pub gathers_told : (files : List FileOf) (f : FileOf) (g after : Gathered) (told : Told) → after.names ≡ g.names ++ f.name ∷ [] → after.items ≡ g.items → after.impls ≡ g.impls → after.faults ≡ g.faults ++ told ∷ [] → IsToldOfFile f told → Gathers files g
-    → Gathers (files ++ f ∷ []) after
-gathers_told files f g after told names items impls faults is gathers = record {
+pub gathers_told : (files : List FileOf) (f : FileOf) (g after : Gathered) (told : Told) → after.names ≡ g.names ++ f.name ∷ [] → after.items ≡ g.items → after.impls ≡ g.impls → after.aliases ≡ g.aliases → after.faults ≡ g.faults ++ told ∷ []
+    → IsToldOfFile f told → Gathers files g → Gathers (files ++ f ∷ []) after
+gathers_told files f g after told names items impls aliases faults is gathers = record {
   named = names ∙ named_after g.names files f gathers.named;
   items = subst (λ (v : List FileItem). AreGathered 0 (files ++ f ∷ []) v after.faults) (sym items) (subst (AreGathered 0 (files ++ f ∷ []) g.items) (sym faults) (told_after files f gathers.items is));
-  impls = subst (HaveImpls 0 (files ++ f ∷ [])) (sym impls) (no_impls_after files f gathers.impls is);
+  impls = subst (HaveImpls 0 (files ++ f ∷ [])) (sym impls) (none_after HasImpls files f gathers.impls is);
+  aliases = subst (HaveAliases 0 (files ++ f ∷ [])) (sym aliases) (none_after HasAliases files f gathers.aliases is);
 }
 
 -- the error that a refusal is refuses the text
@@ -98,3 +103,15 @@ as_one one n (f ∷ files) items others faults (has_items {own = own} {items = r
     let all = as_one one (suc n) files rest left faults more further in
     (ap₂ (λ (a b : List FileItem). a ++ b) same all.0, all.1)
 as_one one n (f ∷ files) items others faults (has_items {own = own} h more) (is_told {told = told} k further) = absurd (not_told n f own told h k)
+
+-- ---- one list of aliases
+
+abbrev AliasesAreOne : Type 0
+AliasesAreOne = (file : ℕ) (source : List ℕ) (aliases others : List FileAlias) → AreAliasesOf file source aliases → AreAliasesOf file source others → aliases ≡ others
+
+pub aliased_as_one : AliasesAreOne → AliasedAsOne
+aliased_as_one one n [] items aliases others no_files have_none have_none = refl
+aliased_as_one one n (f ∷ files) items aliases others (has_items {items = rest} h more) (has_own {own = own} {others = behind} k later) (has_own {own = mine} {others = left} l further) =
+    ap₂ (λ (a b : List FileAlias). a ++ b) (one n (text_of_file f.bytes) own mine k l) (aliased_as_one one (suc n) files rest behind left more later further)
+aliased_as_one one n (f ∷ files) items aliases others (has_items {own = own} h more) (has_own k later) (none_told {told = told} l further) = absurd (not_told n f own told h l)
+aliased_as_one one n (f ∷ files) items aliases others (has_items {own = own} h more) (none_told {told = told} k later) r = absurd (not_told n f own told h k)

@@ -4,11 +4,12 @@ use Rattle.std.specs.Str.{IsUtf8, IsValidUpTo}
 use Rattle.diag.specs.declared.diagnostics.DiangosticsInner.{DiangosticsInner}
 use Rattle.diag.specs.declared.error.DeriveError.TheVariants.{Refused}
 use Rattle.lexing.specs.Cut.{IsDepthError, OpensTooDeep}
-use Rattle.prepare.specs.FileItems.{AreItemsOf, AreImplsOf}
+use Rattle.prepare.specs.FileItems.{AreItemsOf, AreImplsOf, AreAliasesOf}
 use Rattle.prepare.specs.FileTexts.{text_of_file}
 use Rattle.prepare.specs.Prepared.{IsNoFile}
 use Rattle.prepare.specs.declared.file_items.FileItem.{FileItem}
 use Rattle.prepare.specs.declared.file_items.FileImpl.{FileImpl}
+use Rattle.prepare.specs.declared.file_items.FileAlias.{FileAlias}
 use Rattle.telling.specs.declared.told.Told.{Told}
 use Rattle.texts.specs.declared.span.Span.{Span}
 use Rattle.gathering.specs.Stops.{IsHelpOfStop}
@@ -41,6 +42,10 @@ pub record HasItems (file : ℕ) (bytes : List ℕ) (items : List FileItem) : Ty
 abbrev pub HasImpls : ℕ → List ℕ → List FileImpl → Type 0
 HasImpls file bytes impls = AreImplsOf file (text_of_file bytes) impls
 
+-- and these its aliases
+abbrev pub HasAliases : ℕ → List ℕ → List FileAlias → Type 0
+HasAliases file bytes aliases = AreAliasesOf file (text_of_file bytes) aliases
+
 -- the span is empty, and stands at the end of the text
 abbrev pub IsEndOf : List ℕ → Span → Type 0
 IsEndOf text span = (span.start ≡ length text) × (span.end ≡ length text)
@@ -68,14 +73,22 @@ pub data AreGathered : ℕ → List FileOf → List FileItem → List Told → T
   has_items : {n : ℕ} {f : FileOf} {files : List FileOf} {own items : List FileItem} {faults : List Told} → HasItems n f.bytes own → AreGathered (suc n) files items faults → AreGathered n (f ∷ files) (own ++ items) faults
   is_told : {n : ℕ} {f : FileOf} {files : List FileOf} {items : List FileItem} {told : Told} {faults : List Told} → IsToldOfFile f told → AreGathered (suc n) files items faults → AreGathered n (f ∷ files) items (told ∷ faults)
 
--- Of the files, of which the first has this number, each has its impls by hand, or none where it is told of, in order.
-pub data HaveImpls : ℕ → List FileOf → List FileImpl → Type 0 where
-  no_impls : {n : ℕ} → HaveImpls n [] []
-  has_impls : {n : ℕ} {f : FileOf} {files : List FileOf} {own impls : List FileImpl} → HasImpls n f.bytes own → HaveImpls (suc n) files impls → HaveImpls n (f ∷ files) (own ++ impls)
-  none_told : {n : ℕ} {f : FileOf} {files : List FileOf} {told : Told} {impls : List FileImpl} → IsToldOfFile f told → HaveImpls (suc n) files impls → HaveImpls n (f ∷ files) impls
+-- Of the files, of which the first has this number, each has its own, or none where it is told of, in order.
+pub data Have {A : Type 0} (Has : ℕ → List ℕ → List A → Type 0) : ℕ → List FileOf → List A → Type 0 where
+  have_none : {n : ℕ} → Have Has n [] []
+  has_own : {n : ℕ} {f : FileOf} {files : List FileOf} {own others : List A} → Has n f.bytes own → Have Has (suc n) files others → Have Has n (f ∷ files) (own ++ others)
+  none_told : {n : ℕ} {f : FileOf} {files : List FileOf} {told : Told} {others : List A} → IsToldOfFile f told → Have Has (suc n) files others → Have Has n (f ∷ files) others
+
+-- impls by hand, and aliases
+abbrev pub HaveImpls : ℕ → List FileOf → List FileImpl → Type 0
+HaveImpls = Have HasImpls
+
+abbrev pub HaveAliases : ℕ → List FileOf → List FileAlias → Type 0
+HaveAliases = Have HasAliases
 
 -- The files have been taken, from the first on.
 pub record Gathers (files : List FileOf) (g : Gathered) : Type 0 where
   pub named : g.names ≡ map (λ f. f.name) files
   pub items : AreGathered 0 files g.items g.faults
   pub impls : HaveImpls 0 files g.impls
+  pub aliases : HaveAliases 0 files g.aliases

@@ -1,6 +1,5 @@
 pub mod Files
 pub mod Laws
 pub mod Reading
-pub mod Selected
 pub mod Stops
 pub mod Telling

@@ -1,5 +1,6 @@
 -- What is told of a refusal.
-use Rattle.std.specs.Prelude.{ℕ, List, [], ◌∷◌, ◌++◌, take, drop, bytes_eq, cond, option_map, Option, Some, None, codes}
+use Rattle.std.specs.Prelude.{ℕ, ◌≤◌, List, [], ◌∷◌, ◌++◌, length, take, drop, bytes_eq, cond, option_map, Option, Some, None, codes}
+use Rattle.std.proofs.Common.{arith}
 use Rattle.std.specs.Option.{option_or}
 use Rattle.diag.specs.Kind.{name_of}
 use Rattle.diag.specs.declared.kind.Kind.{Kind}
@@ -17,6 +18,14 @@ use Rattle.texts.specs.declared.span.Span.{Span}
 abbrev pub whole : Place
 whole = record { line = 1; column = 1; before = []; behind = [] }
 
+-- a text begins before it ends
+pub from_zero : (n : ℕ) → 0 ≤ n
+from_zero n = omega arith
+
+-- all of a text
+abbrev pub whole_span : List ℕ → Span
+whole_span text = record { start = 0; end = length text; ordered = from_zero (length text) }
+
 -- ---- what the reader may do
 
 -- suggestions have the helps first
@@ -29,7 +38,7 @@ abbrev pub unknown_type : List ℕ → Option (List ℕ)
 unknown_type message = cond (bytes_eq (take 13 message) (codes "unknown type ")) (Some (drop 13 message)) None
 
 abbrev pub declare_help : List ℕ → List ℕ
-declare_help name = codes "add a declaration that says its JSON, as `struct " ++ (name ++ codes "(String);`, or the file that declares it")
+declare_help name = codes "add a declaration that says its JSON, as `struct " ++ (name ++ codes "(String);`, or the file that declares it; stand_ins/ has types of other crates, and no `type` with parameters is read, nor one in a block")
 
 -- about a fault of the kind, whatever is told of it
 abbrev pub plain_help : Kind → Option (List ℕ)

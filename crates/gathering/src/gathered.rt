@@ -3,13 +3,13 @@
 ghost use Rattle.std.specs.Prelude.{◌≡◌, ◌<◌, ◌≤◌, ℕ, [], ◌∷◌, ◌++◌, length, List as AnyList, IfOk, IfErr, OnOk};
 ghost use Rattle.std.specs.Str.{IsUtf8, IsValidUpTo};
 ghost use Rattle.gathering.specs.Telling.{told_longer};
-ghost use Rattle.gathering.specs.Files.{FileOf, file_of, most_bytes, HasItems, HasImpls, IsToldOfFile, IsTextOfFile, IfTold, Gathers};
+ghost use Rattle.gathering.specs.Files.{FileOf, file_of, most_bytes, HasItems, HasImpls, HasAliases, IsToldOfFile, IsTextOfFile, IfTold, Gathers};
 
 use crate::fault::{told_by, told_plainly, whole};
 use crate::source::Source;
 use crate::stop_help::stop_help;
 use diag::DeriveError;
-use prepare::{FileImpl, FileItem, FileParts, file_parts, file_text};
+use prepare::{FileAlias, FileImpl, FileItem, FileParts, file_parts, file_text};
 use std::alloc::{AllocError, Global};
 use telling::{Told, told_in};
 use texts::{List, Span, Text};
@@ -26,6 +26,8 @@ pub struct Gathered {
     pub items: List<FileItem>,
     /// Their impls of serde's traits that are written by hand, in this order too.
     pub impls: List<FileImpl>,
+    /// Their aliases, in this order too.
+    pub aliases: List<FileAlias>,
     /// What is told of the files that have none, since they are refused.
     pub faults: List<Told>,
 }
@@ -103,10 +105,11 @@ fn text_of(alloc: Global, source: &Source<'_>) -> Result<Text, Stop>
     }
 }
 
-/// The declarations of the file of this number, and its impls by hand.
+/// The declarations of the file of this number, its impls by hand and its aliases.
 fn parts_of(alloc: Global, file: usize, source: &Source<'_>) -> Result<FileParts, Stop>
     ensures items { IfOk result (λ parts. HasItems file source.now.bytes.now parts.items) }
     ensures impls { IfOk result (λ parts. HasImpls file source.now.bytes.now parts.impls) }
+    ensures aliases { IfOk result (λ parts. HasAliases file source.now.bytes.now parts.aliases) }
     ensures told { IfErr result (IfTold (IsToldOfFile (file_of source.now))) }
 {
     let text = text_of(alloc, source)?;
@@ -131,6 +134,7 @@ impl Gathered {
             names: List::new(alloc),
             items: List::new(alloc),
             impls: List::new(alloc),
+            aliases: List::new(alloc),
             faults: List::new(alloc),
         }
     }
@@ -146,9 +150,9 @@ impl Gathered {
         Ok(())
     }
 
-    /// Adds the declarations of the file and its impls by hand, or what is told of it where it is refused: of more than
-    /// 16,777,216 bytes, of bytes that are no UTF-8, or of a text that nests too deep or is no file of Rust. Of the file nothing
-    /// else is kept.
+    /// Adds the declarations of the file, its impls by hand and its aliases, or what is told of it where it is refused: of
+    /// more than 16,777,216 bytes, of bytes that are no UTF-8, or of a text that nests too deep or is no file of Rust. Of the
+    /// file nothing else is kept.
     pub fn add(&mut self, alloc: Global, source: &Source<'_>) -> Result<(), AllocError>
         ensures { OnOk result ((files : AnyList FileOf) → Gathers files self.old
             → Gathers (files ++ file_of source.now ∷ []) self.new) }
@@ -157,6 +161,7 @@ impl Gathered {
             Ok(parts) => {
                 self.items.append(parts.items)?;
                 self.impls.append(parts.impls)?;
+                self.aliases.append(parts.aliases)?;
             }
             Err(Stop::Told(told)) => self.faults.push(told)?,
             Err(Stop::Memory) => return Err(AllocError),

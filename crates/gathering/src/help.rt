@@ -33,7 +33,7 @@ fn declare_help(alloc: Global, name: &str) -> Result<Text, AllocError>
     ensures { IfOk result (λ help. help ≡ declare_help name.now) }
 {
     let help = format!(in alloc;
-        "add a declaration that says its JSON, as `struct {name}(String);`, or the file that declares it"
+        "add a declaration that says its JSON, as `struct {name}(String);`, or the file that declares it; stand_ins/ has types of other crates, and no `type` with parameters is read, nor one in a block"
     )?;
     Ok(Text::from(help))
 }

@@ -1,22 +1,27 @@
-use Rattle.std.proofs.Common.{◌≡◌, ◌∙◌, ℕ, List, Some, None, option_map, ap, sym, subst}
+use Rattle.std.proofs.Common.{◌≡◌, ◌∙◌, ℕ, List, Some, None, option_map, ap, sym, inl, inr}
 use Rattle.std.specs.Borrow.{Bor}
-use Rattle.gathering.specs.Selected.{unknown_in}
-use Rattle.file_derivation.specs.Outcomes.{AreTold, of_only, of_exclude}
+use Rattle.selecting.specs.Standing.{unknown_only, unknown_exclude}
 use Rattle.file_derivation.proofs.Stages.{told_if}
 use Rattle.file_derivation.proofs.derive.know_names.Goals as goal
 
-pub returns-in-Some-clause-told : goal.returns-in-Some-clause-told
-returns-in-Some-clause-told c = λ config.
-    let s = c.args.selection.now in
-    let all = c.args.items.now in
-    let found : unknown_in all s.only ≡ Some c.in-Some.name.now = ap (unknown_in all) (sym c.as_slice.ensures) ∙ sym c.unknown_name.ensures ∙ ap (option_map (λ (n : Bor (List ℕ)). n.now)) c.in-Some.is in
-    told_if c.in_ok-unknown.field-0 (λ told is files faults taken. subst (AreTold s config files) (sym is) (of_only taken found)) c.in_ok-unknown.ensures
+abbrev shown : Bor (List ℕ) → List ℕ
+shown n = n.now
 
-pub returns-in-Some-unknown_name-clause-told : goal.returns-in-Some-unknown_name-clause-told
-returns-in-Some-unknown_name-clause-told c = λ config.
+pub returns-in-Some-clause-told : goal.returns-in-Some-clause-told
+returns-in-Some-clause-told c =
     let s = c.args.selection.now in
-    let all = c.args.items.now in
-    let known : unknown_in all s.only ≡ None = ap (unknown_in all) (sym c.as_slice.ensures) ∙ sym c.unknown_name.ensures ∙ ap (option_map (λ (n : Bor (List ℕ)). n.now)) c.in_default.is in
-    let found : unknown_in all s.exclude ≡ Some c.in-Some-unknown_name.name.now =
-    ap (unknown_in all) (sym c.as_slice-2.ensures) ∙ sym c.unknown_name-2.ensures ∙ ap (option_map (λ (n : Bor (List ℕ)). n.now)) c.in-Some-unknown_name.is in
-    told_if c.in_ok-unknown-2.field-0 (λ told is files faults taken. subst (AreTold s config files) (sym is) (of_exclude taken known found)) c.in_ok-unknown-2.ensures
+    let items = c.args.items.now in
+    let found : unknown_only items s.only ≡ Some c.in-Some.name.now = ap (unknown_only items) (sym c.as_slice.ensures) ∙ sym c.unknown_only.ensures ∙ ap (option_map shown) c.in-Some.is in
+    told_if c.in_ok-not_selected.field-0 (λ told is. inl (c.in-Some.name.now, found, is)) c.in_ok-not_selected.ensures
+
+pub returns-in-Some-2-clause-told : goal.returns-in-Some-2-clause-told
+returns-in-Some-2-clause-told c =
+    let s = c.args.selection.now in
+    let names = c.args.names.now in
+    let items = c.args.items.now in
+    let aliases = c.args.aliases.now in
+    let text = c.in-Some-2.text.now in
+    let known : unknown_only items s.only ≡ None = ap (unknown_only items) (sym c.as_slice.ensures) ∙ sym c.unknown_only.ensures ∙ ap (option_map shown) c.in_default.is in
+    let found : unknown_exclude names items aliases s.exclude ≡ Some text =
+    ap (unknown_exclude names items aliases) (sym c.as_slice-exclude.ensures) ∙ sym c.in_ok-text.ensures ∙ ap (option_map shown) c.in-Some-2.is in
+    told_if c.in_ok-not_excluded.field-0 (λ told is. inr (text, known, found, is)) c.in_ok-not_excluded.ensures

@@ -2,7 +2,8 @@ use Rattle.std.proofs.Common.{◌≡◌, ◌∙◌, ◌<◌, List, ℕ, length, 
 use Rattle.telling.specs.Told.{told_at}
 use Rattle.texts.specs.declared.span.Span.{Span}
 use Rattle.gathering.specs.Reading.{file_name}
-use Rattle.file_derivation.specs.Warned.{told_impl, from_zero, whole_span}
+use Rattle.gathering.specs.Telling.{from_zero, whole_span}
+use Rattle.file_derivation.specs.Warned.{told_impl}
 use Rattle.file_derivation.proofs.Spanned.{span_of}
 use Rattle.file_derivation.proofs.warned.told_impl.Goals as goal
 

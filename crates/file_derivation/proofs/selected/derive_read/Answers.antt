@@ -1,0 +1,36 @@
+use Rattle.std.proofs.Common.{◌≡◌, ◌∙◌, ◌++◌, Bool, not, map, ap, sym, subst}
+use Rattle.std.specs.Borrow.{Bor}
+use Rattle.schema_core.specs.Document.{document_by}
+use Rattle.schema_core.specs.declared.alternatives.Alternatives.{Alternatives}
+use Rattle.syntax.specs.Items.{declaration_view, declarations_view}
+use Rattle.closing.specs.Described.{Describes}
+use Rattle.compose.specs.Bounds.{collects_all}
+use Rattle.compose.specs.Faults.{AreDerived}
+use Rattle.compose.specs.declared.derive.Derived.{Derived}
+use Rattle.prepare.specs.declared.file_items.FileItem.{FileItem}
+use Rattle.file_derivation.specs.Warned.{has_some, told_impls, told_nothing, AreAllWarned}
+use Rattle.file_derivation.proofs.Written.{some_where, some_mapped}
+use Rattle.file_derivation.proofs.selected.derive_read.Goals as goal
+
+pub returns-clause-derived : goal.returns-clause-derived
+returns-clause-derived c =
+    let config = c.args.config.now in
+    let ds = declarations_view c.args.declarations in
+    subst (λ (v : Derived). (made : AreDerived config ds v.components) × ((by : Alternatives) → Describes made.resolved (collects_all config.collect) (document_by by v.components))) (sym c.in_ok-with_warnings.ensures.derived) c.in_ok-derived.ensures.describes
+
+pub returns-clause-warned : goal.returns-clause-warned
+returns-clause-warned c = λ front first.
+    let names = c.args.names.now in
+    let items = c.args.declarations.items in
+    let ds = declarations_view c.args.declarations in
+    let from = map (λ (i : Bor FileItem). i.now) c.args.from.now in
+    let impls = c.args.impls.now in
+    let components = c.in_ok-derived.derived.components in
+    let mine = c.in_ok-warnings.ensures front first in
+    let before = (front ++ mine.0) ++ told_impls names ds impls in
+    let is_declared = not c.is_empty-is_declared.result in
+    let all = before ++ told_nothing is_declared (has_some components) in
+    let some : is_declared ≡ has_some ds = some_where c.is_empty-is_declared.result items c.is_empty-is_declared.ensures ∙ some_mapped declaration_view items in
+    let warned : AreAllWarned names ds from impls components front all = record { own = mine.0; warned = mine.1; whole = ap (λ (b : Bool). before ++ told_nothing b (has_some components)) some } in
+    let given = c.in_ok-with_warnings.ensures in
+    (all, subst (λ (v : Derived). AreAllWarned names ds from impls v.components front all) (sym given.derived) warned, given.warned before mine.2)

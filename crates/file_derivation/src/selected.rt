@@ -1,0 +1,281 @@
+//! From what is selected of files to components, or to what is told.
+
+ghost use Rattle.std.specs.Prelude.{◌≡◌, ◌≢◌, ◌<◌, ◌≤◌, [], ◌++◌, List as AnyList, length, map, true, false, MatchBool, IfOk, IfErr};
+ghost use Rattle.closing.specs.Described.{Describes};
+ghost use Rattle.compose.specs.Bounds.{collects_all};
+ghost use Rattle.compose.specs.Faults.{AreDerived, AreRefused};
+ghost use Rattle.configuration.specs.Aliases.{AreDeep};
+ghost use Rattle.diag.specs.Refusal.{Refuses};
+ghost use Rattle.schema_core.specs.Document.{document_by};
+ghost use Rattle.schema_core.specs.declared.alternatives.Alternatives.{Alternatives};
+ghost use Rattle.syntax.specs.Items.{declarations_view};
+ghost use Rattle.syntax.specs.Named.{AreNamed};
+ghost use Rattle.gathering.specs.Files.{most_bytes};
+ghost use Rattle.selecting.specs.Clashes.{clash_lines};
+ghost use Rattle.telling.specs.declared.told.Told.{Told as AnyTold};
+ghost use Rattle.file_derivation.specs.LeftOut.{told_of_file};
+ghost use Rattle.file_derivation.specs.Warned.{has_some, told_nothing, AreAllWarned, AreFirst};
+ghost use Rattle.file_derivation.specs.Outcomes.{bytes_of, DerivesSelected, RefusesSelected, AreFaultsOrBound, IfToldIs};
+
+use crate::derive::{Refusal, alone};
+use crate::faults::faults_of;
+use crate::left_out::told_of_files;
+use crate::rounds::{leave_faults, leave_texts, read_whole};
+use crate::rows::push_rows_of;
+use crate::warned::{Warnings, warned_of};
+use compose::{Derived, derive_declarations};
+use configuration::Config;
+use diag::{DeriveError, Diagnostics};
+use gathering::{FileImpl, Reading, one_reading_of_items, read_items, told_plainly, told_unplaced};
+use prepare::{FileAlias, FileItem};
+use selecting::{Selected, Selection, clash_lines, told_deep};
+use std::alloc::{AllocError, Global};
+use syntax::Declarations;
+use telling::Told;
+use texts::{List, Text};
+
+/// The most bytes of the declarations that are selected.
+const MOST_BYTES: usize = 16_777_216;
+
+/// Whether the texts of the items have more bytes than may be.
+fn are_long(items: &[&FileItem]) -> bool
+    ensures { MatchBool result (most_bytes < bytes_of (map (λ i. i.now) items.now))
+        (bytes_of (map (λ i. i.now) items.now) ≤ most_bytes) }
+{
+    let mut left = MOST_BYTES;
+    let mut rest = items;
+    'items: while let [first, after @ ..] = rest {
+        let bytes = first.text.as_str().len();
+        if bytes > left {
+            return true;
+        }
+        left -= bytes;
+        rest = after;
+    }
+    false
+}
+
+/// Refuses declarations and aliases that are beyond a bound.
+fn are_within(
+    alloc: Global,
+    names: &[Text],
+    chosen: &[&FileItem],
+    needed: &[&FileAlias],
+    selection: &Selection,
+    config: &Config,
+) -> Result<(), Refusal>
+    ensures shallow { IfOk result (λ _. ¬ (AreDeep config.now.aliases)) }
+    ensures few { IfOk result (λ _. bytes_of (map (λ i. i.now) chosen.now) ≤ most_bytes) }
+    ensures told { IfErr result (IfToldIs (RefusesSelected selection.now config.now names.now
+        (map (λ i. i.now) chosen.now) (map (λ a. a.now) needed.now))) }
+{
+    if config.deep_aliases(alloc)? {
+        return Err(alone(alloc, told_deep(alloc, names, needed)?));
+    }
+    if are_long(chosen) {
+        let message = "the declarations are longer than 16777216 bytes";
+        return Err(alone(alloc, told_plainly(alloc, "", "TooLong", message)?));
+    }
+    Ok(())
+}
+
+/// Refuses names that an alias and something else have.
+fn are_distinct(
+    alloc: Global,
+    names: &[Text],
+    declarations: &Declarations,
+    needed: &[&FileAlias],
+) -> Result<(), Refusal>
+    ensures distinct { IfOk result (λ _. clash_lines names.now
+        (declarations_view declarations.now) (map (λ a. a.now) needed.now) ≡ []) }
+    ensures told { IfErr result (IfToldIs (λ told. (told ≢ []) × (told ≡ clash_lines names.now
+        (declarations_view declarations.now) (map (λ a. a.now) needed.now)))) }
+{
+    let lines = clash_lines(alloc, names, declarations, needed)?;
+    if lines.is_empty() {
+        return Ok(());
+    }
+    Err(Refusal::Told(lines))
+}
+
+/// What is told where the declarations are refused, which are those that the items read as: of each its first fault, or else
+/// of the bound.
+fn told_of(
+    alloc: Global,
+    names: &[Text],
+    items: &[&FileItem],
+    selection: &Selection,
+    config: &Config,
+    refusal: &Diagnostics,
+) -> Result<List<Told>, AllocError>
+    ensures { IfOk result (AreFaultsOrBound selection.now config.now names.now
+        (map (λ i. i.now) items.now) refusal.now) }
+{
+    one_reading_of_items();
+    let reading = read_items(alloc, names, items)?;
+    let from = reading.from.as_slice();
+    let excluded = selection.exclude.as_slice();
+    let mut faults = faults_of(alloc, names, excluded, from, &reading.declarations, config)?;
+    if faults.is_empty() {
+        faults.push(told_unplaced(alloc, "", refusal)?)?;
+    }
+    Ok(faults)
+}
+
+/// What is derived, with the warnings, and the one that nothing is described, where that is so.
+fn with_warnings(
+    alloc: Global,
+    derived: Derived,
+    mut warnings: Warnings,
+    is_declared: bool,
+) -> Result<(Derived, Warnings), AllocError>
+    ensures derived { IfOk result (λ d. d.0 ≡ derived) }
+    ensures warned { IfOk result (λ d. (all : AnyList AnyTold) → AreFirst all warnings
+        → AreFirst (all ++ told_nothing is_declared (has_some derived.components)) d.1) }
+{
+    let is_described = !derived.components.names().is_empty();
+    warnings.add_nothing(alloc, is_declared, is_described)?;
+    Ok((derived, warnings))
+}
+
+/// What is derived of the declarations, each read from the text of the item at the same place, and what they are warned of
+/// behind these warnings.
+fn derive_read(
+    alloc: Global,
+    names: &[Text],
+    from: &[&FileItem],
+    declarations: Declarations,
+    impls: &[FileImpl],
+    config: &Config,
+    warnings: Warnings,
+) -> Result<(Derived, Warnings), DeriveError>
+    requires many { length from.now ≡ length (declarations_view declarations) }
+    requires named { AreNamed (declarations_view declarations) }
+    ensures derived { IfOk result (λ d. (made : AreDerived config.now
+        (declarations_view declarations) d.0.components)
+        × ((by : Alternatives) → Describes made.resolved (collects_all config.now.collect)
+        (document_by by d.0.components))) }
+    ensures warned { IfOk result (λ d. (front : AnyList AnyTold) → AreFirst front warnings
+        → (all : AnyList AnyTold) × AreAllWarned names.now (declarations_view declarations)
+        (map (λ i. i.now) from.now) impls.now d.0.components front all × AreFirst all d.1) }
+    ensures refused { Refuses result (AreRefused config.now (declarations_view declarations)) }
+{
+    let warnings = warned_of(alloc, names, from, &declarations, impls, warnings)?;
+    let is_declared = !declarations.items.is_empty();
+    let derived = derive_declarations(alloc, declarations, config)?;
+    Ok(with_warnings(alloc, derived, warnings, is_declared)?)
+}
+
+/// What is derived of the declarations that are selected, and what they are warned of, where nothing is left out.
+fn derive_whole(
+    alloc: Global,
+    names: &[Text],
+    chosen: &[&FileItem],
+    needed: &[&FileAlias],
+    impls: &[FileImpl],
+    selection: &Selection,
+    mut config: Config,
+) -> Result<(Derived, Warnings), Refusal>
+    requires shallow { ¬ (AreDeep config.aliases) }
+    requires few { bytes_of (map (λ i. i.now) chosen.now) ≤ most_bytes }
+    ensures derived { IfOk result (λ d. selection.now.skip_refused ≡ false
+        → (all : AnyList AnyTold) × DerivesSelected selection.now config names.now
+        (map (λ i. i.now) chosen.now) (map (λ a. a.now) needed.now) impls.now []
+        d.0.components all × AreFirst all d.1) }
+    ensures told { IfErr result (IfToldIs (λ told. selection.now.skip_refused ≡ false
+        → RefusesSelected selection.now config names.now (map (λ i. i.now) chosen.now)
+        (map (λ a. a.now) needed.now) told)) }
+{
+    let reading = read_items(alloc, names, chosen)?;
+    if !reading.faults.is_empty() {
+        return Err(Refusal::Told(reading.faults));
+    }
+    push_rows_of(alloc, &mut config, &reading.declarations)?;
+    are_distinct(alloc, names, &reading.declarations, needed)?;
+    let Reading {
+        declarations,
+        from,
+        ..
+    } = reading;
+    let (from, warnings) = (from.as_slice(), Warnings::new(alloc));
+    match derive_read(alloc, names, from, declarations, impls, &config, warnings) {
+        Ok(derived) => Ok(derived),
+        Err(DeriveError::Memory) => Err(Refusal::Memory),
+        Err(DeriveError::Refused(refusal)) => {
+            let told = told_of(alloc, names, chosen, selection, &config, &refusal)?;
+            Err(Refusal::Told(told))
+        }
+    }
+}
+
+/// What is derived of the declarations that are selected and left, and what they are warned of, where what is refused is left
+/// out: of files, of whose faults this is told, of declarations that cannot be read, and of those at fault.
+fn derive_left(
+    alloc: Global,
+    names: &[Text],
+    chosen: &[&FileItem],
+    needed: &[&FileAlias],
+    impls: &[FileImpl],
+    faults: &[Told],
+    selection: &Selection,
+    mut config: Config,
+) -> Result<(Derived, Warnings), Refusal>
+    requires shallow { ¬ (AreDeep config.aliases) }
+    requires few { bytes_of (map (λ i. i.now) chosen.now) ≤ most_bytes }
+    ensures derived { IfOk result (λ d. selection.now.skip_refused ≡ true
+        → (all : AnyList AnyTold) × DerivesSelected selection.now config names.now
+        (map (λ i. i.now) chosen.now) (map (λ a. a.now) needed.now) impls.now
+        (map told_of_file faults.now) d.0.components all × AreFirst all d.1) }
+    ensures told { IfErr result (IfToldIs (λ told. selection.now.skip_refused ≡ true
+        → RefusesSelected selection.now config names.now (map (λ i. i.now) chosen.now)
+        (map (λ a. a.now) needed.now) told)) }
+{
+    let mut lines = told_of_files(alloc, faults)?;
+    let readable = leave_texts(alloc, names, chosen, &mut lines)?;
+    let reading = read_whole(alloc, names, readable.as_slice())?;
+    push_rows_of(alloc, &mut config, &reading.declarations)?;
+    let left = leave_faults(
+        alloc, names, selection, &config, readable, reading, &mut lines,
+    )?;
+    are_distinct(alloc, names, &left.declarations, needed)?;
+    let Reading {
+        declarations,
+        from,
+        ..
+    } = left;
+    let (from, warnings) = (from.as_slice(), Warnings::of(lines));
+    match derive_read(alloc, names, from, declarations, impls, &config, warnings) {
+        Ok(derived) => Ok(derived),
+        Err(DeriveError::Memory) => Err(Refusal::Memory),
+        Err(DeriveError::Refused(refusal)) => {
+            Err(alone(alloc, told_unplaced(alloc, "", &refusal)?))
+        }
+    }
+}
+
+/// What is derived of what is selected, and what it is warned of; the faults are those of files that are left out.
+pub(crate) fn derive_selected(
+    alloc: Global,
+    names: &[Text],
+    selected: &Selected<'_>,
+    impls: &[FileImpl],
+    faults: &[Told],
+    selection: &Selection,
+    config: Config,
+) -> Result<(Derived, Warnings), Refusal>
+    ensures derived { IfOk result (λ d. (selection.now.skip_refused ≡ false → faults.now ≡ [])
+        → (all : AnyList AnyTold) × DerivesSelected selection.now config names.now
+        (map (λ i. i.now) selected.now.items) (map (λ a. a.now) selected.now.aliases) impls.now
+        (map told_of_file faults.now) d.0.components all × AreFirst all d.1) }
+    ensures told { IfErr result (IfToldIs (RefusesSelected selection.now config names.now
+        (map (λ i. i.now) selected.now.items) (map (λ a. a.now) selected.now.aliases))) }
+{
+    let (chosen, needed) = (selected.items.as_slice(), selected.aliases.as_slice());
+    are_within(alloc, names, chosen, needed, selection, &config)?;
+    if selection.skip_refused {
+        return derive_left(
+            alloc, names, chosen, needed, impls, faults, selection, config,
+        );
+    }
+    derive_whole(alloc, names, chosen, needed, impls, selection, config)
+}

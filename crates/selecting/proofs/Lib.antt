@@ -1,0 +1,5 @@
+mod Aliased
+mod Choosing
+mod One
+mod Rest
+mod Typed

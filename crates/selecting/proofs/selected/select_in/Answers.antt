@@ -1,0 +1,43 @@
+use Rattle.std.proofs.Common.{◌≡◌, ◌∙◌, ℕ, List, Option, map, ap, sym, subst, IfOk}
+use Rattle.std.specs.Borrow.{Bor}
+use Rattle.std.specs.BTreeMap.{get_by_text}
+use Rattle.prepare.specs.declared.file_items.FileAlias.{FileAlias}
+use Rattle.prepare.specs.declared.file_items.FileItem.{FileItem}
+use Rattle.texts.specs.Names.{place_in}
+use Rattle.selecting.specs.Selected.{AreChosen}
+use Rattle.selecting.specs.Standing.{items_left, aliases_left, own_names, items_counting, aliases_counting}
+use Rattle.selecting.specs.declared.selected.Selected.{Selected}
+use Rattle.selecting.proofs.selected.select_in.Goals as goal
+
+abbrev shown : List (Bor FileItem) → List FileItem
+shown items = map (λ i. i.now) items
+
+abbrev shown_aliases : List (Bor FileAlias) → List FileAlias
+shown_aliases aliases = map (λ a. a.now) aliases
+
+pub returns : goal.returns
+returns c =
+    let s = c.args.selection.now in
+    let names = c.args.names.now in
+    let items_in = items_left s names c.args.items.now in
+    let aliases_in = aliases_left s names c.args.aliases.now in
+    let own : c.in_ok-own.own ≡ own_names s items_in aliases_in =
+    c.in_ok-own.ensures
+    ∙ ap (λ (v : List (Bor FileItem)). own_names s (shown v) (shown_aliases c.as_slice-2.result.now)) c.as_slice.ensures
+    ∙ ap (λ (v : List (Bor FileAlias)). own_names s (shown c.in_ok-items.items) (shown_aliases v)) c.as_slice-2.ensures
+    ∙ ap (λ (v : List FileItem). own_names s v (shown_aliases c.in_ok-aliases.aliases)) c.in_ok-items.ensures
+    ∙ ap (own_names s items_in) c.in_ok-aliases.ensures in
+    let found : get_by_text c.in_ok-own-2.own ≡ (λ name. place_in name (own_names s items_in aliases_in)) =
+    λ i name. (c.in_ok-own-2.ensures name ∙ ap (place_in name) (c.as_slice-3.ensures ∙ own)) i in
+    let kept : shown c.as_slice-6.result.now ≡ items_counting (λ name. place_in name (own_names s items_in aliases_in)) s items_in =
+    ap shown c.as_slice-6.ensures ∙ c.in_ok-items-2.ensures
+    ∙ ap (λ (v : List (Bor FileItem)). items_counting (get_by_text c.in_ok-own-2.own) s (shown v)) c.as_slice-4.ensures
+    ∙ ap (items_counting (get_by_text c.in_ok-own-2.own) s) c.in_ok-items.ensures
+    ∙ ap (λ (f : List ℕ → Option ℕ). items_counting f s items_in) found in
+    let left : shown_aliases c.as_slice-7.result.now ≡ aliases_counting (λ name. place_in name (own_names s items_in aliases_in)) s aliases_in =
+    ap shown_aliases c.as_slice-7.ensures ∙ c.in_ok-aliases-2.ensures
+    ∙ ap (λ (v : List (Bor FileAlias)). aliases_counting (get_by_text c.in_ok-own-2.own) s (shown_aliases v)) c.as_slice-5.ensures
+    ∙ ap (aliases_counting (get_by_text c.in_ok-own-2.own) s) c.in_ok-aliases.ensures
+    ∙ ap (λ (f : List ℕ → Option ℕ). aliases_counting f s aliases_in) found in
+    subst (λ (v : List FileItem). IfOk c.choose.result (λ (chosen : Selected). AreChosen s c.args.config.now v (shown chosen.items) (aliases_counting (λ name. place_in name (own_names s items_in aliases_in)) s aliases_in) (shown_aliases chosen.aliases))) kept
+    (subst (λ (v : List FileAlias). IfOk c.choose.result (λ (chosen : Selected). AreChosen s c.args.config.now (shown c.as_slice-6.result.now) (shown chosen.items) v (shown_aliases chosen.aliases))) left c.choose.ensures)

@@ -1,0 +1,6 @@
+pub mod Clashes
+pub mod Laws
+pub mod Lists
+pub mod Selected
+pub mod Standing
+pub mod Types

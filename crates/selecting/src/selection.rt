@@ -1,0 +1,36 @@
+//! Which declarations are asked for.
+
+ghost use Rattle.std.specs.Prelude.{◌≡◌};
+ghost use Rattle.texts.specs.Names.{is_in};
+
+use texts::{List, Text};
+
+/// Which declarations are selected: all, or by their traits, or by their names; and those that these name, and so on.
+#[derive(Debug, Drop)]
+pub struct Selection {
+    /// Those that derive `Serialize`, `Deserialize` or `ToSchema`, where no names are given.
+    pub serde: bool,
+    /// Those of these names, where there are any.
+    pub only: List<Text>,
+    /// Nothing of these names, nor what has its name at these lines, each `PATH:LINE`, and nothing for its sake.
+    pub exclude: List<Text>,
+    /// What is refused is left out, and what needs it.
+    pub skip_refused: bool,
+    /// How many of the files, from the first on, are the user's own. Those behind them are stand-ins: what they declare is
+    /// described where it is named, unless the user's own files declare the name.
+    pub own: usize,
+}
+
+/// Whether the name is one of these.
+pub fn is_in(name: &str, names: &[Text]) -> bool
+    ensures { result ≡ is_in name.now names.now }
+{
+    let mut rest = names;
+    'names: while let [first, after @ ..] = rest {
+        if name == first.as_str() {
+            return true;
+        }
+        rest = after;
+    }
+    false
+}
