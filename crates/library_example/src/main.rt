@@ -1,5 +1,7 @@
-//! The calls of the library: `derive_components` with a configuration, and `run` over streams in memory.
+//! The calls of the library: `derive_files`, `derive_components` with a configuration, and `run` over streams in memory.
 #![tactic(auto)]
+
+mod pets;
 
 use schema_gen::{
     Config, Derived, HonestFiles, HonestSink, HonestSource, Status, Words, derive_components, run,
@@ -35,6 +37,14 @@ fn print_run(rt: &HostRuntime, source: &str) -> anyhow::Result<()> {
 }
 
 fn main(rt: HostRuntime) -> anyhow::Result<()> {
+    pets::print_file(
+        &rt,
+        "type Id = u64;\n#[derive(Serialize)]\npub struct Pet { id: Id, tags: Vec<Tag> }\n",
+    )?;
+    pets::print_file(
+        &rt,
+        "#[derive(Serialize)]\npub struct Pet { owner: Owner }\n",
+    )?;
     let source =
         r#"#[serde(rename_all = "camelCase")] struct Pet { full_name: Name } struct Name(String);"#;
     let renames =

@@ -1,21 +1,28 @@
 //! From the bytes of a source to the bytes of its document: Rust struct declarations in, one JSON document of OpenAPI
 //! 3.1 component schemas out. A file may configure what deriving may take.
+//!
+//! `derive_components` takes a text of declarations, `whole_files::derive_files` whole files as they are, and `run` is a run of
+//! the program over streams. `Config` says what deriving may take: read from JSON, or set.
 #![tactic(auto)]
 
 mod command;
 mod derivation;
 mod law;
 mod program;
+pub mod whole_files;
 
 pub use compose::{Derived, derive_components};
-pub use configuration::Config;
-pub use diag::{DeriveError, Diagnostics, DiangosticsInner, Kind, List, Span, Suggestion, Text};
+pub use configuration::{Config, OutOfRange, SchemaCollect};
+pub use diag::{
+    DeriveError, Diagnostics, DiangosticsInner, Kind, List, RenamePlace, RenameRow, RenameRule,
+    Span, Suggestion, Text,
+};
 pub use files::{FileAnswer, FileBytes, Files, HonestFiles, MemoryFiles, StdFiles};
 pub use law::{sound_is_not_refused, told_texts_are_one};
 pub use open_types::ClosedType;
 pub use program::run;
 pub use reporting::{Status, Words};
-pub use schema_core::Components;
+pub use schema_core::{Components, ComponentsIter};
 pub use streams::{
     Failed, HonestSink, HonestSource, MemorySink, MemorySource, ReadError, Sink, Source, StdSink,
     StdSource, read_all, write_all,
