@@ -24,7 +24,7 @@ for tests alone. All files together declare what is described, and no two of the
   --only NAME      only declarations of this name, and those that they name, also without --serde's traits; again for
                    one name more
   --exclude NAME   no declaration or alias of this name, and none for its sake; NAME may be PATH:LINE, the line where
-                   one has its name; again for one more
+                   one has its name, or an alias begins; again for one more
   --stand-in PATH  the file at PATH says the JSON of another crate's types: what it declares is described where it is
                    named, unless a FILE declares the name; again for one file more
   --stand-ins      of the script schema_gen_file: --stand-in with files of the folder stand_ins/, of the standard library

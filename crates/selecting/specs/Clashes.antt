@@ -49,12 +49,12 @@ told_clash names a = told_alias names a (codes "DuplicateName") (duplicate_messa
 abbrev pub clash_lines : (names : List (List ℕ)) → List DeclaredItem → List FileAlias → List Told
 clash_lines names ds aliases = map (told_clash names) (filter (clashes ds aliases) aliases)
 
--- what is told of aliases that are replaced too often, at the first of them
+-- what is told of aliases of which some are replaced too often, at the first that is named
 abbrev pub depth_message : List ℕ
 depth_message = codes "aliases are replaced more than 32 times"
 
 abbrev pub depth_help : (line : List ℕ) → List ℕ
-depth_help line = codes "an alias that stands here or in its type stands in itself, or too deep; leave this one out by --exclude " ++ line
+depth_help line = codes "this alias, or another that is named, stands in itself or too deep; leave that one out by --exclude, this one by " ++ line
 
 abbrev pub told_first : (names : List (List ℕ)) → FileAlias → Told
 told_first names a = told_alias names a (codes "AliasDepth") depth_message (depth_help (alias_line names a))

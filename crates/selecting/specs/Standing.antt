@@ -20,7 +20,7 @@ alias_names aliases = map (λ a. a.declared.name) aliases
 abbrev pub line_text : (path : List ℕ) → ℕ → List ℕ
 line_text path line = path ++ (codes ":" ++ decimal line)
 
--- where the name of a declaration stands, and of an alias
+-- where the name of a declaration stands, and where an alias begins
 abbrev pub item_line : (names : List (List ℕ)) → FileItem → List ℕ
 item_line names i = line_text (file_name names i.file) i.line
 
@@ -43,9 +43,13 @@ aliases_left s names aliases = filter (λ a. not (is_excluded s a.declared.name 
 abbrev pub is_own : Selection → (file : ℕ) → Bool
 is_own s file = nat_lt file s.own
 
--- what the user's own files declare
+-- an alias has its own name in its type, as in `type Url = url::Url;`
+abbrev pub names_itself : FileAlias → Bool
+names_itself a = is_in a.declared.name a.declared.names
+
+-- what the user's own files declare: an alias with its own name in its type declares no other
 abbrev pub own_names : Selection → List FileItem → List FileAlias → List (List ℕ)
-own_names s items aliases = item_names (filter (λ i. is_own s i.file) items) ++ alias_names (filter (λ a. is_own s a.file) aliases)
+own_names s items aliases = item_names (filter (λ i. is_own s i.file) items) ++ alias_names (filter (λ a. is_own s a.file && not (names_itself a)) aliases)
 
 -- what a stand-in has under a name that is found among those does not count
 abbrev pub counts : {X : Type 0} → (found : List ℕ → Option X) → Selection → (file : ℕ) → (name : List ℕ) → Bool

@@ -244,20 +244,20 @@ pub fn clash_lines(
     told_clashes(alloc, paths, found.as_slice())
 }
 
-/// What is told of the alias, which is the first of those that are replaced too often.
+/// What is told at the alias, which is the first that is named, where some are replaced too often.
 fn told_first(alloc: Global, names: &[Text], alias: &FileAlias) -> Result<Told, AllocError>
     ensures { IfOk result (λ told. told ≡ told_first names.now alias.now) }
 {
     let line = alias_line(alloc, names, alias)?;
     let help = format!(in alloc;
-        "an alias that stands here or in its type stands in itself, or too deep; leave this one out by --exclude {}",
+        "this alias, or another that is named, stands in itself or too deep; leave that one out by --exclude, this one by {}",
         line.as_str()
     )?;
     let message = "aliases are replaced more than 32 times";
     told_alias(alloc, names, alias, "AliasDepth", message, Text::from(help))
 }
 
-/// What is told of the aliases, which are replaced more than 32 times: at the first of them.
+/// What is told of the aliases, of which some are replaced more than 32 times: at the first that is named.
 pub fn told_deep(alloc: Global, names: &[Text], aliases: &[&FileAlias]) -> Result<Told, AllocError>
     ensures { IfOk result (λ told. told ≡ told_deep names.now (map (λ a. a.now) aliases.now)) }
 {

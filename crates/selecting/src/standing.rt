@@ -1,9 +1,9 @@
 //! Which of what files have counts.
 
-ghost use Rattle.std.specs.Prelude.{◌≡◌, ◌++◌, map, IfOk, OnOk};
+ghost use Rattle.std.specs.Prelude.{◌≡◌, ◌&&◌, ◌++◌, not, map, IfOk, OnOk};
 ghost use Rattle.std.specs.BTreeMap.{get_by_text};
 ghost use Rattle.std.specs.List.{filter};
-ghost use Rattle.selecting.specs.Standing.{item_names, alias_names, line_text, item_line, alias_line, is_excluded, items_left, aliases_left, is_own, own_names, counts, items_counting, aliases_counting};
+ghost use Rattle.selecting.specs.Standing.{item_names, alias_names, line_text, item_line, alias_line, is_excluded, items_left, aliases_left, is_own, names_itself, own_names, counts, items_counting, aliases_counting};
 
 use crate::selection::{Selection, is_in};
 use gathering::file_name;
@@ -117,7 +117,24 @@ fn push_item_names(
     Ok(())
 }
 
-/// Adds the names of the user's own aliases.
+/// Whether the alias has its own name in its type.
+fn names_itself(alias: &FileAlias) -> bool
+    ensures { result ≡ names_itself alias.now }
+{
+    is_in(
+        alias.declared.name.as_str(),
+        alias.declared.names.as_slice(),
+    )
+}
+
+/// Whether the user's own files declare something by the alias: it is theirs, and names another type than one of its name.
+fn declares(selection: &Selection, alias: &FileAlias) -> bool
+    ensures { result ≡ (is_own selection.now alias.now.file && not (names_itself alias.now)) }
+{
+    is_own(selection, alias.file) && !names_itself(alias)
+}
+
+/// Adds the names of the user's own aliases that declare something.
 fn push_alias_names(
     alloc: Global,
     own: &mut List<Text>,
@@ -125,11 +142,12 @@ fn push_alias_names(
     aliases: &[&FileAlias],
 ) -> Result<(), AllocError>
     ensures { OnOk result (own.new ≡ own.old ++ alias_names
-        (filter (λ a. is_own selection.now a.file) (map (λ a. a.now) aliases.now))) }
+        (filter (λ a. is_own selection.now a.file && not (names_itself a))
+        (map (λ a. a.now) aliases.now))) }
 {
     let mut rest = aliases;
     'aliases: while let [first, after @ ..] = rest {
-        if is_own(selection, first.file) {
+        if declares(selection, first) {
             own.push(first.declared.name.copy(alloc)?)?;
         }
         rest = after;
