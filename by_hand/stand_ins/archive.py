@@ -5,8 +5,7 @@
 
 REGISTRY is a folder of crates as Debian packages them: its librust-*-dev packages put them into /usr/share/cargo/registry. Taken is each
 crate of which a file of `src` derives serde's traits, under a condition perhaps. The program reads all .rs files of its `src`, with the
-words `--serde` and with the stand-ins whose crate the sources name as the root of a path, those of the standard library always. What a
-crate declares itself is left out of these stand-ins.
+words `--serde` and with the stand-ins whose crate the sources name as the root of a path, those of the standard library always.
 
     --program PATH     the program, instead of ./schema_gen_file of this repository
     --stand-ins FOLDER the folder of the stand-ins, instead of stand_ins; `--stand-ins=` takes none
@@ -25,12 +24,10 @@ import re
 import shlex
 import subprocess
 import sys
-import tempfile
 
 DERIVE = re.compile(r"\bderive\s*\([^)]*\b(?:Serialize|Deserialize)\b")
 PLAIN = re.compile(r"#\s*\[\s*derive\s*\([^)]*\b(?:Serialize|Deserialize)\b")
 FAULT = re.compile(r"^(?P<path>/.*?)(?::(?P<line>\d+):(?P<column>\d+))?: (?P<kind>[A-Z]\w+): (?P<message>.*)$")
-DECLARED = re.compile(r"^pub (?:struct|enum|type) (\w+)", re.MULTILINE)
 UNKNOWN = "unknown type "
 
 
@@ -48,14 +45,6 @@ def sources(folder):
     return found
 
 
-def without(text, names):
-    """Returns the text of a stand-in file without its declarations of these names."""
-    for name in names:
-        front, rest = r"(?:(?:///|#\[).*\n)*", r"\b(?:.*;|[^{;]*\{(?:.*\n)*?\})"
-        text = re.sub(rf"^{front}pub (?:struct|enum|type) {name}{rest}$", "", text, flags=re.MULTILINE)
-    return text
-
-
 def names_root(crate, text):
     """Tells whether a text names a crate as the root of a path, and no module of this name that it has in scope."""
     scope = rf"\buse\s[^;]*(?:::|[{{,])\s*{crate}\s*(?:[;,}}]|::\s*\{{\s*self\b)|\bmod\s+{crate}\s*[;{{]"
@@ -64,23 +53,10 @@ def names_root(crate, text):
     return re.search(rf"(?<!:)\b{crate}\s*::", roots) and not re.search(scope, text)
 
 
-def stand_ins(folder, texts, to):
-    """Returns the paths of the stand-ins that the sources need, written to a folder without what the sources declare."""
-    paths = []
-    declared = {name for text in texts for name in re.findall(r"\b(?:struct|enum|union) (\w+)", text)}
-    for file in sorted(os.listdir(folder)):
-        crate = file.removesuffix(".rs")
-        if crate != "std" and not any(names_root(crate, text) for text in texts):
-            continue
-        path = f"{folder}/{file}"
-        text = read(path)
-        names = declared.intersection(DECLARED.findall(text))
-        if names:
-            path = f"{to}/{file}"
-            with open(path, "w", encoding="utf-8") as it:
-                it.write(without(text, names))
-        paths.append(os.path.realpath(path))
-    return paths
+def stand_ins(folder, texts):
+    """Returns the words for the stand-ins of the crates that the sources name."""
+    named = [file for file in sorted(os.listdir(folder)) if file == "std.rs" or any(names_root(file.removesuffix(".rs"), text) for text in texts)]
+    return [f"--stand-in={os.path.realpath(folder)}/{file}" for file in named]
 
 
 def crates(it, registry):
@@ -90,12 +66,8 @@ def crates(it, registry):
         texts = [re.sub(r"//.*", "", read(path)) for path in paths]
         if not any((PLAIN if it.plain else DERIVE).search(text) for text in texts):
             continue
-        with tempfile.TemporaryDirectory() as to:
-            if it.cases:
-                to = f"{it.cases}.files/{crate}"
-                os.makedirs(to, exist_ok=True)
-            more = stand_ins(it.stand_ins, texts, to) if it.stand_ins and not it.answers else []
-            yield crate, [*shlex.split(it.words), *paths, *more]
+        more = stand_ins(it.stand_ins, texts) if it.stand_ins and not it.answers else []
+        yield crate, [*shlex.split(it.words), *more, *paths]
 
 
 def answers(path):

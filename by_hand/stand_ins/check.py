@@ -54,7 +54,7 @@ def derived(program, folder, files, types):
             for at, file in enumerate(files):
                 fields = "".join(f"    f{n}: {name},\n" for n, name in enumerate(types[file]))
                 it.write(f"#[derive(Serialize)]\nstruct In{at} {{\n{fields}}}\n")
-        words = [program, "--serde", wrapper, *(f"{folder}/{file}.rs" for file in files)]
+        words = [program, "--serde", wrapper, *(f"--stand-in={folder}/{file}.rs" for file in files)]
         ran = subprocess.run(words, capture_output=True, text=True, check=False)
     if ran.returncode:
         print(ran.stderr, end="", file=sys.stderr)
