@@ -20,7 +20,7 @@ quoted() {
     echo "examples/check.sh: README.md quotes $2"
 }
 
-quoted "The library" crates/library_example/src/main.rt
+quoted "The library" crates/library_example/src/pets.rt
 quoted Generics examples/generics.rs
 
 # Compares what a program wrote, behind its status, with the components of the source.
