@@ -102,7 +102,7 @@ pub struct Reverse<T>(T);
 pub struct Weak<T>(Option<T>);
 // Null alone.
 #[serde(untagged)]
-pub enum PhantomData<T> {
+pub enum PhantomData {
     Null,
 }
 pub enum Result<T, E> {

@@ -7,7 +7,7 @@
 # accepted by the component of its stand-in, and of those that serde does not read each that a schema can tell must be refused. The crates
 # are those that Debian packages, without a network, in /usr/share/cargo/registry or in the folder REGISTRY in the same form:
 #
-#     apt-get install librust-{ahash,arc-swap,arrayvec,bigdecimal,bstr+serde1,bytes,bytesize,camino,chrono,chrono-tz,dashmap}-dev \
+#     apt-get install librust-{ahash,arc-swap,arrayvec,bigdecimal,bstr+serde1,bytes,bytesize,camino,cargo-platform,chrono,chrono-tz,dashmap}-dev \
 #         librust-{either,encoding-rs,enum-map,enumflags2,enumset,eui48,fnv,fxhash,half,hashlink,indexmap,ipnet,ipnetwork}-dev \
 #         librust-{kstring,language-tags,linked-hash-map,num-bigint,num-complex,num-rational,ordered-float,parking-lot}-dev \
 #         librust-{regex-automata,rust-decimal,rustc-hash,secrecy,semver,serde,serde-bytes,serde-derive,serde-json,slab}-dev \

@@ -118,6 +118,10 @@ fn identifiers() {
         .refuses(&["1", "null", "[1,2,3]"]);
     row!("semver", VersionReq).writes(["*", ">=1.2, <2", "^1.2.3-a"].map(parsed::<VersionReq>)).refuses(&["1", "null"]);
     row!("semver", Comparator).writes(["1.*", "~1.2"].map(parsed::<Comparator>)).refuses(&["1", "null"]);
+    row!("cargo_platform", cargo_platform::Platform)
+        .writes(["x86_64-unknown-linux-gnu", r#"cfg(all(unix, target_os = "linux"))"#].map(parsed::<cargo_platform::Platform>))
+        .refuses(&["1", "null", "{}"])
+        .wider(&[r#""cfg(""#]);
 
     use slotmap::{DefaultKey, Key, KeyData, SlotMap};
     let mut map = SlotMap::new();

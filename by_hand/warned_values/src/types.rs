@@ -187,7 +187,7 @@ pub struct TransparentBesideSkipped(#[serde(skip)] pub bool, pub u8);
 
 // `PhantomData` is std's, and this is what a reader of a document may say of it. It is unknown otherwise.
 #[cfg(any())]
-pub struct PhantomData<T>(Option<T>);
+pub struct PhantomData(Option<bool>);
 
 #[derive(Serialize, Deserialize)]
 #[serde(transparent)]

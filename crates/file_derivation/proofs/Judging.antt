@@ -8,6 +8,7 @@ use Rattle.configuration.specs.Configuration.{Configuration}
 use Rattle.syntax.specs.Items.{DeclaredItem}
 use Rattle.telling.specs.declared.told.Told.{Told}
 use Rattle.prepare.specs.declared.file_items.FileItem.{FileItem}
+use Rattle.prepare.specs.Blanks.{text_read}
 use Rattle.gathering.specs.Reading.{IsReadAs, IsRefusedText, told_of, AreRead, nothing_read, is_read, is_refused}
 use Rattle.file_derivation.specs.Faults.{AreFaults}
 use Rattle.file_derivation.specs.Faults as faults
@@ -23,12 +24,12 @@ use Rattle.file_derivation.proofs.Out.{AreWithin}
 
 -- one item is read, or is refused
 pub read_one : {names : List (List ℕ)} {i : FileItem} {from : List FileItem} {ds : List DeclaredItem} {told : List Told} → AreRead names (i ∷ []) from ds told
-    → ((told ≡ []) × IsReadAs i.text ds) ⊎ ((d : List DiangosticsInner) × IsRefusedText i.text (Refused d) × (told ≡ told_of names i d ∷ []))
-read_one {i = i} (is_read {es = es} r nothing_read) = inl (refl, subst (IsReadAs i.text) (sym (append-nil es)) r)
+    → ((told ≡ []) × IsReadAs (text_read i) ds) ⊎ ((d : List DiangosticsInner) × IsRefusedText (text_read i) (Refused d) × (told ≡ told_of names i d ∷ []))
+read_one {i = i} (is_read {es = es} r nothing_read) = inl (refl, subst (IsReadAs (text_read i)) (sym (append-nil es)) r)
 read_one (is_refused {d = d} r nothing_read) = inr (d, r, refl)
 
 pub refused_one : {names : List (List ℕ)} {i : FileItem} {items from : List FileItem} {ds : List DeclaredItem} {told : List Told} (t : Told) → AreRead names items from ds told → items ≡ i ∷ [] → told ≢ [] → t ≡ slice_index_or told 0 t
-    → (d : List DiangosticsInner) × IsRefusedText i.text (Refused d) × (t ≡ told_of names i d)
+    → (d : List DiangosticsInner) × IsRefusedText (text_read i) (Refused d) × (t ≡ told_of names i d)
 refused_one {names = names} {i = i} {from = from} {ds = ds} {told = told} t are one some is = elim (read_one (subst (λ (v : List FileItem). AreRead names v from ds told) one are)) [
   | inl (none, r) ↦ absurd (some none)
   | inr (d, r, same) ↦ (d, r, is ∙ ap (λ (v : List Told). slice_index_or v 0 t) same)

@@ -5,6 +5,7 @@ use Rattle.texts.specs.Names.{is_in}
 use Rattle.syntax.specs.Items.{DeclaredItem}
 use Rattle.telling.specs.declared.told.Told.{Told}
 use Rattle.prepare.specs.declared.file_items.FileItem.{FileItem}
+use Rattle.prepare.specs.Blanks.{text_read}
 use Rattle.gathering.specs.Laws.{ReadAsOne}
 use Rattle.gathering.specs.Reading.{IsReadAs, AreRead, nothing_read, is_read}
 use Rattle.file_derivation.specs.LeftOut.{faulty_name, faulty_names, at_fault, kept_by, IsRound}
@@ -33,7 +34,7 @@ can_be_read names (i ∷ items) from ds (is_read {es = es} own more) = ((es, own
 
 -- ---- what is left of items
 
-kept_one : (b : Bool) (i : FileItem) (kept : List FileItem) → (b ≡ true → (ds : List DeclaredItem) × IsReadAs i.text ds) → CanBeRead kept → CanBeRead (cond b (i ∷ kept) kept)
+kept_one : (b : Bool) (i : FileItem) (kept : List FileItem) → (b ≡ true → (ds : List DeclaredItem) × IsReadAs (text_read i) ds) → CanBeRead kept → CanBeRead (cond b (i ∷ kept) kept)
 kept_one true i kept own can = (own refl, can)
 kept_one false i kept own can = can
 
@@ -48,7 +49,7 @@ round_can {items = items} round can = subst CanBeRead (sym round.others) (kept_c
 module _ (names : List (List ℕ)) (is_out : List ℕ → Bool) where
   -- an item that is not left out can be read
   sound_one : (i : FileItem) (v : Verdict) (others : List (List ℕ)) → IsTextVerdict names i v → ((name : List ℕ) → is_in name (faulty_name i v ++ others) ≡ true → is_out name ≡ true) → not (is_out i.declared.name) ≡ true
-      → (ds : List DeclaredItem) × IsReadAs i.text ds
+      → (ds : List DeclaredItem) × IsReadAs (text_read i) ds
   sound_one i (Sound span) others is out kept = (is.0, is.1)
   sound_one i (Fault told) others is out kept =
       let gone : is_out i.declared.name ≡ true = out i.declared.name (or_left (bytes_eq i.declared.name i.declared.name) (is_in i.declared.name others) (itself i.declared.name)) in

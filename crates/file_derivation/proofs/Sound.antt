@@ -1,5 +1,5 @@
 -- Of sound files nothing is told.
-use Rattle.std.proofs.Common.{◌≡◌, ◌∙◌, ◌⊎◌, inl, inr, refl, ap, ap₂, sym, subst, ℕ, zero, suc, List, [], ◌∷◌, ◌++◌, length, replicate, Bool, true, false, not, cond, bytes_eq, Some, None, option_map, arith, ◌<◌}
+use Rattle.std.proofs.Common.{◌≡◌, ◌∙◌, ◌⊎◌, inl, inr, refl, ap, ap₂, sym, subst, ℕ, zero, suc, List, [], ◌∷◌, ◌++◌, length, replicate, Bool, true, false, not, cond, bytes_eq, Some, None, option_map, arith}
 use Rattle.std.specs.Prelude.{slice_get}
 use Rattle.std.proofs.lemmas.Bool.{false≢true, false_from_ne_true, or_left, or_right}
 use Rattle.std.proofs.lemmas.Option.{none-some, same_Some}
@@ -24,7 +24,8 @@ use Rattle.compose.specs.Faults.{AreClear, AreRefused}
 use Rattle.telling.specs.declared.told.Told.{Told}
 use Rattle.prepare.specs.declared.file_items.FileAlias.{FileAlias}
 use Rattle.prepare.specs.declared.file_items.FileItem.{FileItem}
-use Rattle.gathering.specs.Files.{FileOf, AreGathered, HaveAliases, most_bytes}
+use Rattle.prepare.specs.Blanks.{text_read}
+use Rattle.gathering.specs.Files.{FileOf, AreGathered, HaveAliases}
 use Rattle.gathering.specs.Reading.{IsReadAs, told_of, AreRead, nothing_read, is_read, is_refused}
 use Rattle.gathering.specs.Laws.{GatheredAsOne, AliasedAsOne, ReadAsOne}
 use Rattle.selecting.specs.Clashes.{clash_lines}
@@ -130,7 +131,7 @@ round_keeps {items = items} {judged = judged} round none =
     round.others ∙ all_kept round.is_out items (λ name. false_from_ne_true (round.is_out name) (λ out. no_one_out (subst (λ v. IsLeftOut items v name) none ((round.decides name).0 out))))
 
 -- a text that is read is not refused
-sound_text : ReadAsOne → (names : List (List ℕ)) (i : FileItem) (es : List DeclaredItem) (v : Verdict) → IsReadAs i.text es → IsTextVerdict names i v → faulty_name i v ≡ []
+sound_text : ReadAsOne → (names : List (List ℕ)) (i : FileItem) (es : List DeclaredItem) (v : Verdict) → IsReadAs (text_read i) es → IsTextVerdict names i v → faulty_name i v ≡ []
 sound_text law names i es (Fault told) r (d, refused, is) =
     let all = law names (i ∷ []) (replicate (length es) i ++ []) [] (es ++ []) [] (told_of names i d ∷ []) (is_read r nothing_read) (is_refused refused nothing_read) in
     let none : told_of names i d ∷ [] ≡ [] = all.2 in

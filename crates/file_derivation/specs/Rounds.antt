@@ -9,6 +9,7 @@ use Rattle.telling.specs.declared.told.Told.{Told}
 use Rattle.texts.specs.Span.{no_span}
 use Rattle.texts.specs.declared.span.Span.{Span}
 use Rattle.prepare.specs.declared.file_items.FileItem.{FileItem}
+use Rattle.prepare.specs.Blanks.{text_read}
 use Rattle.gathering.specs.Reading.{IsReadAs, IsRefusedText, told_of, AreRead}
 use Rattle.selecting.specs.declared.selection.Selection.{Selection}
 use Rattle.file_derivation.specs.Faults.{IsFaultAt}
@@ -27,8 +28,8 @@ name_span (d ∷ ds) = d.ident.span
 
 -- the item is at fault where its text is refused
 abbrev pub IsTextVerdict : (names : List (List ℕ)) → FileItem → Verdict → Type 0
-IsTextVerdict names i (Fault told) = (d : List DiangosticsInner) × IsRefusedText i.text (Refused d) × (told ≡ told_of names i d)
-IsTextVerdict names i (Sound span) = (ds : List DeclaredItem) × IsReadAs i.text ds × (span ≡ name_span ds)
+IsTextVerdict names i (Fault told) = (d : List DiangosticsInner) × IsRefusedText (text_read i) (Refused d) × (told ≡ told_of names i d)
+IsTextVerdict names i (Sound span) = (ds : List DeclaredItem) × IsReadAs (text_read i) ds × (span ≡ name_span ds)
 
 -- Each of the items is judged by its text, in order.
 pub data AreTexts (names : List (List ℕ)) : List FileItem → List Judged → Type 0 where
@@ -41,7 +42,7 @@ LeavesTexts names items told kept = (judged : List Judged) × AreTexts names ite
 
 -- each of the items can be read
 abbrev pub CanBeRead : List FileItem → Type 0
-CanBeRead items = AllByRecursion (λ i. (ds : List DeclaredItem) × IsReadAs i.text ds) items
+CanBeRead items = AllByRecursion (λ i. (ds : List DeclaredItem) × IsReadAs (text_read i) ds) items
 
 -- ---- declarations at fault
 

@@ -24,7 +24,8 @@ fn is_among(numbers: &[usize], number: usize) -> bool
     numbers.contains(&number)
 }
 
-/// Files in memory, read without fault: only a path that holds none fails.
+/// Files in memory, read without fault: only a path that holds none fails. For a caller that has their bytes at hand, in place
+/// of the system's files.
 #[derive(Drop)]
 pub struct HonestFiles {
     files: Vec<(String, Vec<u8>)>,
@@ -96,7 +97,7 @@ impl Files for HonestFiles {
     }
 }
 
-/// Files in memory, of which chosen calls fail.
+/// Files in memory, of which chosen calls fail: for tests of what a caller does about a fault.
 #[derive(Drop)]
 pub struct MemoryFiles {
     honest: HonestFiles,

@@ -94,12 +94,12 @@ not_told : (n : ℕ) (f : FileOf) (own : List FileItem) (told : Told) → HasIte
 not_told n f own told h (too_long long) = let short = h.short in absurd (omega arith)
 not_told n f own told h (no_text end short broken front empty) = broken h.utf8
 not_told n f own told h (no_file short utf8 (inl deep) help) = h.shallow deep.0 deep.2
-not_told n f own told h (no_file short utf8 (inr none) help) = none.3 h.items_are.0 h.items_are.1
+not_told n f own told h (no_file short utf8 (inr none) help) = none.3 h.are.0 h.are.1
 
 pub as_one : ItemsAreOne → GatheredAsOne
 as_one one n [] items others faults no_files no_files = (refl, refl)
 as_one one n (f ∷ files) items others faults (has_items {own = own} {items = rest} h more) (has_items {own = mine} {items = left} k further) =
-    let same = one n (text_of_file f.bytes) own mine h.items_are k.items_are in
+    let same = one n (text_of_file f.bytes) own mine h.are k.are in
     let all = as_one one (suc n) files rest left faults more further in
     (ap₂ (λ (a b : List FileItem). a ++ b) same all.0, all.1)
 as_one one n (f ∷ files) items others faults (has_items {own = own} h more) (is_told {told = told} k further) = absurd (not_told n f own told h k)
@@ -112,6 +112,6 @@ AliasesAreOne = (file : ℕ) (source : List ℕ) (aliases others : List FileAlia
 pub aliased_as_one : AliasesAreOne → AliasedAsOne
 aliased_as_one one n [] items aliases others no_files have_none have_none = refl
 aliased_as_one one n (f ∷ files) items aliases others (has_items {items = rest} h more) (has_own {own = own} {others = behind} k later) (has_own {own = mine} {others = left} l further) =
-    ap₂ (λ (a b : List FileAlias). a ++ b) (one n (text_of_file f.bytes) own mine k l) (aliased_as_one one (suc n) files rest behind left more later further)
+    ap₂ (λ (a b : List FileAlias). a ++ b) (one n (text_of_file f.bytes) own mine k.are l.are) (aliased_as_one one (suc n) files rest behind left more later further)
 aliased_as_one one n (f ∷ files) items aliases others (has_items {own = own} h more) (has_own k later) (none_told {told = told} l further) = absurd (not_told n f own told h l)
 aliased_as_one one n (f ∷ files) items aliases others (has_items {own = own} h more) (none_told {told = told} k later) r = absurd (not_told n f own told h k)

@@ -11,6 +11,7 @@ use Rattle.renaming.specs.Refusals.{IsNameless, IsRefusedItem, HaveNoRows}
 use Rattle.syntax.specs.Items.{DeclaredItem}
 use Rattle.syntax.specs.Named.{AreNamed}
 use Rattle.syntax.specs.Source.{Reads}
+use Rattle.prepare.specs.Blanks.{text_read}
 use Rattle.prepare.specs.declared.file_items.FileItem.{FileItem}
 use Rattle.telling.specs.declared.told.Told.{Told}
 use Rattle.gathering.specs.Reading.{IsReadAs, IsRefusedText, told_of, AreRead, nothing_read, is_read, is_refused}
@@ -19,7 +20,7 @@ use Rattle.gathering.specs.Laws.{ReadAsOne}
 -- ---- one text more
 
 module _ (names : List (List ℕ)) (i : FileItem) where
-  pub read_after : {items from : List FileItem} {ds es : List DeclaredItem} {faults : List Told} → AreRead names items from ds faults → IsReadAs i.text es
+  pub read_after : {items from : List FileItem} {ds es : List DeclaredItem} {faults : List Told} → AreRead names items from ds faults → IsReadAs (text_read i) es
       → AreRead names (items ++ i ∷ []) (from ++ replicate (length es) i) (ds ++ es) faults
   read_after {es = es} nothing_read r =
       subst (λ v. AreRead names (i ∷ []) v es []) (append-nil (replicate (length es) i))
@@ -29,7 +30,7 @@ module _ (names : List (List ℕ)) (i : FileItem) where
       (subst (λ v. AreRead names (j ∷ (items ++ i ∷ [])) (replicate (length own) j ++ (from ++ replicate (length es) i)) v faults) (sym (append_assoc own ds es)) (is_read k (read_after more r)))
   read_after (is_refused k more) r = is_refused k (read_after more r)
 
-  pub refused_after : {items from : List FileItem} {ds : List DeclaredItem} {faults : List Told} {d : List DiangosticsInner} → AreRead names items from ds faults → IsRefusedText i.text (Refused d)
+  pub refused_after : {items from : List FileItem} {ds : List DeclaredItem} {faults : List Told} {d : List DiangosticsInner} → AreRead names items from ds faults → IsRefusedText (text_read i) (Refused d)
       → AreRead names (items ++ i ∷ []) from ds (faults ++ told_of names i d ∷ [])
   refused_after nothing_read r = is_refused r nothing_read
   refused_after (is_read k more) r = is_read k (refused_after more r)
@@ -69,13 +70,13 @@ module _ (one : OneReading) where
   pub as_one : ReadAsOne
   as_one names [] from others ds es faults nothing_read nothing_read = (refl, refl, refl)
   as_one names (i ∷ items) from others ds es faults (is_read {from = os} {es = own} {ds = rest} r more) (is_read {from = ps} {es = mine} {ds = left} k further) =
-      let same = one i.text own mine r.read k.read in
+      let same = one (text_read i) own mine r.read k.read in
       let all = as_one names items os ps rest left faults more further in (
         ap₂ (λ a b. replicate (length a) i ++ b) same all.0,
         ap₂ (λ a b. a ++ b) same all.1,
         all.2,
       )
-  as_one names (i ∷ items) from others ds es faults (is_read {es = own} r more) (is_refused {d = d} k further) = absurd (not_refused i.text own (Refused d) r k)
+  as_one names (i ∷ items) from others ds es faults (is_read {es = own} r more) (is_refused {d = d} k further) = absurd (not_refused (text_read i) own (Refused d) r k)
 
 -- ---- for the loop
 
@@ -83,10 +84,9 @@ pub none_rowless : RefusesNone (HaveNoRows [])
 none_rowless e (inl h) = elim h [ ]
 none_rowless e (inr h) = elim h [ ]
 
-pub more_read : (names : List (List ℕ)) (i : FileItem) {items from after : List FileItem} {ds es behind : List DeclaredItem} {faults : List Told} (text : List ℕ) (n : ℕ) → text ≡ i.text → n ≡ length es
-    → after ≡ from ++ replicate n i → behind ≡ ds ++ es → IsReadAs text es → AreRead names items from ds faults → AreRead names (items ++ i ∷ []) after behind faults
-more_read names i {items = items} {from = from} {after = after} {ds = ds} {es = es} {behind = behind} {faults = faults} text n same many from_is ds_is r are =
-    let read = subst (λ v. IsReadAs v es) same r in
+pub more_read : (names : List (List ℕ)) (i : FileItem) {items from after : List FileItem} {ds es behind : List DeclaredItem} {faults : List Told} (n : ℕ) → n ≡ length es
+    → after ≡ from ++ replicate n i → behind ≡ ds ++ es → IsReadAs (text_read i) es → AreRead names items from ds faults → AreRead names (items ++ i ∷ []) after behind faults
+more_read names i {items = items} {from = from} {after = after} {ds = ds} {es = es} {behind = behind} {faults = faults} n many from_is ds_is read are =
     let all = read_after names i are read in
     let mine : after ≡ from ++ replicate (length es) i = from_is ∙ ap (λ m. from ++ replicate m i) many in
     subst (λ (v : List FileItem). AreRead names (items ++ i ∷ []) v behind faults) (sym mine) (subst (λ (v : List DeclaredItem). AreRead names (items ++ i ∷ []) (from ++ replicate (length es) i) v faults) (sym ds_is) all)

@@ -31,20 +31,22 @@ file_of source = record { name = source.name.now; bytes = source.bytes.now }
 abbrev pub most_bytes : ℕ
 most_bytes = 16777216
 
--- These are the declarations of the bytes, which are those of the file of this number.
-pub record HasItems (file : ℕ) (bytes : List ℕ) (items : List FileItem) : Type 0 where
+-- The bytes are those of a file, of this number, that is read, and these are those of its text.
+pub record Has {A : Type 0} (Are : ℕ → List ℕ → List A → Type 0) (file : ℕ) (bytes : List ℕ) (own : List A) : Type 0 where
   pub short : length bytes ≤ most_bytes
   pub utf8 : IsUtf8 bytes
-  pub items_are : AreItemsOf file (text_of_file bytes) items
+  pub are : Are file (text_of_file bytes) own
   pub shallow : (span : Span) → ¬ (OpensTooDeep (text_of_file bytes) span)
 
--- these are the impls by hand of the bytes, which are those of the file of this number
-abbrev pub HasImpls : ℕ → List ℕ → List FileImpl → Type 0
-HasImpls file bytes impls = AreImplsOf file (text_of_file bytes) impls
+-- its declarations, its impls by hand, and its aliases
+abbrev pub HasItems : ℕ → List ℕ → List FileItem → Type 0
+HasItems = Has AreItemsOf
 
--- and these its aliases
+abbrev pub HasImpls : ℕ → List ℕ → List FileImpl → Type 0
+HasImpls = Has AreImplsOf
+
 abbrev pub HasAliases : ℕ → List ℕ → List FileAlias → Type 0
-HasAliases file bytes aliases = AreAliasesOf file (text_of_file bytes) aliases
+HasAliases = Has AreAliasesOf
 
 -- the span is empty, and stands at the end of the text
 abbrev pub IsEndOf : List ℕ → Span → Type 0

@@ -9,6 +9,7 @@ use Rattle.syntax.specs.Items.{DeclaredItem}
 use Rattle.syntax.specs.Source.{Reads, NestsTooDeep, IsTooDeep, IsUnreadable}
 use Rattle.telling.specs.declared.told.Told.{Told}
 use Rattle.texts.specs.declared.span.Span.{Span}
+use Rattle.prepare.specs.Blanks.{text_read}
 use Rattle.prepare.specs.declared.file_items.FileItem.{FileItem}
 use Rattle.gathering.specs.Telling.{told_by}
 
@@ -33,7 +34,7 @@ told_of names i d = told_by (file_name names i.file) i.place i.text d
 -- Of the declarations of files each is read from its own text, in order: these are read, each from that one, and this is told of the others.
 pub data AreRead (names : List (List ℕ)) : (items from : List FileItem) → List DeclaredItem → List Told → Type 0 where
   nothing_read : AreRead names [] [] [] []
-  is_read : {i : FileItem} {items from : List FileItem} {es ds : List DeclaredItem} {faults : List Told} → IsReadAs i.text es → AreRead names items from ds faults
+  is_read : {i : FileItem} {items from : List FileItem} {es ds : List DeclaredItem} {faults : List Told} → IsReadAs (text_read i) es → AreRead names items from ds faults
       → AreRead names (i ∷ items) (replicate (length es) i ++ from) (es ++ ds) faults
-  is_refused : {i : FileItem} {items from : List FileItem} {ds : List DeclaredItem} {faults : List Told} {d : List DiangosticsInner} → IsRefusedText i.text (Refused d) → AreRead names items from ds faults
+  is_refused : {i : FileItem} {items from : List FileItem} {ds : List DeclaredItem} {faults : List Told} {d : List DiangosticsInner} → IsRefusedText (text_read i) (Refused d) → AreRead names items from ds faults
       → AreRead names (i ∷ items) from ds (told_of names i d ∷ faults)

@@ -5,11 +5,12 @@ ghost use Rattle.diag.specs.Refusal.{Refuses, RefusesNone};
 ghost use Rattle.renaming.specs.Refusals.{HaveNoRows};
 ghost use Rattle.syntax.specs.Items.{declarations_view};
 ghost use Rattle.syntax.specs.Named.{AreNamed};
+ghost use Rattle.prepare.specs.Blanks.{text_read};
 ghost use Rattle.gathering.specs.Reading.{IsReadAs, IsRefusedText, file_name, told_of, AreRead};
 
 use crate::fault::told_by;
 use diag::{DeriveError, Diagnostics};
-use prepare::FileItem;
+use prepare::{FileItem, with_blanks};
 use renaming::rows_of;
 use std::alloc::{AllocError, Global};
 use syntax::{Declarations, parse_declarations, read_fields_are_named};
@@ -27,13 +28,26 @@ pub struct Reading<'i> {
 }
 
 /// What the text declares, where the names in it have rows.
-fn read_text(alloc: Global, text: &str) -> Result<Declarations, DeriveError>
+fn declared_in(alloc: Global, text: &str) -> Result<Declarations, DeriveError>
     ensures read { IfOk result (λ ds. IsReadAs text.now (declarations_view ds)) }
     ensures refused { Refuses result (IsRefusedText text.now) }
 {
     let declarations = parse_declarations(alloc, text)?;
     let _rows = rows_of(alloc, &declarations)?;
     Ok(declarations)
+}
+
+/// What the text of the declaration declares, as it is read: with blanks where it is not.
+fn read_item(alloc: Global, item: &FileItem) -> Result<Declarations, DeriveError>
+    ensures read { IfOk result (λ ds. IsReadAs (text_read item.now) (declarations_view ds)) }
+    ensures refused { Refuses result (IsRefusedText (text_read item.now)) }
+{
+    let unread = item.unread.as_slice();
+    if unread.is_empty() {
+        return declared_in(alloc, item.text.as_str());
+    }
+    let text = with_blanks(alloc, unread, item.end, item.text.as_str())?;
+    declared_in(alloc, text.as_str())
 }
 
 /// The name of the file of the number; of none that there is, the empty name.
@@ -63,7 +77,7 @@ fn push_times<'i>(
     Ok(())
 }
 
-/// The declarations, each read from its own text, and what is told of those whose text is refused: it has no reading, or
+/// The declarations, each read from its own text, but for what is not read of it, and what is told of those whose text is refused: it has no reading, or
 /// nests too deep, or a name in it is given by a rule by which serde makes none.
 pub fn read_items<'i>(
     alloc: Global,
@@ -80,7 +94,7 @@ pub fn read_items<'i>(
     let mut from = List::new(alloc);
     let mut faults = List::new(alloc);
     for item in items {
-        match read_text(alloc, item.text.as_str()) {
+        match read_item(alloc, item) {
             Ok(declarations) => {
                 push_times(&mut from, item, declarations.items.len())?;
                 read.append(declarations.items)?;

@@ -1,5 +1,6 @@
 mod Answered
 mod Behind
+mod Blanked
 mod Groups
 mod Feeds
 mod Few

@@ -1,6 +1,6 @@
 -- The names in the types of a declaration's fields (The Rust Reference, "Structs", "Enumerations"; serde, "Field attributes",
 -- "Variant attributes").
-use Rattle.std.specs.Prelude.{ℕ, List, [], ◌∷◌, drop, codes, Bool, true, false, cond, ◌&&◌, ◌||◌, ◌==◌}
+use Rattle.std.specs.Prelude.{ℕ, List, [], ◌∷◌, drop, codes, Bool, true, false, not, cond, ◌&&◌, ◌||◌, ◌==◌}
 use Rattle.std.specs.List.{flat_map, list_any}
 use Rattle.tokens.specs.Trees.{Tree}
 use Rattle.prepare.specs.Trees.{is_word, is_sign, is_round, is_square, is_curly, inside, before}
@@ -39,21 +39,21 @@ from_comma in_types was opened (t ∷ ts) = cond (is_comma opened t) (t ∷ ts) 
 
 -- ---- skipped
 
--- a schema has no member and no variant for what has one of these
-abbrev pub is_skip : Tree → Bool
-is_skip t = is_word (codes "skip") t || (is_word (codes "skip_serializing") t || is_word (codes "skip_deserializing") t)
+-- a schema has no member and no variant for what has one of these; what has the first has none for serde, too
+abbrev pub is_skip : (wholly : Bool) → Tree → Bool
+is_skip wholly t = is_word (codes "skip") t || (not wholly && (is_word (codes "skip_serializing") t || is_word (codes "skip_deserializing") t))
 
 -- `serde(..)` with one of them, and that in square brackets
-abbrev pub are_serde_skip : List Tree → Bool
-are_serde_skip (t ∷ u ∷ []) = is_word (codes "serde") t && is_round u && list_any is_skip (inside u)
-are_serde_skip _ = false
+abbrev pub are_serde_skip : (wholly : Bool) → List Tree → Bool
+are_serde_skip wholly (t ∷ u ∷ []) = is_word (codes "serde") t && is_round u && list_any (is_skip wholly) (inside u)
+are_serde_skip wholly _ = false
 
-abbrev pub is_serde_skip : Tree → Bool
-is_serde_skip t = is_square t && are_serde_skip (inside t)
+abbrev pub is_serde_skip : (wholly : Bool) → Tree → Bool
+is_serde_skip wholly t = is_square t && are_serde_skip wholly (inside t)
 
 -- it is among the attributes
-abbrev pub are_skipping : List Tree → Bool
-are_skipping attributes = list_any is_serde_skip attributes
+abbrev pub are_skipping : (wholly : Bool) → List Tree → Bool
+are_skipping wholly attributes = list_any (is_serde_skip wholly) attributes
 
 -- ---- fields and variants
 
@@ -61,7 +61,7 @@ are_skipping attributes = list_any is_serde_skip attributes
 abbrev pub named_names : List Tree → List (List ℕ)
 named_names part =
     let start = after_attributes part in
-    cond (are_skipping (before part start)) [] (all_names (drop 2 (after_visibility start)))
+    cond (are_skipping false (before part start)) [] (all_names (drop 2 (after_visibility start)))
 
 -- attr* vis? type
 abbrev pub unnamed_names : List Tree → List (List ℕ)
@@ -80,7 +80,7 @@ content_names _ = []
 abbrev pub variant_names : List Tree → List (List ℕ)
 variant_names part =
     let start = after_attributes part in
-    cond (are_skipping (before part start)) [] (content_names start)
+    cond (are_skipping false (before part start)) [] (content_names start)
 
 -- a group of variants
 abbrev pub variants_names : Tree → List (List ℕ)

@@ -18,9 +18,9 @@ IsSlice source span = IsCharBoundary source span.start × IsCharBoundary source 
 
 -- so does that of the type of an alias
 abbrev pub HasOwnSlice : List ℕ → Stands → Type 0
-HasOwnSlice source (Declared node at) = Unit {0}
+HasOwnSlice source (Declared node at unread) = Unit {0}
 HasOwnSlice source (Written k name) = Unit {0}
-HasOwnSlice source (Alias node of) = IsSlice source of
+HasOwnSlice source (Alias node of is_import) = IsSlice source of
 
 abbrev pub HasSlices : List ℕ → Standing → Type 0
 HasSlices source s = IsSlice source s.span × HasOwnSlice source s.what
@@ -30,16 +30,18 @@ AreSlices source standing = AllByRecursion (HasSlices source) standing
 
 -- the declaration with the bytes of its span, in the file of this number; nothing else is one
 abbrev pub item_of_span : ℕ → List ℕ → Span → Stands → List FileItem
-item_of_span file source span (Declared node at) =
+item_of_span file source span (Declared node at unread) =
     record {
       file = file;
       declared = node;
       text = slice_range source span.start span.end;
       place = place_between source span.start span.end;
       line = line_of source at.start;
+      end = span.end;
+      unread = unread;
     } ∷ []
 item_of_span file source span (Written k name) = []
-item_of_span file source span (Alias node of) = []
+item_of_span file source span (Alias node of is_import) = []
 
 abbrev pub items_in : ℕ → List ℕ → List Standing → List FileItem
 items_in file source standing = flat_map (λ s. item_of_span file source s.span s.what) standing
@@ -50,10 +52,10 @@ AreItemsOf file source items = (standing : List Standing) × IsFile source stand
 
 -- the impl by hand with the bytes of its span; nothing else is one
 abbrev pub impl_of_span : ℕ → List ℕ → Span → Stands → List FileImpl
-impl_of_span file source span (Declared node at) = []
+impl_of_span file source span (Declared node at unread) = []
 impl_of_span file source span (Written k name) =
     record { file = file; of = k; name = name; text = slice_range source span.start span.end; place = place_between source span.start span.end } ∷ []
-impl_of_span file source span (Alias node of) = []
+impl_of_span file source span (Alias node of is_import) = []
 
 abbrev pub impls_in : ℕ → List ℕ → List Standing → List FileImpl
 impls_in file source standing = flat_map (λ s. impl_of_span file source s.span s.what) standing
@@ -64,12 +66,13 @@ AreImplsOf file source impls = (standing : List Standing) × IsFile source stand
 
 -- the alias with the bytes of its span and of its type; nothing else is one
 abbrev pub alias_of_span : ℕ → List ℕ → Span → Stands → List FileAlias
-alias_of_span file source span (Declared node at) = []
+alias_of_span file source span (Declared node at unread) = []
 alias_of_span file source span (Written k name) = []
-alias_of_span file source span (Alias node of) =
+alias_of_span file source span (Alias node of is_import) =
     record {
       file = file;
       declared = node;
+      is_import = is_import;
       of = slice_range source of.start of.end;
       text = slice_range source span.start span.end;
       place = place_between source span.start span.end;

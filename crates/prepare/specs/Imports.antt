@@ -1,5 +1,5 @@
 -- The names that a `use` gives to what it brings in (The Rust Reference, "Use declarations").
-use Rattle.std.specs.Prelude.{List, [], ◌∷◌, ◌++◌, codes, false, cond, Option, Some, None}
+use Rattle.std.specs.Prelude.{List, [], ◌∷◌, ◌++◌, codes, true, false, cond, Option, Some, None}
 use Rattle.tokens.specs.Trees.{Tree, token, group, Trees, end, ◌▸◌}
 use Rattle.words.specs.Words.{cover}
 use Rattle.written_types.specs.declared.written.Ident.{Ident}
@@ -10,7 +10,7 @@ use Rattle.prepare.specs.Forms.{ident}
 
 -- what `B as C` gives, by the two trees beside the `as` and the names that they are: C is a name for B
 abbrev pub import_of : Option Ident → Option Ident → Tree → Tree → List Standing
-import_of (Some of) (Some name) t v = record { what = Alias (record { name = name.text; is_first = false; names = of.text ∷ [] }) (span_of t); span = cover (span_of t) (span_of v) } ∷ []
+import_of (Some of) (Some name) t v = record { what = Alias (record { name = name.text; is_first = false; names = of.text ∷ [] }) (span_of t) true; span = cover (span_of t) (span_of v) } ∷ []
 import_of (Some of) None t v = []
 import_of None name t v = []
 

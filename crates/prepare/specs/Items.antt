@@ -1,5 +1,5 @@
 -- Items with their attributes (The Rust Reference, "Items", "Conditional compilation").
-use Rattle.std.specs.Prelude.{◌≡◌, List, [], ◌∷◌, map, false, cond, option_map, Option, Some, None, Result, Ok, Err}
+use Rattle.std.specs.Prelude.{◌≡◌, List, [], ◌∷◌, map, true, false, cond, option_map, Option, Some, None, Result, Ok, Err}
 use Rattle.std.specs.Borrow.{Bor}
 use Rattle.tokens.specs.declared.token.TokenTree.{TokenTree}
 use Rattle.tokens.specs.Trees.{Tree, trees_of, tree_view}
@@ -18,6 +18,7 @@ use Rattle.prepare.specs.Trees.{before, but_last, extent}
 use Rattle.prepare.specs.Attributes.{after_attributes, after_visibility, is_for_tests}
 use Rattle.prepare.specs.Fields.{declared_names}
 use Rattle.prepare.specs.Traits.{are_deriving}
+use Rattle.prepare.specs.Unread.{unread_of}
 use Rattle.prepare.specs.Heads.{outside, Implemented, implemented}
 use Rattle.prepare.specs.Imports.{imports_of}
 use Rattle.prepare.specs.Names.{all_names}
@@ -44,7 +45,7 @@ read_view p = (item_view p.0, map tree_view p.1.now)
 -- the declaration of the name, by its attributes, by what stands from its keyword on, and by what stands behind its name; it
 -- is first where it derives one of the traits
 abbrev pub declared_of : Ident → (attributes keyword behind : List Tree) → Node
-declared_of name attributes keyword behind = record { name = name.text; is_first = are_deriving attributes; names = declared_names keyword behind }
+declared_of name attributes keyword behind = record { name = name.text; is_first = are_deriving true attributes; names = declared_names keyword behind }
 
 -- an impl with that head of one of serde's traits, for the type of that name; any other does not stand
 abbrev pub written_by : (head : List Tree) → Option Implemented → Item
@@ -58,12 +59,14 @@ written_of head = written_by head (implemented (outside head))
 abbrev pub named_of : Ident → (whole of : List Tree) → Standing
 named_of name whole of =
     let own : List Tree = but_last of in
-    record { what = Alias (record { name = name.text; is_first = false; names = all_names own }) (extent own); span = extent (but_last whole) }
+    record { what = Alias (record { name = name.text; is_first = false; names = all_names own }) (extent own) false; span = extent (but_last whole) }
 
 -- The item of the form among these trees, from its start, behind its attributes, and from its keyword on; it ends before the rest.
 abbrev pub item_of : (ts start keyword : List Tree) → Form → List Tree → Item
 item_of ts start keyword (declares name behind) rest =
-    stands (record { what = Declared (declared_of name (before ts start) keyword (before behind rest)) name.span; span = extent (before ts rest) })
+    let attributes : List Tree = before ts start in
+    let own : List Tree = before behind rest in
+    stands (record { what = Declared (declared_of name attributes keyword own) name.span (unread_of attributes keyword own); span = extent (before ts rest) })
 item_of ts start keyword implements rest = written_of (but_last (before keyword rest))
 item_of ts start keyword (form.holds inside) rest = holds inside
 item_of ts start keyword (names name behind) rest = stands (named_of name (before keyword rest) (before behind rest))

@@ -1,4 +1,5 @@
 pub mod Attributes
+pub mod Blanks
 pub mod Ends
 pub mod Fields
 pub mod FileItems
@@ -11,6 +12,8 @@ pub mod Kinds
 pub mod Names
 pub mod Prepared
 pub mod Returns
+pub mod Skipped
 pub mod Standing
 pub mod Traits
 pub mod Trees
+pub mod Unread

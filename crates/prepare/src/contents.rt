@@ -13,7 +13,7 @@ use crate::item::{Standing, Stands};
 use diag::DeriveError;
 use std::alloc::{AllocError, Global};
 use telling::Places;
-use texts::{List, Text};
+use texts::{List, Span, Text};
 
 /// The declarations of a file, its impls of serde's traits that are written by hand, and its aliases.
 #[derive(Debug, Drop)]
@@ -21,6 +21,19 @@ pub struct FileParts {
     pub items: List<FileItem>,
     pub impls: List<FileImpl>,
     pub aliases: List<FileAlias>,
+}
+
+/// The spans.
+fn copied(alloc: Global, spans: &[Span]) -> Result<List<Span>, AllocError>
+    ensures { IfOk result (λ copy. copy ≡ spans.now) }
+{
+    let mut copy = List::new(alloc);
+    let mut rest = spans;
+    'spans: while let [first, after @ ..] = rest {
+        copy.push(*first)?;
+        rest = after;
+    }
+    Ok(copy)
 }
 
 /// Adds what stands.
@@ -46,12 +59,14 @@ fn push_part(
     let place = places.place(alloc, start, end)?;
     let text = Text::new(alloc, &source[start..end])?;
     match &standing.what {
-        Stands::Declared(node, name) => parts.items.push(FileItem {
+        Stands::Declared(node, name, unread) => parts.items.push(FileItem {
             file,
             declared: node.copy(alloc)?,
             text,
             place,
             line: places.line(name.start),
+            end,
+            unread: copied(alloc, unread.as_slice())?,
         }),
         Stands::Written(of, name) => parts.impls.push(FileImpl {
             file,
@@ -60,9 +75,10 @@ fn push_part(
             text,
             place,
         }),
-        Stands::Alias(node, of) => parts.aliases.push(FileAlias {
+        Stands::Alias(node, of, is_import) => parts.aliases.push(FileAlias {
             file,
             declared: node.copy(alloc)?,
+            is_import: *is_import,
             of: Text::new(alloc, &source[of.start..of.end])?,
             text,
             place,

@@ -16,7 +16,7 @@ use texts::{List, Text};
 use tokens::TokenTree;
 
 /// Whether a part ends with the tree, inside of so many `<`.
-fn is_comma(tree: &TokenTree, opened: usize) -> bool
+pub(crate) fn is_comma(tree: &TokenTree, opened: usize) -> bool
     ensures { result ≡ is_comma opened (tree_view tree.now) }
 {
     opened == 0 && is_sign(tree, ",")
@@ -76,22 +76,21 @@ fn parts(
     Ok(found)
 }
 
-/// Whether a schema has no member and no variant for what has the word.
-fn is_skip(tree: &TokenTree) -> bool
-    ensures { result ≡ is_skip (tree_view tree.now) }
+/// Whether a schema has no member and no variant for what has the word, or wholly: whether serde has none for it, too.
+fn is_skip(tree: &TokenTree, wholly: bool) -> bool
+    ensures { result ≡ is_skip wholly (tree_view tree.now) }
 {
     is_word(tree, "skip")
-        || is_word(tree, "skip_serializing")
-        || is_word(tree, "skip_deserializing")
+        || (!wholly && (is_word(tree, "skip_serializing") || is_word(tree, "skip_deserializing")))
 }
 
 /// Whether such a word is among the trees.
-fn has_skip(trees: &[TokenTree]) -> bool
-    ensures { result ≡ list_any is_skip (map tree_view trees.now) }
+fn has_skip(trees: &[TokenTree], wholly: bool) -> bool
+    ensures { result ≡ list_any (is_skip wholly) (map tree_view trees.now) }
 {
     let mut rest = trees;
     'trees: while let [first, after @ ..] = rest {
-        if is_skip(first) {
+        if is_skip(first, wholly) {
             return true;
         }
         rest = after;
@@ -100,31 +99,31 @@ fn has_skip(trees: &[TokenTree]) -> bool
 }
 
 /// Whether the trees are `serde(..)` with such a word.
-fn are_serde_skip(trees: &[TokenTree]) -> bool
-    ensures { result ≡ are_serde_skip (map tree_view trees.now) }
+fn are_serde_skip(trees: &[TokenTree], wholly: bool) -> bool
+    ensures { result ≡ are_serde_skip wholly (map tree_view trees.now) }
 {
     match trees {
         [first, second] => {
-            is_word(first, "serde") && is_round(second) && has_skip(inside(second))
+            is_word(first, "serde") && is_round(second) && has_skip(inside(second), wholly)
         }
         _ => false,
     }
 }
 
 /// Whether the tree is that in square brackets.
-fn is_serde_skip(tree: &TokenTree) -> bool
-    ensures { result ≡ is_serde_skip (tree_view tree.now) }
+fn is_serde_skip(tree: &TokenTree, wholly: bool) -> bool
+    ensures { result ≡ is_serde_skip wholly (tree_view tree.now) }
 {
-    is_square(tree) && are_serde_skip(inside(tree))
+    is_square(tree) && are_serde_skip(inside(tree), wholly)
 }
 
 /// Whether it is among the attributes.
-fn are_skipping(attributes: &[TokenTree]) -> bool
-    ensures { result ≡ are_skipping (map tree_view attributes.now) }
+pub(crate) fn are_skipping(attributes: &[TokenTree], wholly: bool) -> bool
+    ensures { result ≡ are_skipping wholly (map tree_view attributes.now) }
 {
     let mut rest = attributes;
     'trees: while let [first, after @ ..] = rest {
-        if is_serde_skip(first) {
+        if is_serde_skip(first, wholly) {
             return true;
         }
         rest = after;
@@ -137,7 +136,7 @@ fn push_named(alloc: Global, names: &mut List<Text>, part: &[TokenTree]) -> Resu
     ensures { OnOk result (names.new ≡ names.old ++ named_names (map tree_view part.now)) }
 {
     let start = after_attributes(part);
-    if are_skipping(before(part, start)) {
+    if are_skipping(before(part, start), false) {
         return Ok(());
     }
     let field = after_visibility(start);
@@ -199,7 +198,7 @@ fn push_variant(alloc: Global, names: &mut List<Text>, part: &[TokenTree]) -> Re
     ensures { OnOk result (names.new ≡ names.old ++ variant_names (map tree_view part.now)) }
 {
     let start = after_attributes(part);
-    if are_skipping(before(part, start)) {
+    if are_skipping(before(part, start), false) {
         return Ok(());
     }
     match start {

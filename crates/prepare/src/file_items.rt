@@ -1,7 +1,7 @@
 use crate::serde_trait::SerdeTrait;
 use reaching::Node;
 use telling::Place;
-use texts::Text;
+use texts::{List, Span, Text};
 
 /// A declaration of a struct or an enum in one of several files. It is first where it derives one of the traits by which
 /// declarations are chosen, and it names what stands in the types of its fields, but for those that serde skips.
@@ -16,6 +16,11 @@ pub struct FileItem {
     pub place: Place,
     /// The line of its name, from 1.
     pub line: usize,
+    /// How many bytes of the file there are up to the end of that text.
+    pub end: usize,
+    /// The bytes of the file that are not read of that text: the defaults of its parameters, the arguments of `PhantomData`,
+    /// fields with names that serde skips, and `repr` where that does nothing to its JSON.
+    pub unread: List<Span>,
 }
 
 /// An impl of a trait of serde's that is written by hand in one of several files.
@@ -39,6 +44,8 @@ pub struct FileAlias {
     pub file: usize,
     /// It is not first, and names what stands in its type.
     pub declared: Node,
+    /// Whether a `use` gives the name.
+    pub is_import: bool,
     /// The text of the type.
     pub of: Text,
     /// Its own text: from the word `type` to the end of the type, or `B as C`.

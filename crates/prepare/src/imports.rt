@@ -35,7 +35,7 @@ fn push_import(
                 names,
             };
             standing.push(Standing {
-                what: Stands::Alias(node, span_of(of)),
+                what: Stands::Alias(node, span_of(of), true),
                 span: covering(span_of(of), span_of(name)),
             })
         }

@@ -9,12 +9,13 @@ use tokens::TokenTree;
 pub enum Stands {
     /// A declaration of a struct or an enum. It is first where it derives one of the traits by which declarations are chosen,
     /// and it names the identifiers in the types of its fields, but for those that serde skips.
-    /// The span is that of its name.
-    Declared(Node, Span),
+    /// The span is that of its name. The others are those of its trees that are not read.
+    Declared(Node, Span, List<Span>),
     /// An impl of the trait that is written by hand, with the last name of the path of the type that it is for.
     Written(SerdeTrait, Text),
-    /// A name for a type, with the identifiers in that, and the bytes of the type. It is not first.
-    Alias(Node, Span),
+    /// A name for a type, with the identifiers in that, and the bytes of the type. It is not first. Last stands whether a
+    /// `use` gives it.
+    Alias(Node, Span, bool),
 }
 
 /// What stands, with its bytes: of a declaration from the first attribute or doc comment to the end, of an impl from the word

@@ -29,6 +29,11 @@
 //! word `Serialize` or `Deserialize` right before `for`, and behind that a path up to `where` or the block: words but for `dyn`,
 //! and `::`. Its type is named by the last name of the path.
 //!
+//! Of a declaration some trees are not read, since its JSON does not depend on them: from a `=` among its parameters, outside of
+//! other `<` and `>`, up to the next comma or the end of the parameters; the arguments of `PhantomData`; fields with names that
+//! have `#[serde(skip)]`; and `#[repr ..]`, of a struct, and of an enum of which an attribute derives `Serialize` or
+//! `Deserialize`.
+//!
 //! Names for types stand too, as aliases: that of a `type` item with `=` right behind it, for what stands between that and the
 //! `;`; and each C of `B as C` in a `use`, at any depth, where both are names, for B. A `type` item with anything else in front
 //! of its `=`, as parameters, passes as a line.
@@ -39,6 +44,7 @@
 #![tactic(auto)]
 
 mod attributes;
+mod blanks;
 mod contents;
 mod ends;
 mod fields;
@@ -55,10 +61,13 @@ mod names;
 mod previous;
 mod serde_trait;
 mod single;
+mod skipped;
 mod standing;
 mod traits;
 mod trees;
+mod unread;
 
+pub use blanks::with_blanks;
 pub use contents::{FileParts, file_parts};
 pub use file_items::{FileAlias, FileImpl, FileItem};
 pub use law::{aliases_are_one, items_are_one};

@@ -17,6 +17,7 @@ use crate::item::{Item, Standing, Stands, Stop};
 use crate::names::push_all_names;
 use crate::traits::are_deriving;
 use crate::trees::{before, but_last, extent};
+use crate::unread::unread_of;
 use reaching::Node;
 use std::alloc::{AllocError, Global};
 use texts::{List, Span};
@@ -36,7 +37,7 @@ fn declared_of(
         ≡ declared_of (ident_of name.now) (map tree_view attributes.now) (map tree_view keyword.now)
         (map tree_view behind.now)) }
 {
-    let is_first = are_deriving(alloc, attributes)?;
+    let is_first = are_deriving(alloc, attributes, true)?;
     let mut names = List::new(alloc);
     push_declared(alloc, &mut names, keyword, behind)?;
     let ident = ident_of(alloc, name)?;
@@ -82,7 +83,7 @@ fn named_of(
         names,
     };
     Ok(Standing {
-        what: Stands::Alias(node, extent(own)),
+        what: Stands::Alias(node, extent(own), false),
         span: extent(but_last(whole)),
     })
 }
@@ -112,9 +113,11 @@ fn item_of<'t>(
     match form {
         Form::Declares(name, behind) => {
             let attributes = before(trees, start);
-            let declared = declared_of(alloc, name, attributes, keyword, before(behind, rest))?;
+            let behind = before(behind, rest);
+            let declared = declared_of(alloc, name, attributes, keyword, behind)?;
+            let unread = unread_of(alloc, attributes, keyword, behind)?;
             Ok(Item::Stands(Standing {
-                what: Stands::Declared(declared, name.span),
+                what: Stands::Declared(declared, name.span, unread),
                 span: extent(before(trees, rest)),
             }))
         }

@@ -1,5 +1,5 @@
 -- Names that an alias has, and something else, too.
-use Rattle.std.specs.Prelude.{ℕ, List, [], ◌∷◌, ◌++◌, map, length, get_or, bytes_eq, codes, Bool, false, not, ◌||◌, is_some, Option, Some, None}
+use Rattle.std.specs.Prelude.{ℕ, List, [], ◌∷◌, ◌++◌, map, get_or, bytes_eq, codes, Bool, false, not, ◌||◌, is_some, Option, Some, None}
 use Rattle.std.specs.List.{filter, flat_map, list_any}
 use Rattle.texts.specs.Names.{place_in}
 use Rattle.scopes.specs.Names.{declared_names, texts, duplicate_message}
@@ -45,7 +45,7 @@ told_alias names a label message help = record (told_at (file_name names a.file)
 abbrev pub told_clash : (names : List (List ℕ)) → FileAlias → Told
 told_clash names a = told_alias names a (codes "DuplicateName") (duplicate_message a.declared.name) (clash_help (alias_line names a))
 
--- what is told of aliases whose names the declarations have, or another alias
+-- what is told of aliases whose names a declaration, a type parameter or another alias has, or of whose types a type parameter has a name
 abbrev pub clash_lines : (names : List (List ℕ)) → List DeclaredItem → List FileAlias → List Told
 clash_lines names ds aliases = map (told_clash names) (filter (clashes ds aliases) aliases)
 

@@ -1,4 +1,6 @@
 pub mod Clashes
+pub mod Deriving
+pub mod Imports
 pub mod Laws
 pub mod Lists
 pub mod Selected

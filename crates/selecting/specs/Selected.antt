@@ -1,5 +1,5 @@
 -- Which declarations of all files are selected, and which aliases with them.
-use Rattle.std.specs.Prelude.{◌≡◌, ◌⊎◌, ℕ, List, [], ◌∷◌, ◌++◌, map, Bool, true, false, not, cond, ◌&&◌, ◌||◌, is_none, Option, None}
+use Rattle.std.specs.Prelude.{◌≡◌, ◌⊎◌, ℕ, List, ◌++◌, map, Bool, true, false, not, cond, ◌&&◌, ◌||◌, is_none, Option, None}
 use Rattle.reaching.specs.Reached.{IsReached}
 use Rattle.reaching.specs.declared.node.Node.{Node}
 use Rattle.texts.specs.Names.{is_in, place_in}
@@ -7,6 +7,8 @@ use Rattle.configuration.specs.Aliases.{last_names}
 use Rattle.configuration.specs.Configuration.{Alias, Configuration}
 use Rattle.prepare.specs.declared.file_items.FileItem.{FileItem}
 use Rattle.prepare.specs.declared.file_items.FileAlias.{FileAlias}
+use Rattle.selecting.specs.Deriving.{deriving_names, items_staying}
+use Rattle.selecting.specs.Imports.{type_names, aliases_among}
 use Rattle.selecting.specs.Lists.{AreThose, is_empty}
 use Rattle.selecting.specs.Standing.{items_left, aliases_left, own_names, is_own, items_counting, aliases_counting, unknown_only, unknown_exclude}
 use Rattle.selecting.specs.Types.{NamesType}
@@ -58,10 +60,16 @@ abbrev pub AreKnown : Selection → (names : List (List ℕ)) → List FileItem 
 AreKnown s names items aliases = (unknown_only items s.only ≡ None) × (unknown_exclude names items aliases s.exclude ≡ None)
 
 -- Of what files of these names have, what is excluded does not count, nor what a stand-in has under a name that the user's own
--- files declare; of the rest those declarations are selected, and the aliases that they need.
+-- files declare, nor a declaration that gives way to one that derives the traits, nor the name that a `use` gives to what is no
+-- such type; of the rest those declarations are selected, and the aliases that they need.
 abbrev pub AreSelected : Selection → Configuration → (names : List (List ℕ)) → (items chosen : List FileItem) → (aliases needed : List FileAlias) → Type 0
 AreSelected s c names items chosen aliases needed =
     let items_in : List FileItem = items_left s names items in
     let aliases_in : List FileAlias = aliases_left s names aliases in
     let own : List ℕ → Option ℕ = λ name. place_in name (own_names s items_in aliases_in) in
-    AreChosen s c (items_counting own s items_in) chosen (aliases_counting own s aliases_in) needed
+    let items_with : List FileItem = items_counting own s items_in in
+    let with_traits : List ℕ → Option ℕ = λ name. place_in name (deriving_names items_with) in
+    let items_by : List FileItem = items_staying with_traits s items_with in
+    let aliases_by : List FileAlias = aliases_counting own s aliases_in in
+    let declared : List ℕ → Option ℕ = λ name. place_in name (type_names items_by aliases_by) in
+    AreChosen s c items_by chosen (aliases_among declared aliases_by) needed

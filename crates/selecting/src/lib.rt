@@ -2,6 +2,8 @@
 #![tactic(auto)]
 
 mod clashes;
+mod derives;
+mod imports;
 mod known;
 mod law;
 mod nodes;

@@ -7,6 +7,8 @@ ghost use Rattle.selecting.specs.Lists.{AreThose};
 ghost use Rattle.selecting.specs.Selected.{item_node, alias_node, is_chosen, is_needed, IsChosen, IsNeeded, AreChosen, AreSelected};
 ghost use Rattle.selecting.specs.Types.{Adds};
 
+use crate::derives::{deriving_names, items_staying};
+use crate::imports::{aliases_among, type_names};
 use crate::nodes::{is_first, unreached_in};
 use crate::selection::Selection;
 use crate::standing::{aliases_counting, aliases_left, items_counting, items_left, own_names};
@@ -144,7 +146,13 @@ fn select_in<'f>(
     let own = own_names(alloc, selection, items.as_slice(), aliases.as_slice())?;
     let own = name_places(alloc, own.as_slice())?;
     let items = items_counting(alloc, selection, &own, items.as_slice())?;
+    let with_traits = deriving_names(alloc, items.as_slice())?;
+    let with_traits = name_places(alloc, with_traits.as_slice())?;
+    let items = items_staying(alloc, selection, &with_traits, items.as_slice())?;
     let aliases = aliases_counting(alloc, selection, &own, aliases.as_slice())?;
+    let declared = type_names(alloc, items.as_slice(), aliases.as_slice())?;
+    let declared = name_places(alloc, declared.as_slice())?;
+    let aliases = aliases_among(alloc, &declared, aliases.as_slice())?;
     choose(
         alloc,
         selection,
@@ -159,8 +167,10 @@ fn select_in<'f>(
 ///
 /// Declarations are selected for themselves, and those that these name, and so on; what names an alias names what its type
 /// names. What is excluded is not selected, and nothing is for its sake. A declaration or an alias of a stand-in does not
-/// count where the user's own files have one of its name; nor does an alias where the configuration has one of its name,
-/// and one whose text is no type, or a path to a type of its own name.
+/// count where the user's own files have one of its name, nor, where those are asked for that derive serde's traits, a
+/// declaration that does not beside one of its name that does; nor does an alias where the configuration has one of its name,
+/// one whose text is no type, or a path to a type of its own name, and one that a `use` gives to what is no type that is
+/// declared, by a declaration or a `type` item, or that is known without one and takes no arguments.
 pub fn select<'f>(
     alloc: Global,
     selection: &Selection,

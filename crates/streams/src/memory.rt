@@ -39,7 +39,7 @@ fn is_among(numbers: &[usize], number: usize) -> bool
     numbers.contains(&number)
 }
 
-/// A source of bytes in memory, of which chosen calls fail.
+/// A source of bytes in memory, of which chosen calls fail: for tests of what a caller does about a fault.
 #[derive(Drop)]
 pub struct MemorySource {
     bytes: Vec<u8>,
@@ -110,7 +110,7 @@ impl Source for MemorySource {
     }
 }
 
-/// A source of bytes in memory that never fails.
+/// A source of bytes in memory that never fails: for a caller that has the input at hand, in place of standard input.
 #[derive(Drop)]
 pub struct HonestSource {
     bytes: Vec<u8>,
@@ -142,7 +142,7 @@ impl Source for HonestSource {
     }
 }
 
-/// A sink that holds its bytes in memory, of which chosen calls fail.
+/// A sink that holds its bytes in memory, of which chosen calls fail: for tests of what a caller does about a fault.
 #[derive(Drop)]
 pub struct MemorySink {
     bytes: Vec<u8>,
@@ -256,7 +256,8 @@ impl Sink for MemorySink {
     }
 }
 
-/// A sink that holds its bytes in memory, and fails only where its room is full.
+/// A sink that holds its bytes in memory, and fails only where its room is full: for a caller that wants what is written, in
+/// place of standard output or standard error.
 #[derive(Drop)]
 pub struct HonestSink {
     bytes: Vec<u8>,

@@ -2,7 +2,7 @@ use Rattle.std.proofs.Common.{◌≡◌, ◌∙◌, ◌⊎◌, ℕ, List, ap, ap
 use Rattle.texts.specs.declared.span.Span.{Span}
 use Rattle.diag.specs.declared.error.DeriveError.TheVariants.{Refused}
 use Rattle.lexing.specs.Cut.{OpensTooDeep, IsDepthError}
-use Rattle.prepare.specs.FileItems.{AreItemsOf}
+use Rattle.prepare.specs.FileItems.{AreItemsOf, AreImplsOf, AreAliasesOf}
 use Rattle.prepare.specs.FileTexts.{text_of_file}
 use Rattle.prepare.specs.Prepared.{IsNoFile}
 use Rattle.telling.specs.declared.part.Place.{Place}
@@ -20,7 +20,29 @@ returns-in-Ok-clause-items c =
     record {
       short = text.0;
       utf8 = text.1;
-      items_are = subst (λ (v : List ℕ). AreItemsOf c.args.file v c.in-Ok.parts.items) is c.in-Ok.ensures.items;
+      are = subst (λ (v : List ℕ). AreItemsOf c.args.file v c.in-Ok.parts.items) is c.in-Ok.ensures.items;
+      shallow = subst (λ (v : List ℕ). (span : Span) → OpensTooDeep v span → ⊥) is c.in-Ok.ensures.shallow;
+    }
+
+pub returns-in-Ok-clause-impls : goal.returns-in-Ok-clause-impls
+returns-in-Ok-clause-impls c =
+    let text = c.in_ok-text.ensures.text in
+    let is : c.as_str.result.now ≡ text_of_file c.args.source.now.bytes.now = c.as_str.ensures ∙ text.2 in
+    record {
+      short = text.0;
+      utf8 = text.1;
+      are = subst (λ (v : List ℕ). AreImplsOf c.args.file v c.in-Ok.parts.impls) is c.in-Ok.ensures.impls;
+      shallow = subst (λ (v : List ℕ). (span : Span) → OpensTooDeep v span → ⊥) is c.in-Ok.ensures.shallow;
+    }
+
+pub returns-in-Ok-clause-aliases : goal.returns-in-Ok-clause-aliases
+returns-in-Ok-clause-aliases c =
+    let text = c.in_ok-text.ensures.text in
+    let is : c.as_str.result.now ≡ text_of_file c.args.source.now.bytes.now = c.as_str.ensures ∙ text.2 in
+    record {
+      short = text.0;
+      utf8 = text.1;
+      are = subst (λ (v : List ℕ). AreAliasesOf c.args.file v c.in-Ok.parts.aliases) is c.in-Ok.ensures.aliases;
       shallow = subst (λ (v : List ℕ). (span : Span) → OpensTooDeep v span → ⊥) is c.in-Ok.ensures.shallow;
     }
 
