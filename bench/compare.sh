@@ -5,8 +5,18 @@
 #
 #     bench/compare.sh
 #
-# ./build makes the program, unless PROGRAM names one, and bench/plain/build the other.
+# ./build makes the program, unless the variable PROGRAM names one, and bench/plain/build the other.
+#
+# The exit status is 0 where all was measured, 1 where a program fails or the documents differ, 2 where there is an argument, and else
+# that of ./build or of cargo.
 set -eu
+if [ $# -gt 0 ]; then
+    case $1 in
+        -h | --help) sed -n '2,/^[^#]/s/^# \{0,1\}//p' "$0" && exit ;;
+    esac
+    echo "bench/compare.sh: $1: it takes no arguments, but for --help" >&2
+    exit 2
+fi
 here=$(cd "$(dirname "$0")/.." && pwd)
 program=${PROGRAM:-$here/crates/schema_gen_cli/out/schema_gen_cli}
 [ -x "$program" ] || "$here/build"

@@ -4,16 +4,31 @@
 #
 #     bench/derive.sh [ascending|descending|references|wide|documented|containers|inlined|attributed|aliased|enums|generics|written]
 #
+# The argument is the form of the sources, references where there is none. ./build makes the program, unless the variable PROGRAM
+# names one.
+#
 # Of aliased each field's type is an alias of the configuration, and each alias has another in its text or is in that of another.
 # Of generics a group is a struct and two generic structs of which it uses three instances: 4 instances in 1 KiB, so 4,096 in 1 MiB.
 # Of written the instances of the same groups are structs of the same names; its last source would be longer than 1 MiB, and is left out.
+#
+# The exit status is 0 where all was measured, 1 where the program fails, 2 where there is no such form, and else that of ./build.
 set -eu
+form=${1:-references}
+case $#:$form in
+    *:-h | *:--help) sed -n '2,/^[^#]/s/^# \{0,1\}//p' "$0" && exit ;;
+    [01]:ascending | [01]:descending | [01]:references | [01]:wide | [01]:documented | [01]:containers) ;;
+    [01]:inlined | [01]:attributed | [01]:aliased | [01]:enums | [01]:generics | [01]:written) ;;
+    *)
+        echo "bench/derive.sh: $*: it takes one form of sources; --help says which there are" >&2
+        exit 2
+        ;;
+esac
 here=$(cd "$(dirname "$0")/.." && pwd)
 program=${PROGRAM:-$here/crates/schema_gen_cli/out/schema_gen_cli}
 [ -x "$program" ] || "$here/build"
 folder=$(mktemp -d)
 trap 'rm -rf "$folder"' EXIT
-python3 - "$program" "$folder" "${1:-references}" <<'PY'
+python3 - "$program" "$folder" "$form" <<'PY'
 import json, os, subprocess, sys, time
 
 program, folder, form = sys.argv[1:]

@@ -1,9 +1,21 @@
 #!/usr/bin/env bash
 # Sources of 1 MiB that are one token, one type, one list or one kind of token, sources at the bounds on instances, and sources and
-# configurations with aliases: the time and the peak memory that the program takes for each, and its status. By hand; no test rests on it.
+# configurations with aliases: the time and the peak memory that the program takes for each, and its exit status. By hand; no test
+# rests on it.
 #
 #     bench/hostile.sh
+#
+# ./build makes the program, unless the variable PROGRAM names one. In the table a status below 0 is the signal that ended a run.
+#
+# The exit status is 0 where all was measured, whatever the table has, 2 where there is an argument, and else that of ./build.
 set -eu
+if [ $# -gt 0 ]; then
+    case $1 in
+        -h | --help) sed -n '2,/^[^#]/s/^# \{0,1\}//p' "$0" && exit ;;
+    esac
+    echo "bench/hostile.sh: $1: it takes no arguments, but for --help" >&2
+    exit 2
+fi
 here=$(cd "$(dirname "$0")/.." && pwd)
 program=${PROGRAM:-$here/crates/schema_gen_cli/out/schema_gen_cli}
 [ -x "$program" ] || "$here/build"
@@ -144,7 +156,7 @@ aliased = [
     ("32 rows used", lambda: fields(100, "A0_0"), lambda: rows(100, 20)),
     ("33 rows", lambda: fields(100, "A"), lambda: {**rows(100, 20), "A": "A0_0"}),
 ]
-# A run ends with a status below 0 where it takes a minute of a processor, and it has 8 GiB.
+# A run ends with an exit status below 0 where it takes a minute of a processor, and it has 8 GiB.
 def bounded():
     resource.setrlimit(resource.RLIMIT_CPU, (60, 60))
     resource.setrlimit(resource.RLIMIT_AS, (8 << 30, 8 << 30))

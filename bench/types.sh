@@ -4,7 +4,16 @@
 # test rests on it. The program is proved and built in a copy of the crates that it stands on, which takes a minute.
 #
 #     bench/types.sh
+#
+# The exit status is that of rt run, 0 where the program is proved and has run, or 2 where there is an argument.
 set -euo pipefail
+if [ $# -gt 0 ]; then
+    case $1 in
+        -h | --help) sed -n '2,/^[^#]/s/^# \{0,1\}//p' "$0" && exit ;;
+    esac
+    echo "bench/types.sh: $1: it takes no arguments, but for --help" >&2
+    exit 2
+fi
 here=$(cd "$(dirname "$0")/.." && pwd)
 folder=$(mktemp -d)
 trap 'rm -rf "$folder"' EXIT

@@ -1,10 +1,22 @@
 #!/usr/bin/env bash
-# Derives the sources of two services, examples/shop.rs and examples/jobs.rs, with their configurations and as whole files without
-# one, and examples/generics.rs, and as whole files examples/aliases.rs with its configuration and examples/uploads.rs with stand-ins,
-# and compares each document with the components beside it by bytes; and the OpenAPI document of the shop, of which it asks with --check, too, whether it is still that.
-# Before that it compares the Rust that README.md quotes with its files.
-# Ends with 0 where all are equal, with 1 where some differ, and else with the program's own status.
+# Compares the Rust that README.md quotes with its files, then derives the examples and compares each document with the one beside
+# them by bytes.
+#
+#     examples/check.sh
+#
+# These are the sources of two services, examples/shop.rs and examples/jobs.rs, with their configurations and as whole files without
+# one; examples/generics.rs; as whole files examples/aliases.rs with its configuration and examples/uploads.rs with stand-ins; and
+# the OpenAPI document of the shop, of which --check is asked, too, whether it is still that.
+#
+# The exit status is 0 where all are equal, 1 where one differs, 2 where there is an argument, and else the program's own.
 set -u
+if [ $# -gt 0 ]; then
+    case $1 in
+        -h | --help) sed -n '2,/^[^#]/s/^# \{0,1\}//p' "$0" && exit ;;
+    esac
+    echo "examples/check.sh: $1: it takes no arguments, but for --help" >&2
+    exit 2
+fi
 cd "$(dirname "${BASH_SOURCE[0]}")/.." || exit 1
 
 found=$(mktemp) || exit 1
@@ -23,10 +35,10 @@ quoted() {
 quoted "The library" crates/library_example/src/pets.rt
 quoted Generics examples/generics.rs
 
-# Compares what a program wrote, behind its status, with the components of the source.
+# Compares what a program wrote, behind its exit status, with the components of the source.
 compare() {
     if [ "$1" -ne 0 ]; then
-        echo "examples/check.sh: $2 ended with status $1 for $3" >&2
+        echo "examples/check.sh: $2 ended with exit status $1 for $3" >&2
         exit "$1"
     fi
     if ! cmp "$found" "$4"; then

@@ -1,11 +1,12 @@
 #!/usr/bin/env bash
 # Compares the stand-ins with the crates that they stand in for. By hand; no test rests on it.
 #
-#     by_hand/stand_ins/check.sh
+#     tests_by_hand/stand_ins/check.sh
 #
 # The program beside this script writes and reads values of the crates' types with serde_json; each value that serde writes must be
-# accepted by the component of its stand-in, and of those that serde does not read each that a schema can tell must be refused. The crates
-# are those that Debian packages, without a network, in /usr/share/cargo/registry or in the folder REGISTRY in the same form:
+# accepted by the component of its stand-in, and of those that serde does not read each that a schema can tell from the others must
+# be refused. The crates are those that Debian packages, without a network, in /usr/share/cargo/registry, or in the folder that the
+# variable REGISTRY names in the same form:
 #
 #     apt-get install librust-{ahash,arc-swap,arrayvec,bigdecimal,bstr+serde1,bytes,bytesize,camino,cargo-platform,chrono,chrono-tz,dashmap}-dev \
 #         librust-{either,encoding-rs,enum-map,enumflags2,enumset,eui48,fnv,fxhash,half,hashlink,indexmap,ipnet,ipnetwork}-dev \
@@ -13,9 +14,19 @@
 #         librust-{regex-automata,rust-decimal,rustc-hash,secrecy,semver,serde,serde-bytes,serde-derive,serde-json,slab}-dev \
 #         librust-{slotmap,string-cache,time,toml,unic-langid,url,uuid,zeroize}-dev
 #
-# Python needs the package jsonschema, with Draft 2020-12. The types of `time` are compared in both of their forms. Ends with 0 where
-# each value is accepted or refused as it should be.
+# Python needs the package jsonschema, with Draft 2020-12. The types of `time` are compared in both of their forms. The variable
+# PROGRAM names another program than ./schema_gen_file.
+#
+# The exit status is 0 where each value is accepted or refused as it should be, 1 where one is not, 2 where there is an argument or no
+# component, and else that of cargo.
 set -eu
+if [ $# -gt 0 ]; then
+    case $1 in
+        -h | --help) sed -n '2,/^[^#]/s/^# \{0,1\}//p' "$0" && exit ;;
+    esac
+    echo "tests_by_hand/stand_ins/check.sh: $1: it takes no arguments, but for --help" >&2
+    exit 2
+fi
 here=$(cd "$(dirname "${BASH_SOURCE[0]}")" && pwd)
 registry=${REGISTRY:-/usr/share/cargo/registry}
 folder=$(mktemp -d)

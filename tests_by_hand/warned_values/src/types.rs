@@ -1,6 +1,6 @@
 //! A type for each line of the tables of docs/SERDE.md: "What is read over, where the JSON is another", "Reading and writing" and
 //! "Types". A declaration is a paragraph, without an empty line in it, and with what is implemented for it by hand. `schema_gen_file`
-//! tells the first hundred warnings; there must be no more.
+//! reports the first hundred warnings; there must be no more.
 //!
 //! Left out: `serde_as(..)` and another derive of `Serialize` and `Deserialize`, which are tools beside serde; and `default`,
 //! `deny_unknown_fields`, `tag` and `content` on a variant, which serde does not compile. What is under `newer` has no values where

@@ -3,10 +3,20 @@
 # python3-jsonschema of Debian, and the JSON Schema of OpenAPI documents in its package openapi-specification. By hand; no test rests
 # on it.
 #
-#     by_hand/strict_validators/check.sh
+#     tests_by_hand/strict_validators/check.sh
 #
-# Ends with 0 where they agree with what is expected, with 1 where they do not, and else with the status of schema_gen_file.
+# The variable OPENAPI names that JSON Schema, where it lies elsewhere.
+#
+# The exit status is 0 where they agree with what is expected, 1 where they do not, 2 where there is an argument, and else that of
+# schema_gen_file.
 set -eu
+if [ $# -gt 0 ]; then
+    case $1 in
+        -h | --help) sed -n '2,/^[^#]/s/^# \{0,1\}//p' "$0" && exit ;;
+    esac
+    echo "tests_by_hand/strict_validators/check.sh: $1: it takes no arguments, but for --help" >&2
+    exit 2
+fi
 here=$(cd "$(dirname "${BASH_SOURCE[0]}")" && pwd)
 cd "$here/../.."
 folder=$(mktemp -d)

@@ -5,17 +5,12 @@
 
 REGISTRY is a folder of crates as Debian packages them: its librust-*-dev packages put them into /usr/share/cargo/registry. Taken is each
 crate of which a file of `src` derives serde's traits, under a condition perhaps. The program reads all .rs files of its `src`, with the
-words `--serde` and with the stand-ins whose crate the sources name as the root of a path, those of the standard library always.
-
-    --program PATH     the program, instead of ./schema_gen_file of this repository
-    --stand-ins FOLDER the folder of the stand-ins, instead of stand_ins; `--stand-ins=` takes none
-    --words WORDS      the words before the files, instead of `--serde`
-    --plain            only crates of which a derive stands under no condition
-    --cases FOLDER     runs nothing, and puts each crate's words into FOLDER, as `rt try --cases` reads them
-    --answers FILE     runs nothing, and reads what `rt try --cases` wrote on standard error
+argument `--serde` and with the stand-ins whose crate the sources name as the root of a path, those of the standard library always.
 
 Where there is a document the crate derives; it describes nothing where no declaration is taken. Else the faults are counted by kinds.
-The program tells the first hundred faults, and of a declaration the first. Behind the totals stands each unknown name, with its crates.
+The program reports the first hundred faults, and of a declaration the first. Behind the totals stands each unknown name, with its crates.
+
+The exit status is 0 whatever the program refuses, and 2 where the arguments are others than these.
 """
 import argparse
 import collections
@@ -54,13 +49,13 @@ def names_root(crate, text):
 
 
 def stand_ins(folder, texts):
-    """Returns the words for the stand-ins of the crates that the sources name."""
+    """Returns the arguments for the stand-ins of the crates that the sources name."""
     named = [file for file in sorted(os.listdir(folder)) if file == "std.rs" or any(names_root(file.removesuffix(".rs"), text) for text in texts)]
     return [f"--stand-in={os.path.realpath(folder)}/{file}" for file in named]
 
 
 def crates(it, registry):
-    """Yields each crate with the words for the program."""
+    """Yields each crate with the arguments for the program."""
     for crate in sorted(os.listdir(registry)):
         paths = sources(f"{registry}/{crate}")
         texts = [re.sub(r"//.*", "", read(path)) for path in paths]
@@ -71,7 +66,7 @@ def crates(it, registry):
 
 
 def answers(path):
-    """Returns the status and the standard error of each case."""
+    """Returns the exit status and the standard error of each case."""
     found, begin = {}, 0
     lines = read(path).split("\n")
     for at, line in enumerate(lines):
@@ -84,7 +79,7 @@ def answers(path):
 
 
 def faults(said):
-    """Returns the faults that the program told: what stands in the line of each, with the line of the source and the help."""
+    """Returns the faults that the program reported: what stands in the line of each, with the line of the source and the help."""
     found = []
     for line in said.split("\n"):
         match = FAULT.match(line)
@@ -142,14 +137,14 @@ def judge(crate, status, said, totals, registry):
 
 def main():
     here = os.path.dirname(os.path.dirname(os.path.dirname(os.path.realpath(__file__))))
-    words = argparse.ArgumentParser(usage=__doc__)
-    words.add_argument("--program", default=f"{here}/schema_gen_file")
-    words.add_argument("--stand-ins", default=f"{here}/stand_ins")
-    words.add_argument("--words", default="--serde")
-    words.add_argument("--plain", action="store_true")
-    words.add_argument("--cases")
-    words.add_argument("--answers")
-    words.add_argument("registry")
+    words = argparse.ArgumentParser(description=__doc__, formatter_class=argparse.RawDescriptionHelpFormatter)
+    words.add_argument("--program", metavar="PATH", default=f"{here}/schema_gen_file", help="the program, instead of ./schema_gen_file of this repository")
+    words.add_argument("--stand-ins", metavar="FOLDER", default=f"{here}/stand_ins", help="the folder of the stand-ins, instead of stand_ins; `--stand-ins=` takes none")
+    words.add_argument("--words", metavar="WORDS", default="--serde", help="the arguments before the files, instead of `--serde`")
+    words.add_argument("--plain", action="store_true", help="only crates of which a derive stands under no condition")
+    words.add_argument("--cases", metavar="FOLDER", help="runs nothing, and puts each crate's arguments into FOLDER, as `rt try --cases` reads them")
+    words.add_argument("--answers", metavar="FILE", help="runs nothing, and reads what `rt try --cases` wrote on standard error")
+    words.add_argument("registry", metavar="REGISTRY", help="a folder of crates")
     it = words.parse_args()
     registry = os.path.realpath(it.registry)
     totals = {"crates": collections.Counter(), "faults": collections.Counter(), "names": {}}
@@ -171,7 +166,7 @@ def main():
     print(f"\n{sum(totals['crates'].values())} crates")
     for which, count in totals["crates"].most_common():
         print(f"    {count} {which}")
-    print(f"{sum(totals['faults'].values())} faults that were told")
+    print(f"{sum(totals['faults'].values())} faults that were reported")
     for which, count in totals["faults"].most_common():
         print(f"    {count} {which}")
     print(f"{len(totals['names'])} unknown names")

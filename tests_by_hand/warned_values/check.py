@@ -4,8 +4,10 @@
     check.py TYPES VALUES DOCUMENT WARNINGS
 
 TYPES is the file of the types, VALUES the lines that the program beside this one prints, DOCUMENT what schema_gen_file writes of
-TYPES, and WARNINGS its standard error. Prints each type with its values and its warnings, then what is wrong. The status is 1 if a
-component rejects a value of a type without a warning that is owed one, or a type has none whose line of the tables promises one.
+TYPES, and WARNINGS its standard error. Prints each type with its values and its warnings, then what is wrong.
+
+The exit status is 0 where nothing is wrong, 1 where a component rejects a value of a type without a warning that is owed one, or a
+type has none whose line of the tables promises one, and 2 where the arguments are others than these.
 """
 import json
 import re
@@ -116,7 +118,14 @@ def warned(path, types):
     return found, others
 
 
-def main(types, values, document, warnings):
+def main(words):
+    if any(it in ("-h", "--help") for it in words):
+        print(__doc__, end="")
+        return 0
+    if len(words) != 4 or any(it.startswith("-") for it in words):
+        print("check.py: its arguments are TYPES VALUES DOCUMENT WARNINGS; --help says what they are", file=sys.stderr)
+        return 2
+    types, values, document, warnings = words
     with open(document, encoding="utf-8") as it:
         schemas = json.load(it)["components"]["schemas"]
     with open(values, encoding="utf-8") as it:
@@ -149,4 +158,4 @@ def main(types, values, document, warnings):
 
 
 if __name__ == "__main__":
-    sys.exit(main(*sys.argv[1:]))
+    sys.exit(main(sys.argv[1:]))

@@ -4,14 +4,22 @@
 # there. By hand; no test rests on it. A warning is owed at each line of the first table and at those of the others that crate
 # `warnings` has, and wherever else a component rejects a value, unless the tables say so of every type of the form.
 #
-#     by_hand/warned_values/check.sh
+#     tests_by_hand/warned_values/check.sh
 #
 # serde and serde_json are those of Debian, where its packages librust-serde-dev, librust-serde-derive-dev and librust-serde-json-dev
-# are there, or in the folder REGISTRY in the same form, and else those of crates.io. Of serde 1.0.152 four types have no values, for
-# which it has no attribute or no JSON. They are only checked to be warned of.
+# are there, or in the folder that the variable REGISTRY names in the same form, and else those of crates.io. Of serde 1.0.152 four
+# types have no values, for which it has no attribute or no JSON. They are only checked to be warned of.
 #
-# Ends with 0 where each warning that is owed is there, with 1 where one is not, and else with the status of schema_gen_file.
+# The exit status is 0 where each warning that is owed is there, 1 where one is not, 2 where there is an argument, and else that of
+# schema_gen_file or of cargo.
 set -eu
+if [ $# -gt 0 ]; then
+    case $1 in
+        -h | --help) sed -n '2,/^[^#]/s/^# \{0,1\}//p' "$0" && exit ;;
+    esac
+    echo "tests_by_hand/warned_values/check.sh: $1: it takes no arguments, but for --help" >&2
+    exit 2
+fi
 here=$(cd "$(dirname "${BASH_SOURCE[0]}")" && pwd)
 registry=${REGISTRY:-/usr/share/cargo/registry}
 folder=$(mktemp -d)
@@ -30,7 +38,7 @@ cp -r "$here/Cargo.toml" "$here/src" "$folder/program"
 (cd "$folder/program" && cargo run --quiet "${words[@]}") >"$folder/values"
 
 cd "$here/../.."
-types=by_hand/warned_values/src/types.rs
+types=tests_by_hand/warned_values/src/types.rs
 status=0
 ./schema_gen_file "$types" >"$folder/document" 2>"$folder/warnings" || status=$?
 if [ "$status" -ne 0 ]; then

@@ -6,24 +6,23 @@
 FOLDER has of each source NAME the documents NAME.any.json, of --any-of, and NAME.one.json, without it, and values NAME.values.json
 that are to be accepted and refused, and openapi.json, which came of the OpenAPI document OPENAPI by --openapi. SCHEMA is the JSON
 Schema of OpenAPI 3.0. The document is one of 3.1, whose schemas are those of Draft 2020-12 of JSON Schema, so they are checked by
-that; what else the document has stands in 3.0 as it does in 3.1. Prints a line for each document. The status is 1 where one is
-otherwise than expected.
+that; what else the document has stands in 3.0 as it does in 3.1. Prints a line for each document.
+
+The exit status is 0 where each is as expected, 1 where one is not, and 2 where the arguments are others than these.
 """
 import glob
 import json
 import os
 import sys
 
-import jsonschema
-
 wrong = 0
 
 
-def say(told, holds):
+def say(found, holds):
     """Prints what was found, and counts it where it is not as expected."""
     global wrong
     wrong += not holds
-    print(("" if holds else "WRONG ") + told)
+    print(("" if holds else "WRONG ") + found)
 
 
 def read(path):
@@ -89,7 +88,18 @@ def named(tree):
             yield from named(it)
 
 
-def main(folder, own, schema):
+def main(words):
+    global jsonschema
+    if any(it in ("-h", "--help") for it in words):
+        print(__doc__, end="")
+        return 0
+    if len(words) != 3 or any(it.startswith("-") for it in words):
+        print("check.py: its arguments are FOLDER OPENAPI SCHEMA; --help says what they are", file=sys.stderr)
+        return 2
+    # (only here, so that --help needs no package)
+    import jsonschema
+
+    folder, own, schema = words
     for path in sorted(glob.glob(f"{folder}/*.any.json")):
         check_values(folder, os.path.basename(path).partition(".")[0])
     if os.path.exists(schema):
@@ -101,4 +111,4 @@ def main(folder, own, schema):
 
 
 if __name__ == "__main__":
-    sys.exit(main(*sys.argv[1:]))
+    sys.exit(main(sys.argv[1:]))

@@ -5,8 +5,10 @@
 
 PROGRAM is schema_gen_file, STAND_INS the folder of the stand-ins, and VALUES are files of lines that the program beside this one prints.
 A struct is made of each stand-in file that has lines, with a field for each type, and its components are made beside the stand-ins.
-Files that declare no common name are taken together. Prints each type with the number of its values, then what is wrong. The status is 1
-if something is, and 2 where a component is missing.
+Files that declare no common name are taken together. Prints each type with the number of its values, then what is wrong.
+
+The exit status is 0 where nothing is wrong, 1 where something is, and 2 where a component is missing or the arguments are others than
+these.
 """
 import json
 import os
@@ -14,8 +16,6 @@ import re
 import subprocess
 import sys
 import tempfile
-
-import jsonschema
 
 # The types that the program itself declares and gives as arguments.
 OWN = "enum Color { Red, Green, Blue }\nenum Right { Read, Write }\nstruct EmptyStaticAtomSet(String);\n"
@@ -62,7 +62,17 @@ def derived(program, folder, files, types):
     return json.loads(ran.stdout)
 
 
-def main(program, folder, *paths):
+def main(words):
+    if any(it in ("-h", "--help") for it in words):
+        print(__doc__, end="")
+        return 0
+    if len(words) < 3 or any(it.startswith("-") for it in words):
+        print("check.py: its arguments are PROGRAM STAND_INS VALUES..; --help says what they are", file=sys.stderr)
+        return 2
+    # (only here, so that --help needs no package)
+    import jsonschema
+
+    program, folder, *paths = words
     rows, types = {}, {}
     for path in paths:
         with open(path, encoding="utf-8") as it:
@@ -98,4 +108,4 @@ def main(program, folder, *paths):
 
 
 if __name__ == "__main__":
-    sys.exit(main(*sys.argv[1:]))
+    sys.exit(main(sys.argv[1:]))
