@@ -1,10 +1,10 @@
 #!/usr/bin/env bash
-# Compares the Rust that README.md quotes with its files, then derives the examples and compares each document with the one beside
+# Compares what README.md and docs/ quote with its files, then derives the examples and compares each document with the one beside
 # them by bytes.
 #
 #     examples/check.sh
 #
-# These are the sources of two services, examples/shop.rs and examples/jobs.rs, with their configurations and as whole files without
+# These are examples/order.rs as a whole file; the sources of two services, examples/shop.rs and examples/jobs.rs, with their configurations and as whole files without
 # one; examples/generics.rs; as whole files examples/aliases.rs with its configuration and examples/uploads.rs with stand-ins; and
 # the OpenAPI document of the shop, of which --check is asked, too, whether it is still that.
 #
@@ -22,18 +22,22 @@ cd "$(dirname "${BASH_SOURCE[0]}")/.." || exit 1
 found=$(mktemp) || exit 1
 trap 'rm -f "$found"' EXIT
 
-# Checks that the Rust of a section of README.md is the text of a file.
+# Checks that the first text of a language in a section of a document is that of a file; of JSON the lines are one.
 quoted() {
-    sed -n "/^## $1\$/,/^## /{/^\`\`\`rust\$/,/^\`\`\`\$/p}" README.md | sed '1d;$d' > "$found"
-    if ! diff "$found" "$2"; then
-        echo "examples/check.sh: README.md quotes another text than $2" >&2
+    sed -n "/^## $2\$/,/^## /{/^\`\`\`$3\$/,/^\`\`\`\$/p}" "$1" | sed '1d;/^```$/,$d' > "$found"
+    if [ "$3" = json ]; then
+        text=$(tr -d '\n' < "$found") && echo "$text" > "$found"
+    fi
+    if ! diff "$found" "$4"; then
+        echo "examples/check.sh: $1 quotes another text than $4" >&2
         exit 1
     fi
-    echo "examples/check.sh: README.md quotes $2"
+    echo "examples/check.sh: $1 quotes $4"
 }
 
-quoted "The library" crates/library_example/src/pets.rt
-quoted Generics examples/generics.rs
+quoted README.md "First run" rust examples/order.rs
+quoted README.md "First run" json examples/order_components.json
+quoted docs/REFERENCE.md Generics rust examples/generics.rs
 
 # Compares what a program wrote, behind its exit status, with the components of the source.
 compare() {
@@ -56,6 +60,8 @@ check() {
     compare $? schema_gen_file "$1" "$3"
 }
 
+./schema_gen_file --serde examples/order.rs > "$found"
+compare $? schema_gen_file examples/order.rs examples/order_components.json
 ./schema_gen derive < examples/generics.rs > "$found"
 compare $? schema_gen examples/generics.rs examples/generics_components.json
 ./schema_gen_file --config examples/aliases_config.json examples/aliases.rs > "$found"
