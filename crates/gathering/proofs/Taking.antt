@@ -5,14 +5,15 @@ use Rattle.prepare.specs.declared.file_items.FileItem.{FileItem}
 use Rattle.telling.specs.declared.told.Told.{Told}
 use Rattle.prepare.specs.FileItems.{AreItemsOf, AreAliasesOf}
 use Rattle.prepare.specs.FileTexts.{text_of_file}
-use Rattle.gathering.specs.Files.{FileOf, HasItems, HasImpls, HasAliases, IsToldOfFile, too_long, no_text, no_file, AreGathered, no_files, has_items, is_told, Have, have_none, has_own, none_told, HaveImpls, HaveAliases, Gathers}
+use Rattle.texts.specs.declared.span.Span.{Span}
+use Rattle.gathering.specs.Files.{FileOf, Has, IsTextOfFile, HasItems, HasImpls, HasAliases, IsToldOfFile, too_long, no_text, no_file, AreGathered, no_files, has_items, is_told, Have, have_none, has_own, none_told, HaveImpls, HaveAliases, Gathers}
 use Rattle.prepare.specs.declared.file_items.FileImpl.{FileImpl}
 use Rattle.prepare.specs.declared.file_items.FileAlias.{FileAlias}
 use Rattle.gathering.specs.declared.gathered.Gathered.{Gathered}
 use Rattle.diag.specs.declared.diagnostics.DiangosticsInner.{DiangosticsInner}
 use Rattle.diag.specs.declared.error.DeriveError.{DeriveError}
 use Rattle.diag.specs.declared.error.DeriveError.TheVariants.{Refused, Memory}
-use Rattle.lexing.specs.Cut.{IsDepthError}
+use Rattle.lexing.specs.Cut.{IsDepthError, OpensTooDeep}
 use Rattle.prepare.specs.Prepared.{IsNoFile}
 use Rattle.gathering.specs.Laws.{GatheredAsOne, AliasedAsOne}
 
@@ -41,16 +42,16 @@ pub named_after : (names : List (List ℕ)) (files : List FileOf) (f : FileOf) �
 named_after names files f e = ap (λ v. v ++ f.name ∷ []) e ∙ sym (map_push (λ f. f.name) files f)
 
 -- one file more, with its own or told of
-module _ {A : Type 0} (Has : ℕ → List ℕ → List A → Type 0) where
-  pub own_after : {n : ℕ} (files : List FileOf) (f : FileOf) {own others : List A} → Have Has n files others → Has (n + length files) f.bytes own → Have Has n (files ++ f ∷ []) (others ++ own)
+module _ {A : Type 0} (HasOwn : ℕ → List ℕ → List A → Type 0) where
+  pub own_after : {n : ℕ} (files : List FileOf) (f : FileOf) {own others : List A} → Have HasOwn n files others → HasOwn (n + length files) f.bytes own → Have HasOwn n (files ++ f ∷ []) (others ++ own)
   own_after {n = n} [] f {own = own} have_none h =
-      let first : Has n f.bytes own = subst (λ m. Has m f.bytes own) (omega arith) h in
-      subst (λ v. Have Has n (f ∷ []) v) (append-nil own) (has_own first have_none)
+      let first : HasOwn n f.bytes own = subst (λ m. HasOwn m f.bytes own) (omega arith) h in
+      subst (λ v. Have HasOwn n (f ∷ []) v) (append-nil own) (has_own first have_none)
   own_after {n = n} (g ∷ files) f {own = own} (has_own {own = mine} {others = rest} k more) h =
-      subst (λ v. Have Has n (g ∷ (files ++ f ∷ [])) v) (sym (append_assoc mine rest own)) (has_own k (own_after {n = suc n} files f more (subst (λ m. Has m f.bytes own) (next n files g) h)))
-  own_after {n = n} (g ∷ files) f {own = own} (none_told k more) h = none_told k (own_after {n = suc n} files f more (subst (λ m. Has m f.bytes own) (next n files g) h))
+      subst (λ v. Have HasOwn n (g ∷ (files ++ f ∷ [])) v) (sym (append_assoc mine rest own)) (has_own k (own_after {n = suc n} files f more (subst (λ m. HasOwn m f.bytes own) (next n files g) h)))
+  own_after {n = n} (g ∷ files) f {own = own} (none_told k more) h = none_told k (own_after {n = suc n} files f more (subst (λ m. HasOwn m f.bytes own) (next n files g) h))
 
-  pub none_after : {n : ℕ} (files : List FileOf) (f : FileOf) {told : Told} {others : List A} → Have Has n files others → IsToldOfFile f told → Have Has n (files ++ f ∷ []) others
+  pub none_after : {n : ℕ} (files : List FileOf) (f : FileOf) {told : Told} {others : List A} → Have HasOwn n files others → IsToldOfFile f told → Have HasOwn n (files ++ f ∷ []) others
   none_after [] f have_none h = none_told h have_none
   none_after {n = n} (g ∷ files) f (has_own k more) h = has_own k (none_after {n = suc n} files f more h)
   none_after {n = n} (g ∷ files) f (none_told k more) h = none_told k (none_after {n = suc n} files f more h)
@@ -78,6 +79,13 @@ gathers_told files f g after told names items impls aliases faults is gathers = 
   impls = subst (HaveImpls 0 (files ++ f ∷ [])) (sym impls) (none_after HasImpls files f gathers.impls is);
   aliases = subst (HaveAliases 0 (files ++ f ∷ [])) (sym aliases) (none_after HasAliases files f gathers.aliases is);
 }
+
+-- what is of the text that is shown is of the bytes, which have that text
+pub has_of : {A : Type 0} (Are : ℕ → List ℕ → List A → Type 0) (file : ℕ) (bytes : List ℕ) {text shown : List ℕ} {own : List A} → shown ≡ text → IsTextOfFile bytes text → Are file shown own
+    → ((span : Span) → OpensTooDeep shown span → ⊥) → Has Are file bytes own
+has_of Are file bytes {own = own} same text are shallow =
+    let is = same ∙ text.2 in
+    record { short = text.0; utf8 = text.1; are = subst (λ v. Are file v own) is are; shallow = subst (λ v. (span : Span) → OpensTooDeep v span → ⊥) is shallow }
 
 -- the error that a refusal is refuses the text
 pub cause_of : (text : List ℕ) (e : DeriveError) (d own : List DiangosticsInner) → e ≡ Refused d → own ≡ d → (e ≡ Memory) ⊎ IsDepthError text e ⊎ IsNoFile text e → IsDepthError text (Refused own) ⊎ IsNoFile text (Refused own)

@@ -1,7 +1,6 @@
 use Rattle.std.proofs.Common.{◌≡◌, ◌∙◌, ◌⊎◌, ℕ, List, ap, ap₂, sym, subst}
-use Rattle.texts.specs.declared.span.Span.{Span}
 use Rattle.diag.specs.declared.error.DeriveError.TheVariants.{Refused}
-use Rattle.lexing.specs.Cut.{OpensTooDeep, IsDepthError}
+use Rattle.lexing.specs.Cut.{IsDepthError}
 use Rattle.prepare.specs.FileItems.{AreItemsOf, AreImplsOf, AreAliasesOf}
 use Rattle.prepare.specs.FileTexts.{text_of_file}
 use Rattle.prepare.specs.Prepared.{IsNoFile}
@@ -10,41 +9,17 @@ use Rattle.gathering.specs.Files.{file_of, IsToldOfFile, no_file}
 use Rattle.telling.specs.declared.told.Told.{Told}
 use Rattle.gathering.specs.Stops.{IsHelpOfStop}
 use Rattle.gathering.specs.Telling.{told_by}
-use Rattle.gathering.proofs.Taking.{cause_of}
+use Rattle.gathering.proofs.Taking.{has_of, cause_of}
 use Rattle.gathering.proofs.gathered.parts_of.Goals as goal
 
 pub returns-in-Ok-clause-items : goal.returns-in-Ok-clause-items
-returns-in-Ok-clause-items c =
-    let text = c.in_ok-text.ensures.text in
-    let is : c.as_str.result.now ≡ text_of_file c.args.source.now.bytes.now = c.as_str.ensures ∙ text.2 in
-    record {
-      short = text.0;
-      utf8 = text.1;
-      are = subst (λ (v : List ℕ). AreItemsOf c.args.file v c.in-Ok.parts.items) is c.in-Ok.ensures.items;
-      shallow = subst (λ (v : List ℕ). (span : Span) → OpensTooDeep v span → ⊥) is c.in-Ok.ensures.shallow;
-    }
+returns-in-Ok-clause-items c = has_of AreItemsOf c.args.file c.args.source.now.bytes.now c.as_str.ensures c.in_ok-text.ensures.text c.in-Ok.ensures.items c.in-Ok.ensures.shallow
 
 pub returns-in-Ok-clause-impls : goal.returns-in-Ok-clause-impls
-returns-in-Ok-clause-impls c =
-    let text = c.in_ok-text.ensures.text in
-    let is : c.as_str.result.now ≡ text_of_file c.args.source.now.bytes.now = c.as_str.ensures ∙ text.2 in
-    record {
-      short = text.0;
-      utf8 = text.1;
-      are = subst (λ (v : List ℕ). AreImplsOf c.args.file v c.in-Ok.parts.impls) is c.in-Ok.ensures.impls;
-      shallow = subst (λ (v : List ℕ). (span : Span) → OpensTooDeep v span → ⊥) is c.in-Ok.ensures.shallow;
-    }
+returns-in-Ok-clause-impls c = has_of AreImplsOf c.args.file c.args.source.now.bytes.now c.as_str.ensures c.in_ok-text.ensures.text c.in-Ok.ensures.impls c.in-Ok.ensures.shallow
 
 pub returns-in-Ok-clause-aliases : goal.returns-in-Ok-clause-aliases
-returns-in-Ok-clause-aliases c =
-    let text = c.in_ok-text.ensures.text in
-    let is : c.as_str.result.now ≡ text_of_file c.args.source.now.bytes.now = c.as_str.ensures ∙ text.2 in
-    record {
-      short = text.0;
-      utf8 = text.1;
-      are = subst (λ (v : List ℕ). AreAliasesOf c.args.file v c.in-Ok.parts.aliases) is c.in-Ok.ensures.aliases;
-      shallow = subst (λ (v : List ℕ). (span : Span) → OpensTooDeep v span → ⊥) is c.in-Ok.ensures.shallow;
-    }
+returns-in-Ok-clause-aliases c = has_of AreAliasesOf c.args.file c.args.source.now.bytes.now c.as_str.ensures c.in_ok-text.ensures.text c.in-Ok.ensures.aliases c.in-Ok.ensures.shallow
 
 pub returns-clause-told : goal.returns-clause-told
 returns-clause-told c =
