@@ -24,9 +24,3 @@ pub enum Pay {
     Cash,
     Card(u64),
 }
-
-impl Order {
-    pub fn count(&self) -> u32 {
-        self.pieces.values().sum()
-    }
-}
