@@ -11,9 +11,8 @@ ghost use Rattle.file_derivation.specs.Helps.{first_help, second_help, feature_h
 use derive_decl::{Feature, first_feature};
 use diag::{Diagnostics, Kind};
 use gathering::{file_name, told_by, unknown_type};
-use prepare::FileItem;
+use prepare::{FileItem, is_in};
 use scopes::Places;
-use selecting::is_in;
 use std::alloc::{AllocError, Global};
 use syntax::Declaration;
 use telling::{Told, place_in};

@@ -4,7 +4,8 @@ ghost use Rattle.std.specs.Prelude.{◌≡◌, ◌≢◌, true, false, None, map
 ghost use Rattle.file_runs.specs.Words.{question_of, question_in, flag_of, valued_of, given_of, is_option, names_input_again, with_value, with_file, with_given, with_flag, with_option, with_word, at_end, nothing_asked, asked, Answers};
 
 use crate::request::{Flag, Misuse, Question, Request, Valued};
-use selecting::{Selection, is_in};
+use prepare::is_in;
+use selecting::Selection;
 use std::alloc::{AllocError, Global};
 use std::mem;
 use texts::{List, Text};

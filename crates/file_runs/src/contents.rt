@@ -10,7 +10,7 @@ use crate::ending::Ending;
 use crate::request::Request;
 use crate::status::Status;
 use files::FileBytes;
-use selecting::is_in;
+use prepare::is_in;
 use std::alloc::Global;
 use streams::{ReadError, Source, read_all};
 

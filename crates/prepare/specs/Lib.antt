@@ -10,6 +10,7 @@ pub mod Imports
 pub mod Items
 pub mod Kinds
 pub mod Names
+pub mod Parameters
 pub mod Prepared
 pub mod Returns
 pub mod Skipped

@@ -4,7 +4,8 @@ use telling::Place;
 use texts::{List, Span, Text};
 
 /// A declaration of a struct or an enum in one of several files. It is first where it derives one of the traits by which
-/// declarations are chosen, and it names what stands in the types of its fields, but for those that serde skips.
+/// declarations are chosen, and it names what stands in the types of its fields, but for its own
+/// parameters and for fields that serde skips.
 #[derive(Debug, Drop)]
 pub struct FileItem {
     /// The number of its file, from 0.

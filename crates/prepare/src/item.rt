@@ -8,7 +8,7 @@ use tokens::TokenTree;
 #[derive(Debug, Drop)]
 pub enum Stands {
     /// A declaration of a struct or an enum. It is first where it derives one of the traits by which declarations are chosen,
-    /// and it names the identifiers in the types of its fields, but for those that serde skips.
+    /// and it names the identifiers in the types of its fields, but for its own parameters and for fields that serde skips.
     /// The span is that of its name. The others are those of its trees that are not read.
     Declared(Node, Span, List<Span>),
     /// An impl of the trait that is written by hand, with the last name of the path of the type that it is for.

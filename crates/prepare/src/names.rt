@@ -11,7 +11,11 @@ use tokens::TokenTree;
 use words::{Word, ident_of, word_of};
 
 /// Adds the name that the word is, if it is one.
-fn push_name(alloc: Global, names: &mut List<Text>, word: Word<'_>) -> Result<(), AllocError>
+pub(crate) fn push_name(
+    alloc: Global,
+    names: &mut List<Text>,
+    word: Word<'_>,
+) -> Result<(), AllocError>
     ensures { OnOk result (names.new ≡ names.old ++ itself (as_name (word_view word.entry))) }
 {
     match word {

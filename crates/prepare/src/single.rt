@@ -15,6 +15,7 @@ use crate::heads::{implemented, outside};
 use crate::imports::push_all_imports;
 use crate::item::{Item, Standing, Stands, Stop};
 use crate::names::push_all_names;
+use crate::parameters::{others_than, parameters};
 use crate::traits::are_deriving;
 use crate::trees::{before, but_last, extent};
 use crate::unread::unread_of;
@@ -38,13 +39,14 @@ fn declared_of(
         (map tree_view behind.now)) }
 {
     let is_first = are_deriving(alloc, attributes, true)?;
+    let own = parameters(alloc, behind)?;
     let mut names = List::new(alloc);
     push_declared(alloc, &mut names, keyword, behind)?;
     let ident = ident_of(alloc, name)?;
     Ok(Node {
         name: ident.text,
         is_first,
-        names,
+        names: others_than(alloc, own.as_slice(), names.as_slice())?,
     })
 }
 

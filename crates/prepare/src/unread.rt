@@ -78,7 +78,7 @@ fn is_without_repr(
 }
 
 /// Whether the tree is the `>` behind the last of parameters, or of arguments.
-fn is_last(tree: &TokenTree, was: Behind, opened: usize) -> bool
+pub(crate) fn is_last(tree: &TokenTree, was: Behind, opened: usize) -> bool
     ensures { result ≡ is_last was opened (tree_view tree.now) }
 {
     opened == 0 && is_sign(tree, ">") && !was.is_minus()

@@ -16,4 +16,4 @@ pub use clashes::{clash_lines, told_deep};
 pub use known::{unknown_exclude, unknown_only};
 pub use law::one_selecting;
 pub use selected::{Selected, select};
-pub use selection::{Selection, is_in};
+pub use selection::Selection;

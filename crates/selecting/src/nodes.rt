@@ -6,9 +6,9 @@ ghost use Rattle.reaching.specs.Reached.{nodes_of, AreUnreached};
 ghost use Rattle.texts.specs.Names.{is_in};
 ghost use Rattle.selecting.specs.Selected.{is_first, item_node, alias_node};
 
-use crate::selection::{Selection, is_in};
+use crate::selection::Selection;
 use crate::standing::is_own;
-use prepare::{FileAlias, FileItem};
+use prepare::{FileAlias, FileItem, is_in};
 use reaching::{NamesByName, Node, NodeRef, unreached_names};
 use std::alloc::{AllocError, Global};
 use texts::List;

@@ -1,8 +1,5 @@
 //! Which declarations are asked for.
 
-ghost use Rattle.std.specs.Prelude.{◌≡◌};
-ghost use Rattle.texts.specs.Names.{is_in};
-
 use texts::{List, Text};
 
 /// Which declarations are selected: all, or by their traits, or by their names; and those that these name, and so on.
@@ -20,18 +17,4 @@ pub struct Selection {
     /// How many of the files, from the first on, are the user's own. Those behind them are stand-ins: what they declare is
     /// described where it is named, unless the user's own files have a declaration or an alias of the name.
     pub own: usize,
-}
-
-/// Whether the name is one of these.
-pub fn is_in(name: &str, names: &[Text]) -> bool
-    ensures { result ≡ is_in name.now names.now }
-{
-    let mut rest = names;
-    'names: while let [first, after @ ..] = rest {
-        if name == first.as_str() {
-            return true;
-        }
-        rest = after;
-    }
-    false
 }

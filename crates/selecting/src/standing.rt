@@ -5,9 +5,9 @@ ghost use Rattle.std.specs.BTreeMap.{get_by_text};
 ghost use Rattle.std.specs.List.{filter};
 ghost use Rattle.selecting.specs.Standing.{item_names, alias_names, line_text, item_line, alias_line, is_excluded, items_left, aliases_left, is_own, names_itself, own_names, counts, items_counting, aliases_counting};
 
-use crate::selection::{Selection, is_in};
+use crate::selection::Selection;
 use gathering::file_name;
-use prepare::{FileAlias, FileItem};
+use prepare::{FileAlias, FileItem, is_in};
 use std::alloc::{AllocError, Global};
 use std::collections::BTreeMap;
 use texts::{List, Text};
