@@ -9,13 +9,14 @@
 # variable REGISTRY names in the same form:
 #
 #     apt-get install librust-{ahash,arc-swap,arrayvec,bigdecimal,bstr+serde1,bytes,bytesize,camino,cargo-platform,chrono,chrono-tz,dashmap}-dev \
-#         librust-{either,encoding-rs,enum-map,enumflags2,enumset,eui48,fnv,fxhash,half,hashlink,indexmap,ipnet,ipnetwork}-dev \
-#         librust-{kstring,language-tags,linked-hash-map,num-bigint,num-complex,num-rational,ordered-float,parking-lot}-dev \
-#         librust-{regex-automata,rust-decimal,rustc-hash,secrecy,semver,serde,serde-bytes,serde-derive,serde-json,slab}-dev \
-#         librust-{slotmap,string-cache,time,toml,unic-langid,url,uuid,zeroize}-dev
+#         librust-{either,encoding-rs,enum-map,enumflags2,enumset,euclid,eui48,fnv,fxhash,half,hashlink,indexmap,ipnet,ipnetwork}-dev \
+#         librust-{kstring,language-tags,linked-hash-map,lyon-geom,num-bigint,num-complex,num-rational,ordered-float}-dev \
+#         librust-{parking-lot,pktparse,psa-crypto-sys,regex-automata,rust-decimal,rustc-hash,secrecy,semver,serde}-dev \
+#         librust-{serde-bytes,serde-derive,serde-json,slab,slotmap,string-cache,time,toml,trust-dns-proto,trust-dns-resolver}-dev \
+#         librust-{unic-langid,url,uuid,zeroize,zvariant}-dev
 #
-# Python needs the package jsonschema, with Draft 2020-12. The types of `time` are compared in both of their forms. The variable
-# PROGRAM names another program than ./schema_gen_file.
+# Python needs the package jsonschema, with Draft 2020-12. The types of `time` and of `trust-dns-resolver` are compared by two sets of
+# features. The variable PROGRAM names another program than ./schema_gen_file.
 #
 # The exit status is 0 where each value is accepted or refused as it should be, 1 where one is not, 2 where there is an argument or no
 # component, and else that of cargo.
@@ -36,7 +37,8 @@ words=(--quiet --offline --config 'source.crates-io.replace-with="debian"' --con
 mkdir "$folder/program"
 cp -r "$here/Cargo.toml" "$here/src" "$folder/program"
 (cd "$folder/program" && cargo run "${words[@]}") >"$folder/values"
-(cd "$folder/program" && cargo run "${words[@]}" --features time_texts) | grep '"file":"time"' >"$folder/texts"
+(cd "$folder/program" && cargo run "${words[@]}" --features time_texts,dns_protocols) |
+    grep -E '"file":"(time|trust_dns_resolver)"' >"$folder/others"
 
 cd "$here/../.."
-python3 "$here/check.py" "${PROGRAM:-./schema_gen_file}" stand_ins "$folder/values" "$folder/texts"
+python3 "$here/check.py" "${PROGRAM:-./schema_gen_file}" stand_ins "$folder/values" "$folder/others"

@@ -188,7 +188,7 @@ fn numbers() {
 }
 
 #[derive(EnumSetType, Debug)]
-enum Color {
+pub enum Color {
     Red,
     Green,
     Blue,
@@ -196,7 +196,7 @@ enum Color {
 
 #[derive(BitFlags, Clone, Copy, Debug, Enum, Serialize, Deserialize, PartialEq)]
 #[repr(u8)]
-enum Right {
+pub enum Right {
     Read = 1,
     Write = 128,
 }

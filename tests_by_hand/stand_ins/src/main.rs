@@ -2,7 +2,9 @@
 //! with it and what the schema owes it, and the value. What serde does is shown here: a line is printed only where it is so.
 
 mod crates;
+mod geometry;
 mod standard;
+mod wires;
 
 use serde::de::DeserializeOwned;
 use serde::Serialize;
@@ -109,4 +111,6 @@ where
 fn main() {
     standard::print();
     crates::print();
+    geometry::print();
+    wires::print();
 }
