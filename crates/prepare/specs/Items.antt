@@ -19,6 +19,7 @@ use Rattle.prepare.specs.Attributes.{after_attributes, after_visibility, is_for_
 use Rattle.prepare.specs.Fields.{declared_names}
 use Rattle.prepare.specs.Parameters.{parameters, others_than}
 use Rattle.prepare.specs.Traits.{are_deriving}
+use Rattle.prepare.specs.declared.traits.Traits.TheVariants.{SerdeOrSchema}
 use Rattle.prepare.specs.Unread.{unread_of}
 use Rattle.prepare.specs.Heads.{outside, Implemented, implemented}
 use Rattle.prepare.specs.Imports.{imports_of}
@@ -46,7 +47,7 @@ read_view p = (item_view p.0, map tree_view p.1.now)
 -- the declaration of the name, by its attributes, by what stands from its keyword on, and by what stands behind its name; it
 -- is first where it derives one of the traits
 abbrev pub declared_of : Ident → (attributes keyword behind : List Tree) → Node
-declared_of name attributes keyword behind = record { name = name.text; is_first = are_deriving true attributes; names = others_than (parameters behind) (declared_names keyword behind) }
+declared_of name attributes keyword behind = record { name = name.text; is_first = are_deriving SerdeOrSchema attributes; names = others_than (parameters behind) (declared_names keyword behind) }
 
 -- an impl with that head of one of serde's traits, for the type of that name; any other does not stand
 abbrev pub written_by : (head : List Tree) → Option Implemented → Item

@@ -12,6 +12,7 @@ use Rattle.prepare.specs.Ends.{behind, angles, is_minus}
 use Rattle.prepare.specs.Fields.{is_comma}
 use Rattle.prepare.specs.Skipped.{span_if, declared_skips}
 use Rattle.prepare.specs.Traits.{are_deriving}
+use Rattle.prepare.specs.declared.traits.Traits.TheVariants.{Serde, SerdeRepr}
 
 -- ---- `repr`
 
@@ -33,9 +34,9 @@ abbrev pub begins_with : List ℕ → List Tree → Bool
 begins_with text [] = false
 begins_with text (t ∷ ts) = is_word text t
 
--- the JSON does not depend on `repr`: that of a struct, and that of which a derive of serde's makes the impl
+-- the JSON does not depend on `repr`: that of a struct, and that of which a derive of serde's makes the impl, and none of serde_repr's
 abbrev pub is_without_repr : (attributes keyword : List Tree) → Bool
-is_without_repr attributes keyword = begins_with (codes "struct") keyword || are_deriving false attributes
+is_without_repr attributes keyword = begins_with (codes "struct") keyword || (not (are_deriving SerdeRepr attributes) && are_deriving Serde attributes)
 
 -- ---- defaults of parameters
 

@@ -32,7 +32,7 @@
 //! Of a declaration some trees are not read, since its JSON does not depend on them: from a `=` among its parameters, outside of
 //! other `<` and `>`, up to the next comma or the end of the parameters; the arguments of `PhantomData`; fields with names that
 //! have `#[serde(skip)]`; and `#[repr ..]`, of a struct, and of an enum of which an attribute derives `Serialize` or
-//! `Deserialize`.
+//! `Deserialize` and none `Serialize_repr` or `Deserialize_repr`.
 //!
 //! Names for types stand too, as aliases: that of a `type` item with `=` right behind it, for what stands between that and the
 //! `;`; and each C of `B as C` in a `use`, at any depth, where both are names, for B. A `type` item with anything else in front

@@ -16,7 +16,7 @@ use crate::imports::push_all_imports;
 use crate::item::{Item, Standing, Stands, Stop};
 use crate::names::push_all_names;
 use crate::parameters::{others_than, parameters};
-use crate::traits::are_deriving;
+use crate::traits::{Traits, are_deriving};
 use crate::trees::{before, but_last, extent};
 use crate::unread::unread_of;
 use reaching::Node;
@@ -38,7 +38,7 @@ fn declared_of(
         ≡ declared_of (ident_of name.now) (map tree_view attributes.now) (map tree_view keyword.now)
         (map tree_view behind.now)) }
 {
-    let is_first = are_deriving(alloc, attributes, true)?;
+    let is_first = are_deriving(alloc, attributes, Traits::SerdeOrSchema)?;
     let own = parameters(alloc, behind)?;
     let mut names = List::new(alloc);
     push_declared(alloc, &mut names, keyword, behind)?;

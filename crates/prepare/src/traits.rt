@@ -1,4 +1,4 @@
-//! Attributes that derive serde's traits, or utoipa's.
+//! Attributes that derive serde's traits, utoipa's or serde_repr's.
 
 ghost use Rattle.std.specs.Prelude.{◌≡◌, map, IfOk};
 ghost use Rattle.tokens.specs.Trees.{tree_view, trees_view};
@@ -11,20 +11,35 @@ use std::alloc::{AllocError, Global};
 use texts::{List, Text};
 use tokens::{Bracket, TokenTree};
 
-/// Whether the trait is one of serde's, or, where that counts, utoipa's.
-fn is_trait(name: &str, schemas: bool) -> bool
-    ensures { result ≡ is_trait schemas name.now }
+/// Which traits a derive is to name.
+#[derive(Clone, Copy, Debug, PartialEq, Eq)]
+pub(crate) enum Traits {
+    /// serde's.
+    Serde,
+    /// serde's, or utoipa's `ToSchema`.
+    SerdeOrSchema,
+    /// serde_repr's.
+    SerdeRepr,
+}
+
+/// Whether the trait is one of these.
+fn is_trait(name: &str, traits: Traits) -> bool
+    ensures { result ≡ is_trait traits name.now }
 {
-    matches!(name, "Serialize" | "Deserialize") || (schemas && name == "ToSchema")
+    match traits {
+        Traits::Serde => matches!(name, "Serialize" | "Deserialize"),
+        Traits::SerdeOrSchema => matches!(name, "Serialize" | "Deserialize" | "ToSchema"),
+        Traits::SerdeRepr => matches!(name, "Serialize_repr" | "Deserialize_repr"),
+    }
 }
 
 /// Whether one of the names is such a trait.
-fn is_any_trait(names: &[Text], schemas: bool) -> bool
-    ensures { result ≡ is_any_trait schemas names.now }
+fn is_any_trait(names: &[Text], traits: Traits) -> bool
+    ensures { result ≡ is_any_trait traits names.now }
 {
     let mut rest = names;
     'names: while let [first, after @ ..] = rest {
-        if is_trait(first.as_str(), schemas) {
+        if is_trait(first.as_str(), traits) {
             return true;
         }
         rest = after;
@@ -33,13 +48,13 @@ fn is_any_trait(names: &[Text], schemas: bool) -> bool
 }
 
 /// Whether such a trait is named in the trees, at any depth.
-fn name_traits(alloc: Global, trees: &[TokenTree], schemas: bool) -> Result<bool, AllocError>
+fn name_traits(alloc: Global, trees: &[TokenTree], traits: Traits) -> Result<bool, AllocError>
     ensures { IfOk result
-        (λ found. found ≡ is_any_trait schemas (names_of (trees_view trees.now))) }
+        (λ found. found ≡ is_any_trait traits (names_of (trees_view trees.now))) }
 {
     let mut names = List::new(alloc);
     push_all_names(alloc, &mut names, trees)?;
-    Ok(is_any_trait(names.as_slice(), schemas))
+    Ok(is_any_trait(names.as_slice(), traits))
 }
 
 /// Whether the trees go on with a group in round brackets that derives such a trait behind this tree: `derive(..)`, or
@@ -49,19 +64,19 @@ fn group_derives(
     alloc: Global,
     tree: &TokenTree,
     rest: &[TokenTree],
-    schemas: bool,
+    traits: Traits,
 ) -> Result<bool, AllocError>
     ensures { IfOk result (λ found. found
-        ≡ group_derives schemas (tree_view tree.now) (trees_view rest.now)) }
+        ≡ group_derives traits (tree_view tree.now) (trees_view rest.now)) }
 {
     match rest {
         [TokenTree::Group(group), ..] => match group.bracket {
             Bracket::Round => {
                 if is_word(tree, "derive") {
-                    return name_traits(alloc, group.trees.as_slice(), schemas);
+                    return name_traits(alloc, group.trees.as_slice(), traits);
                 }
                 if is_word(tree, "cfg_attr") {
-                    return derives(alloc, group.trees.as_slice(), schemas);
+                    return derives(alloc, group.trees.as_slice(), traits);
                 }
                 Ok(false)
             }
@@ -73,12 +88,12 @@ fn group_derives(
 
 /// Whether such a group stands in the trees.
 #[cycle(derives)]
-fn derives(alloc: Global, trees: &[TokenTree], schemas: bool) -> Result<bool, AllocError>
-    ensures { IfOk result (λ found. found ≡ derives schemas (trees_view trees.now)) }
+fn derives(alloc: Global, trees: &[TokenTree], traits: Traits) -> Result<bool, AllocError>
+    ensures { IfOk result (λ found. found ≡ derives traits (trees_view trees.now)) }
 {
     let mut rest = trees;
     'trees: while let [first, after @ ..] = rest {
-        if group_derives(alloc, first, after, schemas)? {
+        if group_derives(alloc, first, after, traits)? {
             return Ok(true);
         }
         rest = after;
@@ -87,12 +102,12 @@ fn derives(alloc: Global, trees: &[TokenTree], schemas: bool) -> Result<bool, Al
 }
 
 /// Whether the tree is what stands behind the `#` of an attribute that derives such a trait.
-fn is_deriving(alloc: Global, tree: &TokenTree, schemas: bool) -> Result<bool, AllocError>
-    ensures { IfOk result (λ found. found ≡ is_deriving schemas (tree_view tree.now)) }
+fn is_deriving(alloc: Global, tree: &TokenTree, traits: Traits) -> Result<bool, AllocError>
+    ensures { IfOk result (λ found. found ≡ is_deriving traits (tree_view tree.now)) }
 {
     match tree {
         TokenTree::Group(group) => match group.bracket {
-            Bracket::Square => derives(alloc, group.trees.as_slice(), schemas),
+            Bracket::Square => derives(alloc, group.trees.as_slice(), traits),
             _ => Ok(false),
         },
         TokenTree::Token(_) => Ok(false),
@@ -103,14 +118,14 @@ fn is_deriving(alloc: Global, tree: &TokenTree, schemas: bool) -> Result<bool, A
 pub(crate) fn are_deriving(
     alloc: Global,
     attributes: &[TokenTree],
-    schemas: bool,
+    traits: Traits,
 ) -> Result<bool, AllocError>
     ensures { IfOk result
-        (λ found. found ≡ are_deriving schemas (map tree_view attributes.now)) }
+        (λ found. found ≡ are_deriving traits (map tree_view attributes.now)) }
 {
     let mut rest = attributes;
     'trees: while let [first, after @ ..] = rest {
-        if is_deriving(alloc, first, schemas)? {
+        if is_deriving(alloc, first, traits)? {
             return Ok(true);
         }
         rest = after;

@@ -9,7 +9,7 @@ use crate::ends::angles;
 use crate::fields::is_comma;
 use crate::previous::Behind;
 use crate::skipped::{push_if, push_skips};
-use crate::traits::are_deriving;
+use crate::traits::{Traits, are_deriving};
 use crate::trees::{is_sign, is_word, span_of};
 use std::alloc::{AllocError, Global};
 use texts::{List, Span};
@@ -62,7 +62,8 @@ fn begins_with(trees: &[TokenTree], text: &str) -> bool
     }
 }
 
-/// Whether the JSON does not depend on `repr`: that of a struct, and that of which a derive of serde's makes the impl.
+/// Whether the JSON does not depend on `repr`: that of a struct, and that of which a derive of serde's makes the impl, and none
+/// of serde_repr's.
 fn is_without_repr(
     alloc: Global,
     attributes: &[TokenTree],
@@ -74,7 +75,10 @@ fn is_without_repr(
     if begins_with(keyword, "struct") {
         return Ok(true);
     }
-    are_deriving(alloc, attributes, false)
+    if are_deriving(alloc, attributes, Traits::SerdeRepr)? {
+        return Ok(false);
+    }
+    are_deriving(alloc, attributes, Traits::Serde)
 }
 
 /// Whether the tree is the `>` behind the last of parameters, or of arguments.

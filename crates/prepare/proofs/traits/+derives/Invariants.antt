@@ -4,7 +4,7 @@ use Rattle.prepare.specs.Traits.{derives}
 use Rattle.prepare.proofs.traits.+derives.Given as goal
 
 abbrev pub invariant-derives-trees : goal.invariant-derives-trees
-invariant-derives-trees l = (derives l.schemas (trees_view l.rest) ≡ derives l.schemas (trees_view l.trees)) × (depth (trees_view l.rest) ≤ depth (trees_view l.trees))
+invariant-derives-trees l = (derives l.traits (trees_view l.rest) ≡ derives l.traits (trees_view l.trees)) × (depth (trees_view l.rest) ≤ depth (trees_view l.trees))
 
 abbrev pub decreases-derives-trees : goal.decreases-derives-trees
 decreases-derives-trees l = length l.rest

@@ -6,4 +6,4 @@ use Rattle.prepare.proofs.traits.name_traits.Goals as goal
 pub returns : goal.returns
 returns c =
     let all = rw c.new-names.ensures at c.in_ok-push_all_names.ensures in
-    c.is_any_trait.ensures ∙ ap (is_any_trait c.args.schemas) (c.as_slice.ensures ∙ all ∙ names_view c.args.trees.now)
+    c.is_any_trait.ensures ∙ ap (is_any_trait c.args.traits) (c.as_slice.ensures ∙ all ∙ names_view c.args.trees.now)
