@@ -1,0 +1,130 @@
+-- A body is plain exactly if nothing is in the way.
+use Rattle.std.proofs.Common.{◌≡◌, ◌≢◌, ◌↔◌, List, [], ◌∷◌, Bool, true, false, cond, Option, Some, None, IsTrue, refl}
+use Rattle.std.specs.Option.{option_or}
+use Rattle.leaves.specs.Leaves.{kind_of}
+use Rattle.leaves.specs.declared.leaf.LeafKind.{LeafKind}
+use Rattle.leaves.specs.declared.leaf.LeafKind.TheVariants as kinds
+use Rattle.open_types.specs.Open.{Open, Opens, leaf, any_value, free_object, tuple, items, set, map_of, option, through, named, no_types, more_types}
+use Rattle.shapes.specs.Declarations.{FormOf, named_fields, unnamed_fields, no_fields, VariantOf, BodyOf, fields, units, variants, DeclarationOf, declaration_at, form_types}
+use Rattle.shapes.specs.Plain.{IsNames, IsKey, IsPlainType, ArePlainTypes, AreAllPlain, IsPlainForm, IsOpenStruct, IsContent, AreContent, CanBeTagged, IsPlainVariant, ArePlainVariants, KeepsVariant}
+use Rattle.shapes.specs.declared.tagging.Tagging.{Tagging}
+use Rattle.shapes.specs.declared.tagging.Tagging.TheVariants.{External, Internal, Untagged}
+use Rattle.plainness.specs.declared.unplain.Obstacle.{Obstacle}
+use Rattle.plainness.specs.declared.unplain.Obstacle.TheVariants as obstacles
+use Rattle.plainness.specs.Laws.{ObstaclesAreExact}
+use Rattle.plainness.specs.Obstacles.{is_names, is_text, is_key, leaf_obstacle, key_obstacle, type_obstacle, types_obstacle, all_obstacle, form_obstacle, is_open_struct, is_content, are_content, content_obstacle, variant_obstacle, variants_obstacle, kept_obstacle}
+
+-- ---- nothing, something, two and a test
+
+abbrev IsClear : Option Obstacle → Type 0
+IsClear o = o ≡ None
+
+nothing : IsClear None ↔ Unit {0}
+nothing = (λ e. tt, λ u. refl)
+
+something : (x : Obstacle) → IsClear (Some x) ↔ ⊥
+something x = (λ e. cc, λ h. absurd h)
+
+both_clear : {P Q : Type 0} (o p : Option Obstacle) → IsClear o ↔ P → IsClear p ↔ Q → IsClear (option_or o p) ↔ (P × Q)
+both_clear None p f g = (λ e. (f.0 refl, g.0 e), λ h. g.1 h.1)
+both_clear (Some x) p f g = (λ e. absurd ((something x).0 e), λ h. absurd ((something x).0 (f.1 h.0)))
+
+unless : {P : Type 0} (b : Bool) (x : Obstacle) → IsTrue b ↔ P → IsClear (cond b None (Some x)) ↔ P
+unless true x f = (λ e. f.0 refl, λ h. refl)
+unless false x f = (λ e. absurd ((something x).0 e), λ h. cc (f.1 h))
+
+yes : IsTrue true ↔ Unit {0}
+yes = (λ e. tt, λ u. refl)
+
+no : IsTrue false ↔ ⊥
+no = (λ e. cc, λ h. absurd h)
+
+-- ---- keys
+
+text_exact : (k : LeafKind) → IsTrue (is_text k) ↔ (k ≡ kinds.Text)
+text_exact kinds.Text = (λ e. refl, λ e. refl)
+text_exact _ = (λ e. cc, λ e. cc)
+
+names_exact : (body : BodyOf) → IsTrue (is_names body) ↔ IsNames body
+names_exact (units External names) = yes
+names_exact _ = no
+
+key_exact : (ss : List DeclarationOf) (t : Open) → IsTrue (is_key ss t) ↔ IsKey ss t
+key_exact ss (leaf x) = text_exact (kind_of x)
+key_exact ss (through h t) = key_exact ss t
+key_exact ss (named d ts) = names_exact (declaration_at ss d).body
+key_exact ss _ = no
+
+-- ---- types
+
+float_exact : (k : LeafKind) → IsClear (leaf_obstacle k) ↔ (k ≢ kinds.Float)
+float_exact kinds.Float = (λ e. cc, λ n. absurd (n refl))
+float_exact _ = (λ e f. cc, λ n. refl)
+
+-- two of which the second is two are three
+of_three : {A P Q R : Type 0} → A ↔ (P × (Q × R)) → A ↔ (P × Q × R)
+of_three f = (λ a. let g = f.0 a in (g.0, g.1.0, g.1.1), λ h. f.1 (h.0, (h.1, h.2)))
+
+mutual
+  type_exact : (ss : List DeclarationOf) (t : Open) → IsClear (type_obstacle ss t) ↔ IsPlainType ss t
+  type_exact ss (leaf x) = float_exact (kind_of x)
+  type_exact ss any_value = nothing
+  type_exact ss free_object = nothing
+  type_exact ss (tuple ts) = types_exact ss ts
+  type_exact ss (items h t) = type_exact ss t
+  type_exact ss (set h t) = type_exact ss t
+  type_exact ss (map_of h k t) = of_three (both_clear (key_obstacle (is_key ss k)) _ (unless (is_key ss k) obstacles.MapKey (key_exact ss k)) (both_clear (type_obstacle ss k) (type_obstacle ss t) (type_exact ss k) (type_exact ss t)))
+  type_exact ss (option t) = type_exact ss t
+  type_exact ss (through h t) = type_exact ss t
+  type_exact ss (named d ts) = types_exact ss ts
+  type_exact ss _ = something obstacles.Unit
+
+  types_exact : (ss : List DeclarationOf) (ts : Opens) → IsClear (types_obstacle ss ts) ↔ ArePlainTypes ss ts
+  types_exact ss no_types = nothing
+  types_exact ss (more_types t ts) = both_clear (type_obstacle ss t) (types_obstacle ss ts) (type_exact ss t) (types_exact ss ts)
+
+all_exact : (ss : List DeclarationOf) (ts : List Open) → IsClear (all_obstacle ss ts) ↔ AreAllPlain ss ts
+all_exact ss [] = nothing
+all_exact ss (t ∷ ts) = both_clear (type_obstacle ss t) (all_obstacle ss ts) (type_exact ss t) (all_exact ss ts)
+
+-- ---- bodies
+
+form_exact : (ss : List DeclarationOf) (form : FormOf) → IsClear (form_obstacle ss form) ↔ IsPlainForm ss form
+form_exact ss no_fields = something obstacles.Unit
+form_exact ss (named_fields denies ms) = all_exact ss (form_types (named_fields denies ms))
+form_exact ss (unnamed_fields ts) = all_exact ss ts
+
+open_exact : (body : BodyOf) → IsTrue (is_open_struct body) ↔ IsOpenStruct body
+open_exact (fields (named_fields false ms)) = yes
+open_exact _ = no
+
+content_exact : (ss : List DeclarationOf) (t : Open) → IsTrue (is_content ss t) ↔ IsContent ss t
+content_exact ss (through h t) = content_exact ss t
+content_exact ss (named d ts) = open_exact (declaration_at ss d).body
+content_exact ss _ = no
+
+contents_exact : (ss : List DeclarationOf) (ts : List Open) → IsTrue (are_content ss ts) ↔ AreContent ss ts
+contents_exact ss (t ∷ []) = content_exact ss t
+contents_exact ss _ = no
+
+tag_exact : (ss : List DeclarationOf) (tagging : Tagging) (ts : List Open) → IsClear (content_obstacle ss tagging ts) ↔ CanBeTagged ss tagging (unnamed_fields ts)
+tag_exact ss (Internal tag) ts = unless (are_content ss ts) obstacles.TaggedNewtype (contents_exact ss ts)
+tag_exact ss _ ts = nothing
+
+variant_exact : (ss : List DeclarationOf) (tagging : Tagging) (form : FormOf) → IsClear (variant_obstacle ss tagging form) ↔ IsPlainVariant ss tagging form
+variant_exact ss tagging no_fields = nothing
+variant_exact ss tagging (named_fields denies ms) = form_exact ss (named_fields denies ms)
+variant_exact ss tagging (unnamed_fields ts) = both_clear (form_obstacle ss (unnamed_fields ts)) (content_obstacle ss tagging ts) (form_exact ss (unnamed_fields ts)) (tag_exact ss tagging ts)
+
+variants_exact : (ss : List DeclarationOf) (tagging : Tagging) (xs : List VariantOf) → IsClear (variants_obstacle ss tagging xs) ↔ ArePlainVariants ss tagging xs
+variants_exact ss tagging [] = nothing
+variants_exact ss tagging (x ∷ xs) = both_clear (variant_obstacle ss tagging x.form) (variants_obstacle ss tagging xs) (variant_exact ss tagging x.form) (variants_exact ss tagging xs)
+
+kept_exact : {A : Type 0} (tagging : Tagging) (xs : List A) → IsClear (kept_obstacle tagging xs) ↔ KeepsVariant tagging xs
+kept_exact Untagged [] = something obstacles.NoVariant
+kept_exact _ _ = nothing
+
+pub obstacles_exact : ObstaclesAreExact
+obstacles_exact ss (fields form) = form_exact ss form
+obstacles_exact ss (units tagging names) = kept_exact tagging names
+obstacles_exact ss (variants tagging xs) = both_clear (kept_obstacle tagging xs) (variants_obstacle ss tagging xs) (kept_exact tagging xs) (variants_exact ss tagging xs)

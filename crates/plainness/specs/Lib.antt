@@ -1,0 +1,4 @@
+pub mod Edges
+pub mod Obstacles
+pub mod Laws
+pub mod Unplain

@@ -1,0 +1,105 @@
+-- What in the body of an instance its schema cannot say whole, where something does: the first of it.
+use Rattle.std.specs.Prelude.{List, [], ◌∷◌, Bool, true, false, cond, Option, Some, None}
+use Rattle.std.specs.Option.{option_or}
+use Rattle.leaves.specs.Leaves.{kind_of}
+use Rattle.leaves.specs.declared.leaf.LeafKind.{LeafKind}
+use Rattle.leaves.specs.declared.leaf.LeafKind.TheVariants as kinds
+use Rattle.open_types.specs.Open.{Open, Opens, leaf, any_value, free_object, tuple, items, set, map_of, option, through, named, no_types, more_types}
+use Rattle.shapes.specs.Declarations.{FormOf, named_fields, unnamed_fields, no_fields, VariantOf, BodyOf, fields, units, variants, DeclarationOf, declaration_at, form_types}
+use Rattle.shapes.specs.declared.tagging.Tagging.{Tagging}
+use Rattle.shapes.specs.declared.tagging.Tagging.TheVariants.{External, Internal, Untagged}
+use Rattle.plainness.specs.declared.unplain.Obstacle.{Obstacle}
+use Rattle.plainness.specs.declared.unplain.Obstacle.TheVariants.{Float, MapKey, TaggedNewtype, Unit, NoVariant}
+
+-- ---- types
+
+-- each value of the enum is the name of a variant
+abbrev pub is_names : BodyOf → Bool
+is_names (units External names) = true
+is_names _ = false
+
+abbrev pub is_text : LeafKind → Bool
+is_text kinds.Text = true
+is_text _ = false
+
+-- what serde reads for a map's key is a text
+abbrev pub is_key : List DeclarationOf → Open → Bool
+is_key ss (leaf x) = is_text (kind_of x)
+is_key ss (through h t) = is_key ss t
+is_key ss (named d ts) = is_names (declaration_at ss d).body
+is_key ss _ = false
+
+abbrev pub leaf_obstacle : LeafKind → Option Obstacle
+leaf_obstacle kinds.Float = Some Float
+leaf_obstacle _ = None
+
+abbrev pub key_obstacle : Bool → Option Obstacle
+key_obstacle is_key = cond is_key None (Some MapKey)
+
+-- a float, a key that is no text, or the unit
+abbrev mutual
+  pub type_obstacle : List DeclarationOf → Open → Option Obstacle
+  type_obstacle ss (leaf x) = leaf_obstacle (kind_of x)
+  type_obstacle ss any_value = None
+  type_obstacle ss free_object = None
+  type_obstacle ss (tuple ts) = types_obstacle ss ts
+  type_obstacle ss (items h t) = type_obstacle ss t
+  type_obstacle ss (set h t) = type_obstacle ss t
+  type_obstacle ss (map_of h k t) = option_or (key_obstacle (is_key ss k)) (option_or (type_obstacle ss k) (type_obstacle ss t))
+  type_obstacle ss (option t) = type_obstacle ss t
+  type_obstacle ss (through h t) = type_obstacle ss t
+  type_obstacle ss (named d ts) = types_obstacle ss ts
+  type_obstacle ss _ = Some Unit
+
+  pub types_obstacle : List DeclarationOf → Opens → Option Obstacle
+  types_obstacle ss no_types = None
+  types_obstacle ss (more_types t ts) = option_or (type_obstacle ss t) (types_obstacle ss ts)
+
+abbrev pub all_obstacle : List DeclarationOf → List Open → Option Obstacle
+all_obstacle ss [] = None
+all_obstacle ss (t ∷ ts) = option_or (type_obstacle ss t) (all_obstacle ss ts)
+
+-- ---- bodies
+
+abbrev pub form_obstacle : List DeclarationOf → FormOf → Option Obstacle
+form_obstacle ss no_fields = Some Unit
+form_obstacle ss form = all_obstacle ss (form_types form)
+
+-- a struct with named fields that denies no others
+abbrev pub is_open_struct : BodyOf → Bool
+is_open_struct (fields (named_fields false ms)) = true
+is_open_struct _ = false
+
+-- such a struct, passed through perhaps: a tag may stand among its members
+abbrev pub is_content : List DeclarationOf → Open → Bool
+is_content ss (named d ts) = is_open_struct (declaration_at ss d).body
+is_content ss (through h t) = is_content ss t
+is_content ss _ = false
+
+abbrev pub are_content : List DeclarationOf → List Open → Bool
+are_content ss (t ∷ []) = is_content ss t
+are_content ss _ = false
+
+abbrev pub content_obstacle : List DeclarationOf → Tagging → List Open → Option Obstacle
+content_obstacle ss (Internal tag) ts = cond (are_content ss ts) None (Some TaggedNewtype)
+content_obstacle ss _ ts = None
+
+-- as of a struct, but a variant may have no fields, and its tag has to find a place
+abbrev pub variant_obstacle : List DeclarationOf → Tagging → FormOf → Option Obstacle
+variant_obstacle ss tagging no_fields = None
+variant_obstacle ss tagging (named_fields denies ms) = form_obstacle ss (named_fields denies ms)
+variant_obstacle ss tagging (unnamed_fields ts) = option_or (form_obstacle ss (unnamed_fields ts)) (content_obstacle ss tagging ts)
+
+abbrev pub variants_obstacle : List DeclarationOf → Tagging → List VariantOf → Option Obstacle
+variants_obstacle ss tagging [] = None
+variants_obstacle ss tagging (x ∷ xs) = option_or (variant_obstacle ss tagging x.form) (variants_obstacle ss tagging xs)
+
+-- an untagged enum that keeps no variant
+abbrev pub kept_obstacle : {A : Type 0} → Tagging → List A → Option Obstacle
+kept_obstacle Untagged [] = Some NoVariant
+kept_obstacle _ _ = None
+
+abbrev pub body_obstacle : List DeclarationOf → BodyOf → Option Obstacle
+body_obstacle ss (fields form) = form_obstacle ss form
+body_obstacle ss (units tagging names) = kept_obstacle tagging names
+body_obstacle ss (variants tagging xs) = option_or (kept_obstacle tagging xs) (variants_obstacle ss tagging xs)

@@ -1,0 +1,329 @@
+//! What in the body of an instance its schema cannot say whole.
+
+ghost use Rattle.std.specs.Prelude.{◌≡◌, map, IfOk};
+ghost use Rattle.open_types.specs.Open.{open_view, opens_of, opens_view, substituted};
+ghost use Rattle.shapes.specs.Declarations.{declaration_at, member_types};
+ghost use Rattle.shapes.specs.Instances.{member_over, form_over, variant_over, body_over};
+ghost use Rattle.shapes.specs.Views.{member_view, form_view, variant_view, body_view, declaration_view};
+ghost use Rattle.plainness.specs.Obstacles.{is_names, is_open_struct, is_key, leaf_obstacle, type_obstacle, types_obstacle, all_obstacle, form_obstacle, is_content, are_content, content_obstacle, variant_obstacle, variants_obstacle, kept_obstacle, body_obstacle};
+
+use crate::unplain::Obstacle;
+use leaves::LeafKind;
+use open_types::{ClosedType, OpenType, substitute_first};
+use shapes::{Body, Declaration, Form, Member, Tagging, Variant};
+use std::alloc::{AllocError, Global};
+
+/// Whether each value is the name of a variant.
+fn is_names(body: &Body) -> bool
+    ensures { result ≡ is_names (body_view body.now) }
+{
+    matches!(
+        body,
+        Body::Units {
+            tagging: Tagging::External,
+            ..
+        }
+    )
+}
+
+/// Whether the declaration at the place is an enum of which each value is the name of a variant.
+fn declares_names(declared: &[Declaration], place: usize) -> bool
+    ensures { result ≡ is_names (declaration_at (map declaration_view declared.now) place).body }
+{
+    match declared.get(place) {
+        Some(declaration) => is_names(&declaration.body),
+        None => false,
+    }
+}
+
+/// Whether serde reads a text for the type as a map's key.
+fn is_key(declared: &[Declaration], ty: &OpenType) -> bool
+    ensures { result ≡ is_key (map declaration_view declared.now) (open_view ty.now) }
+{
+    match ty {
+        OpenType::Leaf(leaf) => leaf.kind() == LeafKind::Text,
+        OpenType::Through(_, of) => is_key(declared, of),
+        OpenType::Named(place, _) => declares_names(declared, *place),
+        _ => false,
+    }
+}
+
+fn leaf_obstacle(kind: LeafKind) -> Option<Obstacle>
+    ensures { result ≡ leaf_obstacle kind }
+{
+    match kind {
+        LeafKind::Float => Some(Obstacle::Float),
+        _ => None,
+    }
+}
+
+/// What is in the way in a type without parameters.
+#[cycle(obstacle)]
+fn type_obstacle(declared: &[Declaration], ty: &OpenType) -> Option<Obstacle>
+    ensures { result ≡ type_obstacle (map declaration_view declared.now) (open_view ty.now) }
+{
+    match ty {
+        OpenType::Leaf(leaf) => leaf_obstacle(leaf.kind()),
+        OpenType::AnyValue | OpenType::FreeObject => None,
+        OpenType::Tuple(items) => types_obstacle(declared, items.as_slice()),
+        OpenType::Items(_, of) => type_obstacle(declared, of),
+        OpenType::Set(_, of) => type_obstacle(declared, of),
+        OpenType::Map(_, key, value) => {
+            if !is_key(declared, key) {
+                return Some(Obstacle::MapKey);
+            }
+            match type_obstacle(declared, key) {
+                Some(obstacle) => Some(obstacle),
+                None => type_obstacle(declared, value),
+            }
+        }
+        OpenType::Option(of) => type_obstacle(declared, of),
+        OpenType::Through(_, of) => type_obstacle(declared, of),
+        OpenType::Named(_, arguments) => types_obstacle(declared, arguments.as_slice()),
+        OpenType::Unit | OpenType::Param(_) => Some(Obstacle::Unit),
+    }
+}
+
+/// What is in the way in the first of the types in which something is.
+#[cycle(obstacle)]
+fn types_obstacle(declared: &[Declaration], types: &[OpenType]) -> Option<Obstacle>
+    ensures { result ≡ types_obstacle (map declaration_view declared.now)
+        (opens_of (map open_view types.now)) }
+{
+    for ty in types {
+        if let Some(obstacle) = type_obstacle(declared, ty) {
+            return Some(obstacle);
+        }
+    }
+    None
+}
+
+/// What is in the way in the type, with the arguments in the places of its parameters.
+fn place_obstacle(
+    alloc: Global,
+    declared: &[Declaration],
+    arguments: &[ClosedType],
+    ty: &OpenType,
+) -> Result<Option<Obstacle>, AllocError>
+    ensures { IfOk result (λ obstacle. obstacle ≡ type_obstacle (map declaration_view declared.now)
+        (substituted (opens_view arguments.now) (open_view ty.now))) }
+{
+    let put = substitute_first(alloc, ty, arguments)?;
+    Ok(type_obstacle(declared, &put))
+}
+
+/// What is in the way in the places of the members.
+fn members_obstacle(
+    alloc: Global,
+    declared: &[Declaration],
+    arguments: &[ClosedType],
+    members: &[Member],
+) -> Result<Option<Obstacle>, AllocError>
+    ensures { IfOk result (λ obstacle. obstacle ≡ all_obstacle (map declaration_view declared.now)
+        (member_types (map (member_over (opens_view arguments.now))
+        (map member_view members.now)))) }
+{
+    let mut rest = members;
+    'members: while let [first, after @ ..] = rest {
+        if let Some(obstacle) = place_obstacle(alloc, declared, arguments, &first.ty)? {
+            return Ok(Some(obstacle));
+        }
+        rest = after;
+    }
+    Ok(None)
+}
+
+/// What is in the way in these places.
+fn places_obstacle(
+    alloc: Global,
+    declared: &[Declaration],
+    arguments: &[ClosedType],
+    types: &[OpenType],
+) -> Result<Option<Obstacle>, AllocError>
+    ensures { IfOk result (λ obstacle. obstacle ≡ all_obstacle (map declaration_view declared.now)
+        (map (substituted (opens_view arguments.now)) (map open_view types.now))) }
+{
+    let mut rest = types;
+    'types: while let [first, after @ ..] = rest {
+        if let Some(obstacle) = place_obstacle(alloc, declared, arguments, first)? {
+            return Ok(Some(obstacle));
+        }
+        rest = after;
+    }
+    Ok(None)
+}
+
+/// What is in the way in the fields of a struct.
+fn form_obstacle(
+    alloc: Global,
+    declared: &[Declaration],
+    arguments: &[ClosedType],
+    form: &Form,
+) -> Result<Option<Obstacle>, AllocError>
+    ensures { IfOk result (λ obstacle. obstacle ≡ form_obstacle (map declaration_view declared.now)
+        (form_over (opens_view arguments.now) (form_view form.now))) }
+{
+    match form {
+        Form::Named { members, .. } => {
+            members_obstacle(alloc, declared, arguments, members.as_slice())
+        }
+        Form::Unnamed(types) => places_obstacle(alloc, declared, arguments, types.as_slice()),
+        Form::Unit => Ok(Some(Obstacle::Unit)),
+    }
+}
+
+/// Whether it is a struct with named fields that denies no others.
+fn is_open_struct(body: &Body) -> bool
+    ensures { result ≡ is_open_struct (body_view body.now) }
+{
+    matches!(
+        body,
+        Body::Fields(Form::Named {
+            denies_others: false,
+            ..
+        })
+    )
+}
+
+/// Whether the declaration at the place is a struct with named fields that denies no others.
+fn declares_open_struct(declared: &[Declaration], place: usize) -> bool
+    ensures { result
+        ≡ is_open_struct (declaration_at (map declaration_view declared.now) place).body }
+{
+    match declared.get(place) {
+        Some(declaration) => is_open_struct(&declaration.body),
+        None => false,
+    }
+}
+
+/// Whether the type is such a struct, passed through perhaps.
+fn is_content(declared: &[Declaration], ty: &OpenType) -> bool
+    ensures { result ≡ is_content (map declaration_view declared.now) (open_view ty.now) }
+{
+    match ty {
+        OpenType::Through(_, of) => is_content(declared, of),
+        OpenType::Named(place, _) => declares_open_struct(declared, *place),
+        _ => false,
+    }
+}
+
+/// Whether the types, with the arguments in the places of their parameters, are one such struct.
+fn are_content(
+    alloc: Global,
+    declared: &[Declaration],
+    arguments: &[ClosedType],
+    types: &[OpenType],
+) -> Result<bool, AllocError>
+    ensures { IfOk result (λ are. are ≡ are_content (map declaration_view declared.now)
+        (map (substituted (opens_view arguments.now)) (map open_view types.now))) }
+{
+    match types {
+        [one] => Ok(is_content(declared, &substitute_first(alloc, one, arguments)?)),
+        _ => Ok(false),
+    }
+}
+
+/// What is in the way of the tag of a variant with these unnamed fields.
+fn content_obstacle(
+    alloc: Global,
+    declared: &[Declaration],
+    arguments: &[ClosedType],
+    tagging: &Tagging,
+    types: &[OpenType],
+) -> Result<Option<Obstacle>, AllocError>
+    ensures { IfOk result
+        (λ obstacle. obstacle ≡ content_obstacle (map declaration_view declared.now) tagging.now
+        (map (substituted (opens_view arguments.now)) (map open_view types.now))) }
+{
+    match tagging {
+        Tagging::Internal { .. } => {
+            if are_content(alloc, declared, arguments, types)? {
+                Ok(None)
+            } else {
+                Ok(Some(Obstacle::TaggedNewtype))
+            }
+        }
+        _ => Ok(None),
+    }
+}
+
+/// What is in the way in the fields of a variant.
+fn variant_obstacle(
+    alloc: Global,
+    declared: &[Declaration],
+    arguments: &[ClosedType],
+    tagging: &Tagging,
+    form: &Form,
+) -> Result<Option<Obstacle>, AllocError>
+    ensures { IfOk result
+        (λ obstacle. obstacle ≡ variant_obstacle (map declaration_view declared.now) tagging.now
+        (form_over (opens_view arguments.now) (form_view form.now))) }
+{
+    match form {
+        Form::Unit => Ok(None),
+        Form::Named { .. } => form_obstacle(alloc, declared, arguments, form),
+        Form::Unnamed(types) => {
+            let types = types.as_slice();
+            match places_obstacle(alloc, declared, arguments, types)? {
+                Some(obstacle) => Ok(Some(obstacle)),
+                None => content_obstacle(alloc, declared, arguments, tagging, types),
+            }
+        }
+    }
+}
+
+/// What is in the way in the first of the variants in which something is.
+fn variants_obstacle(
+    alloc: Global,
+    declared: &[Declaration],
+    arguments: &[ClosedType],
+    tagging: &Tagging,
+    variants: &[Variant],
+) -> Result<Option<Obstacle>, AllocError>
+    ensures { IfOk result
+        (λ obstacle. obstacle ≡ variants_obstacle (map declaration_view declared.now) tagging.now
+        (map (variant_over (opens_view arguments.now)) (map variant_view variants.now))) }
+{
+    let mut rest = variants;
+    'variants: while let [first, after @ ..] = rest {
+        let found = variant_obstacle(alloc, declared, arguments, tagging, &first.form)?;
+        if let Some(obstacle) = found {
+            return Ok(Some(obstacle));
+        }
+        rest = after;
+    }
+    Ok(None)
+}
+
+/// What is in the way in an enum that keeps these variants.
+fn kept_obstacle<T>(tagging: &Tagging, kept: &[T]) -> Option<Obstacle>
+    ensures { result ≡ kept_obstacle tagging.now kept.now }
+{
+    match (tagging, kept) {
+        (Tagging::Untagged, []) => Some(Obstacle::NoVariant),
+        _ => None,
+    }
+}
+
+/// What is in the way in the body, with the arguments in the places of its parameters: the first of it.
+pub(crate) fn body_obstacle(
+    alloc: Global,
+    declared: &[Declaration],
+    arguments: &[ClosedType],
+    body: &Body,
+) -> Result<Option<Obstacle>, AllocError>
+    ensures { IfOk result (λ obstacle. obstacle ≡ body_obstacle (map declaration_view declared.now)
+        (body_over (opens_view arguments.now) (body_view body.now))) }
+{
+    match body {
+        Body::Fields(form) => form_obstacle(alloc, declared, arguments, form),
+        Body::Units { tagging, names } => Ok(kept_obstacle(tagging, names.as_slice())),
+        Body::Variants { tagging, variants } => {
+            let variants = variants.as_slice();
+            match kept_obstacle(tagging, variants) {
+                Some(obstacle) => Ok(Some(obstacle)),
+                None => variants_obstacle(alloc, declared, arguments, tagging, variants),
+            }
+        }
+    }
+}
