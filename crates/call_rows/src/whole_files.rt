@@ -21,6 +21,7 @@ pub(crate) fn document(alloc: Global, given: &Value) -> anyhow::Result<String> {
         only: List::new(alloc),
         exclude: List::new(alloc),
         skip_refused: false,
+        not_plain: false,
         own: 1,
     };
     match derive_files(alloc, &[source], &selection, Config::new(alloc))? {

@@ -1,5 +1,6 @@
 pub mod Bounded
 pub mod Counts
+pub mod Declared
 pub mod NamedAlone
 pub mod OneList
 pub mod Placed

@@ -3,4 +3,5 @@ pub mod Faults
 pub mod Sets
 pub mod Settled
 pub mod Types
+pub mod Unplain
 pub mod Within

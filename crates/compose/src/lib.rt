@@ -10,6 +10,7 @@ mod names;
 mod refusals;
 mod sets;
 mod types;
+mod unplain;
 mod within;
 
 pub use closing::{
@@ -20,3 +21,4 @@ pub use derive::{Derived, derive_components, derive_declarations};
 pub use law::{bounded_are_not_refused, components_are_one};
 pub use names::component_name;
 pub use sets::{InstanceSet, TermSet, compose, instances, terms};
+pub use unplain::unplain_of;

@@ -5,4 +5,5 @@ pub mod Readable
 pub mod Sound
 pub mod Spanned
 pub mod Stages
+pub mod ToldUnplain
 pub mod Written

@@ -4,4 +4,5 @@ pub mod LeftOut
 pub mod OutNodes
 pub mod Outcomes
 pub mod Rounds
+pub mod Unplain
 pub mod Warned

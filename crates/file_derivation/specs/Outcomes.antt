@@ -87,7 +87,7 @@ pub record DerivesSelected (s : Selection) (c : Configuration) (names : List (Li
   pub distinct : clash_lines names declarations needed ≡ []
   pub derived : AreDerived (with_rows c rows) declarations components
   pub describes : (by : Alternatives) → Describes derived.resolved (collects_all c.collect) (document_by by components)
-  pub warned : AreAllWarned names declarations from impls components (front ++ told) warnings
+  pub warned : AreAllWarned s.not_plain (with_rows c rows) names declarations from impls components (front ++ told) warnings
 
 abbrev pub long_message : List ℕ
 long_message = codes "the declarations are longer than 16777216 bytes"

@@ -1,6 +1,7 @@
 -- What declarations that are read of files are warned of.
 use Rattle.std.specs.Prelude.{◌≡◌, ◌<◌, ◌≤◌, ℕ, suc, List, [], ◌∷◌, ◌++◌, length, map, filter, take, slice_get, codes, is_some, Bool, true, false, Option, Some, None}
 use Rattle.schema_core.specs.Document.{Entry}
+use Rattle.configuration.specs.Configuration.{Configuration}
 use Rattle.syntax.specs.Items.{DeclaredItem}
 use Rattle.scopes.specs.Names.{place_among}
 use Rattle.telling.specs.Told.{told_at}
@@ -13,6 +14,7 @@ use Rattle.warnings.specs.Warned.{warnings_of}
 use Rattle.gathering.specs.Reading.{file_name}
 use Rattle.gathering.specs.Telling.{told_plainly, whole_span}
 use Rattle.prepare.specs.declared.file_items.FileImpl.{FileImpl}
+use Rattle.file_derivation.specs.Unplain.{IsPlainTold}
 use Rattle.file_derivation.specs.declared.warned.Warnings.{Warnings}
 
 -- what is told of a warning of the text of a declaration in the file of the name
@@ -70,11 +72,13 @@ told_nothing is_declared false = warning (nothing_message is_declared) ∷ []
 
 -- ---- all warnings
 
--- all that is warned of: what is left out, declarations, the impls by hand that are for them, and their document
-pub record AreAllWarned (names : List (List ℕ)) (ds : List DeclaredItem) (from : List FileItem) (impls : List FileImpl) (components : List Entry) (left_out warnings : List Told) : Type 0 where
+-- all that is warned of: what is left out, declarations, the impls by hand that are for them, what is not plain, where that is asked for, and their document
+pub record AreAllWarned (plain : Bool) (c : Configuration) (names : List (List ℕ)) (ds : List DeclaredItem) (from : List FileItem) (impls : List FileImpl) (components : List Entry) (left_out warnings : List Told) : Type 0 where
   pub own : List Told
   pub warned : AreWarned names ds from (length ds) own
-  pub whole : warnings ≡ ((left_out ++ own) ++ told_impls names ds impls) ++ told_nothing (has_some ds) (has_some components)
+  pub unplain : List Told
+  pub not_plain : IsPlainTold plain c names ds from unplain
+  pub whole : warnings ≡ (((left_out ++ own) ++ told_impls names ds impls) ++ unplain) ++ told_nothing (has_some ds) (has_some components)
 
 -- these are the first hundred of all, and how many there are
 abbrev pub AreFirst : List Told → Warnings → Type 0

@@ -10,6 +10,7 @@ mod left_out;
 mod rounds;
 mod rows;
 mod selected;
+mod unplain;
 mod warned;
 
 pub use derive::{Outcome, derive_files, derive_gathered};

@@ -22,6 +22,7 @@ use crate::faults::faults_of;
 use crate::left_out::told_of_files;
 use crate::rounds::{leave_faults, leave_texts, read_whole};
 use crate::rows::push_rows_of;
+use crate::unplain::with_unplain;
 use crate::warned::{Warnings, warned_of};
 use compose::{Derived, derive_declarations};
 use configuration::Config;
@@ -146,6 +147,7 @@ fn derive_read(
     from: &[&FileItem],
     declarations: Declarations,
     impls: &[FileImpl],
+    plain: bool,
     config: &Config,
     warnings: Warnings,
 ) -> Result<(Derived, Warnings), DeriveError>
@@ -156,11 +158,13 @@ fn derive_read(
         × ((by : Alternatives) → Describes made.resolved (collects_all config.now.collect)
         (document_by by d.0.components))) }
     ensures warned { IfOk result (λ d. (front : AnyList AnyTold) → AreFirst front warnings
-        → (all : AnyList AnyTold) × AreAllWarned names.now (declarations_view declarations)
-        (map (λ i. i.now) from.now) impls.now d.0.components front all × AreFirst all d.1) }
+        → (all : AnyList AnyTold) × AreAllWarned plain config.now names.now
+        (declarations_view declarations) (map (λ i. i.now) from.now) impls.now d.0.components
+        front all × AreFirst all d.1) }
     ensures refused { Refuses result (AreRefused config.now (declarations_view declarations)) }
 {
-    let warnings = warned_of(alloc, names, from, &declarations, impls, warnings)?;
+    let own = warned_of(alloc, names, from, &declarations, impls, warnings)?;
+    let warnings = with_unplain(alloc, names, from, &declarations, plain, config, own)?;
     let is_declared = !declarations.items.is_empty();
     let derived = derive_declarations(alloc, declarations, config)?;
     Ok(with_warnings(alloc, derived, warnings, is_declared)?)
@@ -197,8 +201,17 @@ fn derive_whole(
         from,
         ..
     } = reading;
-    let (from, warnings) = (from.as_slice(), Warnings::new(alloc));
-    match derive_read(alloc, names, from, declarations, impls, &config, warnings) {
+    let (from, warnings, plain) = (from.as_slice(), Warnings::new(alloc), selection.not_plain);
+    match derive_read(
+        alloc,
+        names,
+        from,
+        declarations,
+        impls,
+        plain,
+        &config,
+        warnings,
+    ) {
         Ok(derived) => Ok(derived),
         Err(DeriveError::Memory) => Err(Refusal::Memory),
         Err(DeriveError::Refused(refusal)) => {
@@ -243,8 +256,17 @@ fn derive_left(
         from,
         ..
     } = left;
-    let (from, warnings) = (from.as_slice(), Warnings::of(lines));
-    match derive_read(alloc, names, from, declarations, impls, &config, warnings) {
+    let (from, warnings, plain) = (from.as_slice(), Warnings::of(lines), selection.not_plain);
+    match derive_read(
+        alloc,
+        names,
+        from,
+        declarations,
+        impls,
+        plain,
+        &config,
+        warnings,
+    ) {
         Ok(derived) => Ok(derived),
         Err(DeriveError::Memory) => Err(Refusal::Memory),
         Err(DeriveError::Refused(refusal)) => {

@@ -16,7 +16,7 @@ use texts::{List, Span, Text};
 use warnings::{Warning, warnings_of};
 
 /// How many warnings are told, at most.
-const MOST_TOLD: usize = 100;
+pub(crate) const MOST_TOLD: usize = 100;
 
 /// Leaves out the last.
 fn drop_last(told: &mut List<Told>)
@@ -56,7 +56,7 @@ impl Warnings {
     }
 
     /// Adds one more, which is told where it is one of the first hundred.
-    fn push(&mut self, told: Option<Told>) -> Result<(), AllocError>
+    pub(crate) fn push(&mut self, told: Option<Told>) -> Result<(), AllocError>
         ensures { OnOk result ((all : AnyList AnyTold) (one : AnyTold) → AreFirst all self.old
             → IsToldFirst self.old.count one told → AreFirst (all ++ one ∷ []) self.new) }
     {

@@ -8,7 +8,7 @@ use Rattle.gathering.specs.Files.{most_bytes}
 use Rattle.file_runs.specs.declared.request.Question.{Question}
 use Rattle.file_runs.specs.declared.request.Question.TheVariants.{Help, Version}
 use Rattle.file_runs.specs.declared.request.Flag.{Flag}
-use Rattle.file_runs.specs.declared.request.Flag.TheVariants.{Serde, Strict, AnyOf, Pretty, SkipRefused}
+use Rattle.file_runs.specs.declared.request.Flag.TheVariants.{Serde, Strict, AnyOf, Pretty, SkipRefused, NotPlain}
 use Rattle.file_runs.specs.declared.request.Valued.{Valued}
 use Rattle.file_runs.specs.declared.request.Valued.TheVariants.{Config, Only, Exclude, StandIn, OpenApi, Check}
 use Rattle.file_runs.specs.declared.request.Misuse.{Misuse}
@@ -27,7 +27,8 @@ abbrev pub flag_of : List ℕ → Option Flag
 flag_of word =
     cond (is (codes "--serde") word) (Some Serde)
     (cond (is (codes "--strict") word) (Some Strict)
-    (cond (is (codes "--any-of") word) (Some AnyOf) (cond (is (codes "--pretty") word) (Some Pretty) (cond (is (codes "--skip-refused") word) (Some SkipRefused) None))))
+    (cond (is (codes "--any-of") word) (Some AnyOf)
+    (cond (is (codes "--pretty") word) (Some Pretty) (cond (is (codes "--skip-refused") word) (Some SkipRefused) (cond (is (codes "--not-plain") word) (Some NotPlain) None)))))
 
 -- the option whose value is the next word
 abbrev pub valued_of : List ℕ → Option Valued
@@ -111,6 +112,7 @@ with_flag Strict r = record r { strict = true }
 with_flag AnyOf r = record r { any_of = true }
 with_flag Pretty r = record r { pretty = true }
 with_flag SkipRefused r = record r { selection = record r.selection { skip_refused = true } }
+with_flag NotPlain r = record r { selection = record r.selection { not_plain = true } }
 
 abbrev pub with_flagged : Option Flag → List ℕ → State → Result State Misuse
 with_flagged (Some flag) word s = Ok (record s { request = with_flag flag s.request })
@@ -138,7 +140,7 @@ after (word ∷ words) s = and_then (after words) (with_word s.pending word s)
 abbrev pub nothing_asked : State
 nothing_asked = record {
   request = record {
-    selection = record { serde = false; only = []; exclude = []; skip_refused = false; own = 0 };
+    selection = record { serde = false; only = []; exclude = []; skip_refused = false; not_plain = false; own = 0 };
     strict = false;
     any_of = false;
     pretty = false;

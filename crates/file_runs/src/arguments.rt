@@ -60,6 +60,7 @@ fn flag_of(word: &str) -> Option<Flag>
         "--any-of" => Some(Flag::AnyOf),
         "--pretty" => Some(Flag::Pretty),
         "--skip-refused" => Some(Flag::SkipRefused),
+        "--not-plain" => Some(Flag::NotPlain),
         _ => None,
     }
 }
@@ -225,6 +226,7 @@ fn set_flag(request: &mut Request, flag: Flag)
         Flag::AnyOf => request.any_of = true,
         Flag::Pretty => request.pretty = true,
         Flag::SkipRefused => request.selection.skip_refused = true,
+        Flag::NotPlain => request.selection.not_plain = true,
     }
 }
 
@@ -303,6 +305,7 @@ fn nothing_asked(alloc: Global) -> State
                 only: List::new(alloc),
                 exclude: List::new(alloc),
                 skip_refused: false,
+                not_plain: false,
                 own: 0,
             },
             strict: false,

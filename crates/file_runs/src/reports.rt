@@ -34,6 +34,7 @@ for tests alone. All files together declare what is described, and no two of the
   --check PATH     writes nothing, and refuses a document that is another than the one in the JSON file at PATH
   --any-of         `anyOf` where the document has `oneOf`
   --pretty         a document with two spaces of indent
+  --not-plain      a warning for each type that is not plain: its component is not proved to accept exactly its shape
   --skip-refused   leaves out what is refused, and what needs it, with a warning for each
   --strict         warnings are refusals
   --               what follows are files

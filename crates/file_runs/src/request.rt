@@ -25,6 +25,8 @@ pub enum Flag {
     Pretty,
     /// `--skip-refused`: what is refused is left out.
     SkipRefused,
+    /// `--not-plain`: what is not plain is warned of.
+    NotPlain,
 }
 
 /// An option that has a value.

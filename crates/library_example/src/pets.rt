@@ -34,6 +34,7 @@ pub(crate) fn print_file(rt: &HostRuntime, text: &str) -> anyhow::Result<()> {
         only: List::new(alloc),
         exclude: List::new(alloc),
         skip_refused: false,
+        not_plain: false,
         own: 1,
     };
     match derive_files(alloc, &sources, &selection, config)? {

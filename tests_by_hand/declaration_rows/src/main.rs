@@ -18,6 +18,7 @@ fn texts_of(alloc: Global, items: &[FileItem], serde: bool) -> Result<String, Al
         only: List::new(alloc),
         exclude: List::new(alloc),
         skip_refused: false,
+        not_plain: false,
         own: 1,
     };
     let names = [Text::new(alloc, "a.rs")?];

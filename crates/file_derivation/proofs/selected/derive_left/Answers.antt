@@ -97,7 +97,8 @@ returns-in-Ok-clause-derived c = λ skip.
       distinct = c.in_ok-are_distinct.ensures.distinct;
       derived = made.0;
       describes = made.1;
-      warned = subst (λ (v : List (Bor FileItem)). AreAllWarned names ds (shown v) impls components front mine.0) c.as_slice-from.ensures mine.1;
+      warned = subst (λ (v : Configuration). AreAllWarned s.not_plain v names ds from impls components front mine.0) configured
+          (subst (λ (v : List (Bor FileItem)). AreAllWarned s.not_plain c.push_rows_of.new.config names ds (shown v) impls components front mine.0) c.as_slice-from.ensures mine.1);
     } in
     (mine.0, found, mine.2)
 

@@ -21,16 +21,25 @@ returns-clause-derived c =
 pub returns-clause-warned : goal.returns-clause-warned
 returns-clause-warned c = λ front first.
     let names = c.args.names.now in
+    let plain = c.args.plain in
+    let config = c.args.config.now in
     let items = c.args.declarations.items in
     let ds = declarations_view c.args.declarations in
     let from = map (λ (i : Bor FileItem). i.now) c.args.from.now in
     let impls = c.args.impls.now in
     let components = c.in_ok-derived.derived.components in
-    let mine = c.in_ok-warnings.ensures front first in
+    let mine = c.in_ok-own.ensures front first in
     let before = (front ++ mine.0) ++ told_impls names ds impls in
+    let more = c.in_ok-warnings.ensures.told before mine.2 in
     let is_declared = not c.is_empty-is_declared.result in
-    let all = before ++ told_nothing is_declared (has_some components) in
+    let all = (before ++ more.0) ++ told_nothing is_declared (has_some components) in
     let some : is_declared ≡ has_some ds = some_where c.is_empty-is_declared.result items c.is_empty-is_declared.ensures ∙ some_mapped declaration_view items in
-    let warned : AreAllWarned names ds from impls components front all = record { own = mine.0; warned = mine.1; whole = ap (λ (b : Bool). before ++ told_nothing b (has_some components)) some } in
+    let warned : AreAllWarned plain config names ds from impls components front all = record {
+      own = mine.0;
+      warned = mine.1;
+      unplain = more.0;
+      not_plain = more.1;
+      whole = ap (λ (b : Bool). (before ++ more.0) ++ told_nothing b (has_some components)) some;
+    } in
     let given = c.in_ok-with_warnings.ensures in
-    (all, subst (λ (v : Derived). AreAllWarned names ds from impls v.components front all) (sym given.derived) warned, given.warned before mine.2)
+    (all, subst (λ (v : Derived). AreAllWarned plain config names ds from impls v.components front all) (sym given.derived) warned, given.warned (before ++ more.0) more.2)
