@@ -10,5 +10,7 @@ pub use Rattle.lexing.proofs.Classes.{any_of}
 pub use Rattle.lexing.proofs.Classes.{r_starts_name}
 -- every identifier begins as a name, and none is empty
 pub use Rattle.lexing.proofs.WordLaws.{identifier_starts, no_identifier}
+-- the piece that a scanner finds at the front of a text is the longest that begins there
+pub use Rattle.lexing.proofs.PieceLaws.{finds_longest}
 -- a group of the program is the group of its trees
 pub use Rattle.lexing.proofs.NestLaws.{view_group}

@@ -1,7 +1,12 @@
 //! Laws of the definitions that contracts cite.
 
-ghost use Rattle.std.specs.Prelude.{◌≡◌, ℕ, List};
+ghost use Rattle.std.specs.Prelude.{◌≡◌, ◌≤◌, ℕ, List, Ok};
 ghost use Rattle.texts.specs.declared.span.Span.{Span};
+ghost use Rattle.tokens.specs.Trees.{Trees, depth};
+ghost use Rattle.words.specs.Words.{words_of};
+ghost use Rattle.lexing.specs.Cut.{IsCut, most_open};
+ghost use Rattle.syntax.specs.ItemDepth.{within_levels};
+ghost use Rattle.syntax.specs.ItemReading.{source_at};
 ghost use Rattle.syntax.specs.Items.{DeclaredItem};
 ghost use Rattle.syntax.specs.Named.{ReadFieldsAreNamed};
 ghost use Rattle.syntax.specs.Source.{Reads, NestsTooDeep};
@@ -28,5 +33,16 @@ pub fn one_deep_place()
 {
     one_cut();
     one_deep_bracket();
+    deep_brackets_nest_deep();
+}
+
+/// What is read of the token trees of a source, from left to right and within the levels, is what the source reads as, and then
+/// it nests too deep nowhere.
+pub fn trees_are_read()
+    ensures { (source : List ℕ) (trees : Trees) (ds : List DeclaredItem) → IsCut source trees
+        → depth trees ≤ most_open → source_at within_levels (words_of trees) ≡ Ok ds
+        → Reads source ds × ((span : Span) → ¬ (NestsTooDeep source span)) }
+{
+    one_cut();
     deep_brackets_nest_deep();
 }

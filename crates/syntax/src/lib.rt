@@ -35,7 +35,7 @@ mod where_clause;
 
 pub use attributes::{Attribute, CommentAttributes, Meta};
 pub use item::{Body, Declaration, Declarations, Field, Fields, GenericParam, Generics, Variant};
-pub use law::{one_deep_place, one_reading, read_fields_are_named};
+pub use law::{one_deep_place, one_reading, read_fields_are_named, trees_are_read};
 pub use lexing::{lex, one_cut};
 pub use literal_values::{LiteralValue, literal_value};
 pub use parse::parse_declarations;
