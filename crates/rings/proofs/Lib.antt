@@ -1,0 +1,6 @@
+pub mod Linked
+pub mod Named
+pub mod Numbered
+pub mod Places
+pub mod Reached
+pub mod Shown

@@ -1,0 +1,17 @@
+use Rattle.rings.proofs.Linked.{shallow, copies}
+use Rattle.rings.proofs.Named.{names_differ}
+use Rattle.rings.proofs.Reached.{are_instances, all_small}
+use Rattle.rings.proofs.Shown.{are_components}
+use Rattle.rings.proofs.law.rings_are_open.Goals as goal
+
+pub returns : goal.returns
+returns c = λ many some fits.
+    let are = are_instances c.whole_are_instances.ensures many some in
+    record {
+      reached = are;
+      small = λ t r. all_small many t (are.all t r);
+      differ = names_differ many fits are;
+      shallow = shallow many are;
+      components = λ all. are_components many all c.components_are_reachable.ensures are;
+      copied = copies many;
+    }
