@@ -1,0 +1,14 @@
+pub mod Written
+pub mod Names
+pub mod Places
+pub mod Depth
+pub mod Bytes
+pub mod Cut
+pub mod Known
+pub mod Lookup
+pub mod Fields
+pub mod Bodies
+pub mod Heads
+pub mod Items
+pub mod Whole
+pub mod Sound
