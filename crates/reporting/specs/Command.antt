@@ -13,6 +13,11 @@ pub record HasFile (program : Program) (begun : Beginning) (request : program.Re
   pub named : program.name_path begun.words path
   pub held : IsHeld begun.tells (begun.held path) bytes
 
+-- The words of the run ask for this, and name no file.
+pub record HasNoFile (program : Program) (begun : Beginning) (request : program.Request) : Type 0 where
+  pub asked : program.ask_for begun.words request
+  pub none : (path : List ℕ) → ¬ (program.name_path begun.words path)
+
 -- what is left to be done of a run that begins so: this work with its input, or nothing but to write
 -- the text, and then the input is not asked for
 abbrev pub IsRest : {W : Type 0} → Program → (W → Beginning → Type 0) → Beginning → Rest W → Type 0

@@ -6,7 +6,7 @@ ghost use Rattle.diag.specs.declared.error.DeriveError.{DeriveError as AnyError}
 ghost use Rattle.streams.specs.Told.{IsAll};
 ghost use Rattle.reporting.specs.Beginning.{Beginning};
 ghost use Rattle.reporting.specs.Bytes.{most_bytes, IsTooLong};
-ghost use Rattle.reporting.specs.Command.{HasFile, IsRest};
+ghost use Rattle.reporting.specs.Command.{HasFile, HasNoFile, IsRest};
 ghost use Rattle.reporting.specs.Program.{Program, IsRefusedRun};
 
 use crate::rest::Rest;
@@ -14,7 +14,8 @@ use diag::DeriveError;
 use std::alloc::Global;
 use texts::Text;
 
-/// What words ask a program for: it names a file that is read first, or none, and then there is some work with the input.
+/// What words ask a program for: it names a file that is read first, or none, and then there is some work with the input, or
+/// only an answer to write.
 pub trait Command: Drop {
     /// What there is to do with the input.
     type Work: Drop;
@@ -41,10 +42,12 @@ pub trait Command: Drop {
             → MatchOption result ((path : List ℕ) → ¬ (program.name_path words path))
             (λ path. (other : List ℕ) → program.name_path words other ↔ (other ≡ path.now)) };
 
-    /// What there is to do where the words name no file.
-    fn work(&self, alloc: Global) -> Self::Work
-        ensures { (begun : Beginning) → program.ask_for begun.words (request self.now)
-            → ((path : List ℕ) → ¬ (program.name_path begun.words path)) → is_work result begun };
+    /// What is left to be done where the words name no file.
+    fn without_file(&self, alloc: Global) -> Result<Rest<Self::Work>, DeriveError>
+        ensures rest { IfOk result (λ rest. (begun : Beginning)
+            → HasNoFile program begun (request self.now) → IsRest program is_work begun rest) }
+        ensures refused { Refuses result (λ e. (begun : Beginning)
+            → HasNoFile program begun (request self.now) → IsRefusedRun program begun e) };
 
     /// What the bytes of the file leave to be done.
     fn with_file(&self, alloc: Global, bytes: &[u8]) -> Result<Rest<Self::Work>, DeriveError>

@@ -8,7 +8,7 @@ ghost use Rattle.streams.specs.Told.{IsAll};
 ghost use Rattle.files.specs.Held.{IsMissing};
 ghost use Rattle.reporting.specs.Beginning.{Beginning, begun_with, beginning_of};
 ghost use Rattle.reporting.specs.Bytes.{most_bytes};
-ghost use Rattle.reporting.specs.Command.{HasFile, IsRest};
+ghost use Rattle.reporting.specs.Command.{HasFile, HasNoFile, IsRest};
 ghost use Rattle.reporting.specs.Endings.{status_of};
 ghost use Rattle.reporting.specs.Owed.{IsEnding};
 ghost use Rattle.reporting.specs.Program.{AreOfForm, IsRefusedGiven, IsReportOf};
@@ -151,6 +151,23 @@ fn rest_of_file<C: Command, F: Files>(
     }
 }
 
+/// What words that name no file leave to be done, or the ending of a run with them.
+fn rest_of_none<C: Command>(alloc: Global, command: &C) -> Result<Rest<C::Work>, Ending>
+    ensures rest { IfOk result (λ rest. (begun : Beginning)
+        → HasNoFile C.program begun (C.request command.now)
+        → IsRest C.program C.is_work begun rest) }
+    ensures owed { IfErr result (λ ending. (begun : Beginning)
+        → HasNoFile C.program begun (C.request command.now) → IsEnding C.program begun ending) }
+    ensures not_done { IfErr result (λ ending. status_of ending ≢ Status.Done) }
+    ensures no_read_fault { IfErr result (λ ending. status_of ending ≢ Status.ReadFault) }
+    ensures no_file_fault { IfErr result (λ ending. status_of ending ≢ Status.FileFault) }
+{
+    match command.without_file(alloc) {
+        Ok(rest) => Ok(rest),
+        Err(error) => Err(Ending::of_error(alloc, error)),
+    }
+}
+
 /// What the words, and the file that they name, leave to be done, or the ending of a run with them.
 fn rest_of_words<C: Command, F: Files>(
     alloc: Global,
@@ -192,7 +209,7 @@ fn rest_of_words<C: Command, F: Files>(
     };
     match command.path() {
         Some(path) => rest_of_file(alloc, &command, path, files),
-        None => Ok(Rest::Work(command.work(alloc))),
+        None => rest_of_none(alloc, &command),
     }
 }
 

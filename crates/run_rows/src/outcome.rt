@@ -103,6 +103,11 @@ impl Outcome {
         line.strip_prefix("refused: ").unwrap_or(line)
     }
 
+    /// The status, and how many bytes the output has.
+    pub(crate) fn size(&self, alloc: Global) -> Result<String, AllocError> {
+        format!(in alloc; "{} {}", self.status.as_str(), self.out.len())
+    }
+
     /// Whether there is a document.
     pub(crate) fn is_done(&self) -> bool {
         self.status.as_str() == "Done"

@@ -5,8 +5,8 @@ use crate::parts::{bytes_at, bytes_of, counts_at};
 use anyhow::bail;
 use files::{Files, HonestFiles, MemoryFiles, StdFiles};
 use rows::Row;
-use rows::given::{count_at, items_at, pair_of, text_of};
-use schema_gen::Words;
+use rows::given::{count_at, count_of, items_at, pair_of, text_of};
+use schema_gen::{MOST_DECLARATIONS, Text, Words, sample_source};
 use serde_json::Value;
 use std::alloc::{AllocError, Global};
 use std::rt::Files as FileSystem;
@@ -29,6 +29,8 @@ pub(crate) fn told<R: AllocGlobal + FileSystem>(rt: &R, row: &Row) -> anyhow::Re
         "run" => Ok(honest(alloc, given)?.text(alloc)?),
         "run with faults" => Ok(with_faults(alloc, given)?.text(alloc)?),
         "run over std" => Ok(over_std(rt, given)?.text(alloc)?),
+        "sample" => Ok(String::from_str(alloc, sample_of(alloc, given)?.as_str())?),
+        "derive sample" => derived_sample(alloc, given),
         "number" => {
             let number = status_named(text_of(given)?)?.number();
             Ok(number.to_string(alloc)?)
@@ -158,6 +160,25 @@ fn derive(alloc: Global, given: &Value) -> anyhow::Result<Outcome> {
     let mut files = HonestFiles::new(configured(alloc, configuration)?);
     let mut input = HonestSource::new(source);
     run_on(alloc, given, &words, &mut input, &mut files)
+}
+
+/// The sample of so many declarations.
+fn sample_of(alloc: Global, given: &Value) -> anyhow::Result<Text> {
+    let many = count_of(given)?;
+    if many == 0 || many > MOST_DECLARATIONS {
+        bail!("no sample has {many} declarations");
+    }
+    Ok(sample_source(alloc, many)?)
+}
+
+/// How a run of `derive` on the sample ends, and how many bytes it writes.
+fn derived_sample(alloc: Global, given: &Value) -> anyhow::Result<String> {
+    let source = sample_of(alloc, given)?;
+    let words = derive_words(alloc, false)?;
+    let mut files = HonestFiles::new(Vec::new(alloc));
+    let mut input = HonestSource::new(source.as_str().as_bytes().to_vec(alloc)?);
+    let outcome = run_on(alloc, given, &words, &mut input, &mut files)?;
+    Ok(outcome.size(alloc)?)
 }
 
 /// The document of the source, or why it is refused.

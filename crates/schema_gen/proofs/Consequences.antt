@@ -1,6 +1,9 @@
 -- What follows from what a run owes.
 use Rattle.std.proofs.Common.{ℕ, List, IsTrue, Option, Some, None, ◌≡◌, ◌≢◌, ◌⊎◌, inl, inr, refl, subst}
 use Rattle.std.specs.Io.KnownBytes.{Appends}
+use Rattle.diag.specs.Diagnostics.{HasFirst}
+use Rattle.diag.specs.declared.diagnostics.DiangosticsInner.{DiangosticsInner}
+use Rattle.diag.specs.declared.error.DeriveError.{DeriveError}
 use Rattle.diag.specs.declared.error.DeriveError.TheVariants as error
 use Rattle.diag.specs.declared.kind.Kind.{Kind}
 use Rattle.acceptance.specs.Json.{Json}
@@ -18,11 +21,12 @@ use Rattle.reporting.specs.Program.{IsRefusedRun, IsRefusedGiven, IsReportOf}
 use Rattle.reporting.specs.declared.status.Status.{Status}
 use Rattle.reporting.specs.declared.status.Status.TheVariants.{Done, Refused, Usage, ReadFault, WriteFault, Memory, FileFault}
 use Rattle.schema_gen.specs.Derived.{IsDocument}
-use Rattle.schema_gen.specs.Given.{Given, IsConfiguredBy, IsConfigured, IsMisconfigured, IsMisconfiguredBy, IsGivenBy, ResolvesTo}
-use Rattle.schema_gen.specs.Owed.{schema_gen, IsReported, Owed}
+use Rattle.schema_gen.specs.Given.{Given, IsConfiguredBy, IsConfigured, IsMisconfigured, IsMisconfiguredBy, IsGivenBy, ResolvesTo, Task, of_sample, of_source}
+use Rattle.schema_gen.specs.Owed.{schema_gen, IsReported, Owed, Refuses}
+use Rattle.schema_gen.specs.Words.{IsDerive, IsSample, derive, sample}
 use Rattle.schema_gen.proofs.Misconfigured.{RefusedHaveFaults, file_fault}
 use Rattle.schema_gen.proofs.OtherKinds.{no_configuration}
-use Rattle.schema_gen.proofs.Told.{misconfigured}
+use Rattle.schema_gen.proofs.Told.{misconfigured, of_derive, one_form}
 
 -- what a file says, whatever is judged beside
 said_config : ((bytes : List ℕ) (c : Configuration) → IsConfigurationText bytes c → SaysInText bytes c) → (begun : Beginning) (c : Configuration) → IsConfigured begun c → IsConfiguredBy SaysInText begun c
@@ -43,11 +47,14 @@ described said meant begun text old new (given, is_given, of) grown = (
   subst (Appends old new) of.text_is grown,
 )
 
--- no source is refused with a kind of configurations
+-- nothing that a run is about is refused with a kind of configurations
+refused_task : (kind : Kind) → IsTrue (is_of_configuration kind) → (ds : List DiangosticsInner) → HasFirst ds (λ d. d.kind ≡ kind) → (task : Task) → Refuses task (error.Refused ds) → ⊥
+refused_task kind own ds first (of_source given) refused = no_configuration kind own ds first given.config given.text refused
+refused_task kind own ds first (of_sample many) refused = refused
+
 pub other_kind : (begun : Beginning) (kind : Kind) → IsTrue (is_of_configuration kind) → (line : List ℕ) → IsReportOf (IsRefusedGiven schema_gen begun) kind line → ⊥
 other_kind begun kind own line reported =
-    let cause = reported.cause in
-    no_configuration kind own reported.diagnostics reported.kind_is cause.0.config cause.0.text cause.2
+    refused_task kind own reported.diagnostics reported.kind_is reported.cause.0 reported.cause.2
 
 module _ (faults : RefusedHaveFaults) (begun : Beginning) where
   -- what refuses with such a kind is the file
@@ -56,7 +63,7 @@ module _ (faults : RefusedHaveFaults) (begun : Beginning) where
     where
       by : IsRefusedRun schema_gen begun (error.Refused reported.diagnostics) → IsMisconfiguredBy kind begun
       by (inl file) = file_fault faults kind reported.diagnostics reported.kind_is begun file
-      by (inr (given, is_given, refused)) = absurd (no_configuration kind own reported.diagnostics reported.kind_is given.config given.text refused)
+      by (inr (task, is, refused)) = absurd (refused_task kind own reported.diagnostics reported.kind_is task refused)
 
   -- a file that says no configuration is refused for what it holds
   only_cause : IsTrue begun.tells → IsMisconfigured begun → (kind : Kind) (line : List ℕ) → IsReported begun kind line → IsMisconfiguredBy kind begun
@@ -64,15 +71,37 @@ module _ (faults : RefusedHaveFaults) (begun : Beginning) where
     where
       by : IsRefusedRun schema_gen begun (error.Refused reported.diagnostics) → IsMisconfiguredBy kind begun
       by (inl other) = file_fault faults kind reported.diagnostics reported.kind_is begun other
-      by (inr (given, is_given, refused)) = absurd (misconfigured begun told file given.config is_given.config)
+      by (inr (of_source given, is, refused)) = absurd (misconfigured begun told file given.config is.config)
+      by (inr (of_sample many, is, refused)) = absurd (one_form begun.words (Some file.0) many file.2 is)
 
   pub only_bad_owed : IsTrue begun.tells → IsMisconfigured begun → (status : Status) → (status ≢ WriteFault → (text : List ℕ) × (report : List ℕ) × Owed begun status text report)
       → ((kind : Kind) × IsMisconfiguredBy kind begun × (status ≡ Refused kind)) ⊎ (status ≡ FileFault) ⊎ (status ≡ Memory) ⊎ (status ≡ WriteFault)
   unfolding Owes
-  only_bad_owed told file Done owed = let given = (owed (λ e. cc)).2.0 in absurd (misconfigured begun told file given.0.config given.1.config)
+  only_bad_owed told file Done owed =
+      let answered = of_derive begun (Some file.0) file.2 _ (owed (λ e. cc)).2.0 in absurd (misconfigured begun told file answered.0.config answered.1.config)
   only_bad_owed told file (Refused kind) owed = let reported = (owed (λ e. cc)).2.0 in inl (kind, only_cause told file kind _ reported, refl)
-  only_bad_owed told file Usage owed = absurd ((owed (λ e. cc)).2.0 (Some file.0, file.2))
+  only_bad_owed told file Usage owed = absurd ((owed (λ e. cc)).2.0 (derive (Some file.0), file.2))
   only_bad_owed told file ReadFault owed = let configured = (owed (λ e. cc)).2.0 in absurd (misconfigured begun told file configured.0 configured.1)
   only_bad_owed told file WriteFault owed = inr (inr (inr refl))
   only_bad_owed told file Memory owed = inr (inr (inl refl))
   only_bad_owed told file FileFault owed = inr (inl refl)
+
+-- words that ask for a sample are answered, but where writing fails or memory is wanted
+module _ (begun : Beginning) (many : ℕ) (samples : IsSample begun.words many) where
+  no_derive : (path : Option (List ℕ)) → IsDerive begun.words path → ⊥
+  no_derive path derives = one_form begun.words path many derives samples
+
+  no_cause : (e : DeriveError) → IsRefusedRun schema_gen begun e → ⊥
+  no_cause e (inl file) = no_derive (Some file.0) file.2
+  no_cause e (inr (of_source given, is, refused)) = no_derive is.config.0 is.config.1
+  no_cause e (inr (of_sample other, is, refused)) = refused
+
+  pub sample_owed : (status : Status) → (status ≢ WriteFault → (text : List ℕ) × (report : List ℕ) × Owed begun status text report) → (status ≡ WriteFault → ⊥) → (status ≡ Done) ⊎ (status ≡ Memory)
+  unfolding Owes
+  sample_owed Done owed calm = inl refl
+  sample_owed (Refused kind) owed calm = let reported = (owed (λ e. cc)).2.0 in absurd (no_cause (error.Refused reported.diagnostics) reported.cause)
+  sample_owed Usage owed calm = absurd ((owed (λ e. cc)).2.0 (sample many, samples))
+  sample_owed ReadFault owed calm = let configured = (owed (λ e. cc)).2.0 in absurd (no_derive configured.1.0 configured.1.1)
+  sample_owed WriteFault owed calm = absurd (calm refl)
+  sample_owed Memory owed calm = inr refl
+  sample_owed FileFault owed calm = let named = (owed (λ e. cc)).2.0 in absurd (no_derive (Some named.0) named.1)

@@ -1,6 +1,9 @@
 pub mod Consequences
+pub mod Decimal
 pub mod Misconfigured
 pub mod OneWord
 pub mod OtherKinds
+pub mod Sampling
 pub mod ThreeWords
 pub mod Told
+pub mod TwoWords

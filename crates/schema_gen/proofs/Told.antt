@@ -1,5 +1,8 @@
 -- What words, files and input give, where they tell it.
-use Rattle.std.proofs.Common.{◌≡◌, ◌↔◌, ℕ, List, IsTrue, Option, Some, None, IsSome, inl, inr, refl, ap, sym, ◌∙◌, subst}
+use Rattle.std.proofs.Common.{◌≡◌, ◌↔◌, ◌<◌, ◌^◌, arith, ℕ, List, IsTrue, Option, Some, None, IsSome, inl, inr, refl, ap, sym, ◌∙◌, subst}
+use Rattle.std.specs.Fmt.{decimal}
+use Rattle.std.specs.Str.Parse.{digits_value}
+use Rattle.std.proofs.lemmas.Fmt.{decimal_is_IsNumeral}
 use Rattle.diag.specs.declared.error.DeriveError.{DeriveError}
 use Rattle.streams.specs.Told.{IsAll}
 use Rattle.schema_core.specs.Document.{document, text_of}
@@ -7,13 +10,14 @@ use Rattle.configuration.specs.Configuration.{Configuration}
 use Rattle.configuration.specs.Form.{IsConfigurationText}
 use Rattle.compose.specs.Faults.{ComponentsAreOne}
 use Rattle.reporting.specs.Beginning.{Beginning}
-use Rattle.reporting.specs.Program.{IsRefusedRun}
+use Rattle.reporting.specs.Program.{IsAnswered, IsRefusedRun}
 use Rattle.schema_gen.specs.Derived.{IsDocument, IsDocumentOf}
 use Rattle.configuration.specs.Said.{IsSaidBy}
-use Rattle.schema_gen.specs.Given.{Given, IsConfigured, IsMisconfigured, IsGiven}
+use Rattle.schema_gen.specs.Given.{Given, IsConfigured, IsMisconfigured, IsGiven, of_sample, of_source}
 use Rattle.schema_gen.specs.Owed.{schema_gen, IsTold}
 use Rattle.schema_gen.specs.Refusals.{IsSound, IsRefusedSource}
-use Rattle.schema_gen.specs.Words.{IsDerive}
+use Rattle.schema_gen.specs.Sampled.{IsSampleLine}
+use Rattle.schema_gen.specs.Words.{IsDerive, IsSample}
 
 -- a text says one configuration
 abbrev pub OneConfiguration : Type 0
@@ -40,6 +44,32 @@ path_alone words path asked other = (λ named. same_path (one_path words (Some o
 
 pub no_path : (words : List (List ℕ)) → IsDerive words None → (path : List ℕ) → ¬ (IsDerive words (Some path))
 no_path words asked path named = let same : None ≡ Some path = one_path words None (Some path) asked named in cc
+
+-- words that ask for a document ask for no sample
+pub one_form : (words : List (List ℕ)) (path : Option (List ℕ)) (many : ℕ) → IsDerive words path → IsSample words many → ⊥
+unfolding IsDerive IsSample
+one_form words None many derives samples = let same = sym derives ∙ samples.0 in cc
+one_form words (Some path) many derives samples = let same = sym derives ∙ samples.0 in cc
+
+-- the same digits are of one number
+one_number : (m n : ℕ) → m < 2 ^ 64 → n < 2 ^ 64 → decimal m ≡ decimal n → m ≡ n
+one_number m n few less same = sym (decimal_is_IsNumeral m few).1 ∙ ap (digits_value 10) same ∙ (decimal_is_IsNumeral n less).1
+
+-- words ask for a sample of one size
+pub one_size : (words : List (List ℕ)) (m n : ℕ) → IsSample words m → IsSample words n → m ≡ n
+unfolding IsSample
+one_size words m n samples also =
+    let same : decimal m ≡ decimal n = (let words_are = sym samples.0 ∙ also.0 in cc) in
+    one_number m n (let few = samples.2 in omega arith) (let few = also.2 in omega arith) same
+
+-- what answers words that ask for a document is one, and what answers those for a sample is its line
+pub of_derive : (begun : Beginning) (path : Option (List ℕ)) → IsDerive begun.words path → (text : List ℕ) → IsAnswered schema_gen begun text → IsDocument begun text
+of_derive begun path derives text (of_source given, is, answers) = (given, is, answers)
+of_derive begun path derives text (of_sample many, is, answers) = absurd (one_form begun.words path many derives is)
+
+pub of_number : (begun : Beginning) (many : ℕ) → IsSample begun.words many → (line : List ℕ) → IsAnswered schema_gen begun line → IsSampleLine many line
+of_number begun many samples line (of_source given, is, answers) = absurd (one_form begun.words is.config.0 many is.config.1 samples)
+of_number begun many samples line (of_sample other, is, answers) = subst (λ n. IsSampleLine n line) (one_size begun.words other many is samples) answers
 
 -- told texts are one
 one_text : (left : Option (List ℕ)) (x y : List ℕ) → IsSome left → IsAll left x → IsAll left y → x ≡ y
@@ -83,7 +113,8 @@ module _ (begun : Beginning) where
   -- what is told and sound is not refused
   pub sound_run : SoundIsNotRefused → OneConfiguration → (given : Given) → IsGiven begun given → IsTold begun → IsSound given.config given.text → (e : DeriveError) → IsRefusedRun schema_gen begun e → ⊥
   sound_run law one given is told sound e (inl (path, bytes, form, at, (none, refused))) = misconfigured (told.held path form) (path, bytes, form, at, none) given.config is.config
-  sound_run law one given is told sound e (inr (other, other_is, refused)) =
+  sound_run law one given is told sound e (inr (of_sample many, other_is, refused)) = absurd (one_form begun.words is.config.0 many is.config.1 other_is)
+  sound_run law one given is told sound e (inr (of_source other, other_is, refused)) =
       let texts : given.text ≡ other.text = one_text begun.left given.text other.text (told.left (given.config, is.config)) is.text other_is.text in
       let configs : given.config ≡ other.config = one_configuration one told given.config other.config is.config other_is.config in
       law other.config other.text e (subst (λ c. IsSound c other.text) configs (subst (IsSound given.config) texts sound)) refused

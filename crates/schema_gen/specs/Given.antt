@@ -12,7 +12,7 @@ use Rattle.syntax.specs.Source.{Reads}
 use Rattle.shapes.specs.Declarations.{DeclarationOf}
 use Rattle.derive_decl.specs.Whole.{meant_declarations}
 use Rattle.reporting.specs.Beginning.{Beginning}
-use Rattle.schema_gen.specs.Words.{IsDerive}
+use Rattle.schema_gen.specs.Words.{IsDerive, IsSample}
 
 -- a configuration, and the text of a source
 pub record Given : Type 0 where
@@ -56,6 +56,15 @@ pub record IsGivenBy (Says : List ℕ → Configuration → Type 0)
 
 abbrev pub IsGiven : Beginning → Given → Type 0
 IsGiven begun given = IsGivenBy IsConfigurationText begun given
+
+-- what a run is about: a source with a configuration, or a sample of so many declarations
+pub data Task : Type 0 where
+  of_source : Given → Task
+  of_sample : ℕ → Task
+
+abbrev pub IsTask : Beginning → Task → Type 0
+IsTask begun (of_source given) = IsGiven begun given
+IsTask begun (of_sample many) = IsSample begun.words many
 
 -- The text is read as declarations, and these are what they mean.
 pub record ResolvesTo (given : Given) (resolved : List DeclarationOf) : Type 0 where

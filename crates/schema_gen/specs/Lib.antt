@@ -2,6 +2,7 @@ pub mod Derived
 pub mod Given
 pub mod Owed
 pub mod Refusals
+pub mod Sampled
 pub mod Words
 pub use Rattle.acceptance.specs.Acceptance
 pub use Rattle.acceptance.specs.Json
@@ -37,6 +38,8 @@ pub use Rattle.reporting.specs.Numbers
 pub use Rattle.reporting.specs.Owed as RunsOwed
 pub use Rattle.reporting.specs.Program
 pub use Rattle.reporting.specs.Report
+pub use Rattle.rings.specs.Rings
+pub use Rattle.samples.specs.Samples
 pub use Rattle.schema_core.specs.Document
 pub use Rattle.schema_trees.specs.Held as HeldValues
 pub use Rattle.streams.specs.Faults as StreamFaults

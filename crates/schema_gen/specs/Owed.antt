@@ -1,5 +1,6 @@
 -- What schema_gen is to its runs: what they are told, report and owe.
-use Rattle.std.specs.Prelude.{ℕ, List, Option, Some, codes}
+use Rattle.std.specs.Prelude.{ℕ, List, Some, codes}
+use Rattle.diag.specs.declared.error.DeriveError.{DeriveError}
 use Rattle.diag.specs.declared.kind.Kind.{Kind}
 use Rattle.configuration.specs.Configuration.{Configuration}
 use Rattle.reporting.specs.Beginning.{Beginning}
@@ -7,23 +8,34 @@ use Rattle.reporting.specs.Owed.{Owes}
 use Rattle.reporting.specs.Program.{Program, IsRefusedRun, IsReportOf, IsToldTo}
 use Rattle.reporting.specs.declared.status.Status.{Status}
 use Rattle.schema_gen.specs.Derived.{IsDocumentOf}
-use Rattle.schema_gen.specs.Given.{Given, IsConfigured, IsRefusedFile, IsGiven}
+use Rattle.schema_gen.specs.Given.{IsConfigured, IsRefusedFile, IsTask, Task, of_sample, of_source}
 use Rattle.schema_gen.specs.Refusals.{IsRefusedSource}
-use Rattle.schema_gen.specs.Words.{IsDerive}
+use Rattle.schema_gen.specs.Sampled.{IsSampleLine}
+use Rattle.schema_gen.specs.Words.{Asked, AskFor, IsDerive}
+
+-- the text answers: it is that of the document of a source, or the line of a sample
+abbrev pub Answers : Task → List ℕ → Type 0
+Answers (of_source given) text = IsDocumentOf given.config given.text text
+Answers (of_sample many) text = IsSampleLine many text
+
+-- the error refuses a source; no sample is refused
+abbrev pub Refuses : Task → DeriveError → Type 0
+Refuses (of_source given) e = IsRefusedSource given.config given.text e
+Refuses (of_sample many) e = ⊥
 
 -- words may name the path of a configuration, which the file there may not say; a source is given
--- with the configuration, and the text of its document answers
+-- with the configuration, and the text of its document answers; or words ask for a sample
 abbrev pub schema_gen : Program
 schema_gen = record {
-  usage = codes "usage: schema_gen derive [--config PATH]\n";
-  Request = Option (List ℕ);
-  ask_for = IsDerive;
+  usage = codes "usage: schema_gen derive [--config PATH]\n   or: schema_gen sample N\n";
+  Request = Asked;
+  ask_for = AskFor;
   name_path = λ words path. IsDerive words (Some path);
   asks_for_input = λ begun. (c : Configuration) × IsConfigured begun c;
-  Given = Given;
-  is_given = IsGiven;
-  answers = λ given text. IsDocumentOf given.config given.text text;
-  refuses = λ given e. IsRefusedSource given.config given.text e;
+  Given = Task;
+  is_given = IsTask;
+  answers = Answers;
+  refuses = Refuses;
   refuses_file = IsRefusedFile;
 }
 

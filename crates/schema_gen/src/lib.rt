@@ -9,6 +9,7 @@ mod command;
 mod derivation;
 mod law;
 mod program;
+mod size;
 pub mod whole_files;
 
 pub use compose::{Derived, derive_components};
@@ -22,6 +23,7 @@ pub use law::{sound_is_not_refused, told_texts_are_one};
 pub use open_types::ClosedType;
 pub use program::run;
 pub use reporting::{Status, Words};
+pub use samples::{MOST_DECLARATIONS, sample_source};
 pub use schema_core::{Components, ComponentsIter};
 pub use streams::{
     Failed, HonestSink, HonestSource, MemorySink, MemorySource, ReadError, Sink, Source, StdSink,

@@ -1,4 +1,4 @@
-ghost use Rattle.std.specs.Prelude.{◌≡◌, ◌≢◌, ◌⊎◌, ℕ, List, IsTrue, codes};
+ghost use Rattle.std.specs.Prelude.{◌≡◌, ◌≢◌, ◌⊎◌, ℕ, List, Option, IsTrue, codes};
 ghost use Rattle.std.specs.Io.KnownBytes.{Appends, Keeps, IsAtEnd};
 ghost use Rattle.diag.specs.declared.kind.Kind.{Kind as AnyKind};
 ghost use Rattle.acceptance.specs.Json.{Json};
@@ -18,7 +18,8 @@ ghost use Rattle.schema_gen.specs.Derived.{IsDocument};
 ghost use Rattle.schema_gen.specs.Given.{Given as AnyGiven, IsGiven, IsGivenBy, IsConfigured, IsMisconfigured, IsMisconfiguredBy, ResolvesTo};
 ghost use Rattle.schema_gen.specs.Owed.{IsReported, IsTold, Owed};
 ghost use Rattle.schema_gen.specs.Refusals.{IsSound};
-ghost use Rattle.schema_gen.specs.Words.{IsDerive, HaveForm};
+ghost use Rattle.schema_gen.specs.Sampled.{IsSampleLine};
+ghost use Rattle.schema_gen.specs.Words.{HaveForm, IsDerive, IsSample};
 
 use crate::derivation::derivation_of;
 use crate::law::sound_is_not_refused;
@@ -30,7 +31,8 @@ use std::alloc::Global;
 use streams::{Sink, Source};
 
 /// Runs the program: with the word `derive` it reads the source to its end, and writes the document of its components
-/// to `out`. With `derive --config PATH` it first reads the configuration from the file at the path. What it has to say
+/// to `out`. With `derive --config PATH` it first reads the configuration from the file at the path. With `sample N` it reads
+/// nothing, and writes how many components and bytes the document of `sample_source` has for this number. What it has to say
 /// beside goes to `err`, a line each: of a refusal the kind, the span in bytes and the message; of other words how to use
 /// them; of a fault of reading the input or the file that there was one.
 ///
@@ -47,7 +49,7 @@ pub fn run<S: Source, F: Files, O: Sink, E: Sink>(
     // The bytes that were written are one document. It describes the declarations of the source, as
     // the configuration says what they mean: each root has its component, and so has each
     // reference, and the component of a plain instance accepts exactly the JSON of its shape.
-    ensures done { result ≡ Status.Done
+    ensures done { (path : Option (List ℕ)) → IsDerive words.now path → result ≡ Status.Done
         → (given : AnyGiven) × (resolved : List DeclarationOf) × (document : Json)
         × IsGivenBy SaysInText (beginning_of S.Source F.Files words.now input.old files.old) given
         × ResolvesTo given resolved
@@ -55,16 +57,24 @@ pub fn run<S: Source, F: Files, O: Sink, E: Sink>(
         × Appends (O.written out.old) (O.written out.new) (text_of document) }
     // The document is that of the source's components, without others, and no condition of a
     // refusal holds. No other value that `serde_json` can hold has the text that was written.
-    ensures derived { result ≡ Status.Done → (text : List ℕ)
-        × IsDocument (beginning_of S.Source F.Files words.now input.old files.old) text
+    ensures derived { (path : Option (List ℕ)) → IsDerive words.now path → result ≡ Status.Done
+        → (text : List ℕ) × IsDocument (beginning_of S.Source F.Files words.now input.old files.old) text
         × Appends (O.written out.old) (O.written out.new) text }
+    // A sample goes through the derivation of its source.
+    ensures sampled { (many : ℕ) → IsSample words.now many → result ≡ Status.Done
+        → (line : List ℕ) × IsSampleLine many line
+        × Appends (O.written out.old) (O.written out.new) line }
+    ensures unrefused { (many : ℕ) → IsSample words.now many
+        → ¬ (CountsFault (O.faults out.old) (O.faults out.new))
+        → ¬ (CountsFault (E.faults err.old) (E.faults err.new))
+        → (result ≡ Status.Done) ⊎ (result ≡ Status.Memory) }
     ensures refused { (kind : AnyKind) → result ≡ Status.Refused kind → (line : List ℕ)
         × IsReported (beginning_of S.Source F.Files words.now input.old files.old) kind line
         × Appends (E.written err.old) (E.written err.new) line }
     ensures usage { result ≡ Status.Usage → ¬ (HaveForm words.now) }
     ensures usage_line { result ≡ Status.Usage
         → Appends (E.written err.old) (E.written err.new)
-        (codes "usage: schema_gen derive [--config PATH]\n") }
+        (codes "usage: schema_gen derive [--config PATH]\n   or: schema_gen sample N\n") }
     ensures only_usage { ¬ (HaveForm words.now)
         → (result ≡ Status.Usage) ⊎ (result ≡ Status.WriteFault) }
     // The configuration comes first, and is refused with kinds of its own. Without one nothing of
@@ -135,7 +145,8 @@ pub fn run<S: Source, F: Files, O: Sink, E: Sink>(
     ensures write_fault { result ≡ Status.WriteFault
         → CountsFault (O.faults out.old) (O.faults out.new)
         ⊎ CountsFault (E.faults err.old) (E.faults err.new) }
-    ensures end { result ≡ Status.Done → IsAtEnd (S.left input.new) }
+    ensures end { (path : Option (List ℕ)) → IsDerive words.now path → result ≡ Status.Done
+        → IsAtEnd (S.left input.new) }
     ensures input_calm { result ≢ Status.ReadFault → result ≢ Status.WriteFault
         → S.faults input.new ≡ S.faults input.old }
     ensures files_calm { result ≢ Status.FileFault → result ≢ Status.WriteFault
