@@ -54,7 +54,7 @@ arguments _ = no_types
 abbrev pub instance : ℕ → Open
 instance i = named i (arguments (turn i))
 
--- the number behind the number, and behind the last the first
+-- the number after the number, and after the last the first
 abbrev pub next : (many : ℕ) → ℕ → ℕ
 next many i = suc i % many
 
@@ -89,7 +89,7 @@ instances many = map instance (numbers many)
 
 -- ---- the law
 
--- Each declaration of the ring has one instance, which is small; their names differ; each is a component, and none stands in the schema of another.
+-- Each declaration of the ring has one instance, which is small; the names of instances differ; no inline path is longer than it may be; each instance is a component, and there are as many copies as instances, since none stands in the schema of another.
 pub record IsOpenRing (many : ℕ) : Type 0 where
   pub reached : AreInstances (ring many) (instances many)
   pub small : (t : Open) → IsReachable (ring many) t → type_size t ≤ 2

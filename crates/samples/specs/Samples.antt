@@ -3,25 +3,26 @@ use Rattle.std.specs.Prelude.{ℕ, List, [], ◌++◌, codes}
 use Rattle.std.specs.List.{flat_map}
 use Rattle.rings.specs.Rings.{Turn, plain_struct, generic_struct, tagged_enum, turn, name, next, numbers}
 
--- the arguments of a type as they are written
+-- the arguments of a type, as they are written
 abbrev pub written_arguments : Turn → List ℕ
 written_arguments generic_struct = codes "<bool>"
 written_arguments _ = []
 
--- the type of the declaration of the number
+-- the type of the declaration of the number, as it is written
 abbrev pub type_text : ℕ → List ℕ
 type_text i = name i ++ written_arguments (turn i)
 
--- the declaration of the name, which names the type
-abbrev pub declaration_text : Turn → (name type : List ℕ) → List ℕ
-declaration_text plain_struct name type = codes "struct " ++ (name ++ (codes " { id: u64, name: Option<String>, next: Option<Box<" ++ (type ++ codes ">> }\n")))
-declaration_text generic_struct name type = codes "struct " ++ (name ++ (codes "<T> { item: T, next: Option<Box<" ++ (type ++ codes ">> }\n")))
-declaration_text tagged_enum name type = codes "#[serde(tag = \"t\")] enum " ++ (name ++ (codes " { A, B { next: Vec<" ++ (type ++ codes "> } }\n")))
+-- the text of a declaration of that turn, with a name of its own, in which the type of the next stands
+abbrev pub declaration_text : Turn → (own of : List ℕ) → List ℕ
+declaration_text plain_struct own of = codes "struct " ++ (own ++ (codes " { id: u64, name: Option<String>, next: Option<Box<" ++ (of ++ codes ">> }\n")))
+declaration_text generic_struct own of = codes "struct " ++ (own ++ (codes "<T> { item: T, next: Option<Box<" ++ (of ++ codes ">> }\n")))
+declaration_text tagged_enum own of = codes "#[serde(tag = \"t\")] enum " ++ (own ++ (codes " { A, B { next: Vec<" ++ (of ++ codes "> } }\n")))
 
+-- the declaration of the number among so many, which names the next
 abbrev pub numbered_text : (many : ℕ) → ℕ → List ℕ
 numbered_text many i = declaration_text (turn i) (name i) (type_text (next many i))
 
--- a sample has from 1 to so many declarations
+-- a sample has at most so many declarations
 abbrev pub most_declarations : ℕ
 most_declarations = 1000
 

@@ -1,4 +1,4 @@
--- What is known of each sample: it is read, and nothing in it is at fault or beyond a bound.
+-- What is known of samples: they are read, and nothing in them is at fault or beyond a bound.
 use Rattle.std.specs.Prelude.{◌≡◌, ◌≤◌, ℕ, List, Some, length}
 use Rattle.std.specs.Str.{IsUtf8}
 use Rattle.texts.specs.declared.span.Span.{Span}
@@ -11,7 +11,7 @@ use Rattle.compose.specs.Bounds.{AreBounded}
 use Rattle.compose.specs.Faults.{AreClear}
 use Rattle.samples.specs.Samples.{sample_text}
 
--- The sample of so many declarations is a text of UTF-8, no longer than a source may be, which is read, nests nowhere too deep, and has nothing that refuses it where nothing is configured.
+-- The sample of so many declarations is UTF-8 and no longer than a source may be, 1 MiB. It is read as declarations, and its brackets and types nest nowhere too deep. Where nothing is configured, no condition of a refusal holds of the declarations, and nothing of what they are resolved to is beyond a bound.
 pub record IsSoundSample (many : ℕ) : Type 0 where
   pub utf8 : IsUtf8 (sample_text many)
   pub short : length (sample_text many) ≤ 1048576

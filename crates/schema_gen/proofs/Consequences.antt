@@ -86,7 +86,7 @@ module _ (faults : RefusedHaveFaults) (begun : Beginning) where
   only_bad_owed told file Memory owed = inr (inr (inl refl))
   only_bad_owed told file FileFault owed = inr (inl refl)
 
--- words that ask for a sample are answered, but where writing fails or memory is wanted
+-- words that ask for a sample are answered, unless writing fails or memory is wanted
 module _ (begun : Beginning) (many : ℕ) (samples : IsSample begun.words many) where
   no_derive : (path : Option (List ℕ)) → IsDerive begun.words path → ⊥
   no_derive path derives = one_form begun.words path many derives samples
@@ -96,12 +96,13 @@ module _ (begun : Beginning) (many : ℕ) (samples : IsSample begun.words many) 
   no_cause e (inr (of_source given, is, refused)) = no_derive is.config.0 is.config.1
   no_cause e (inr (of_sample other, is, refused)) = refused
 
-  pub sample_owed : (status : Status) → (status ≢ WriteFault → (text : List ℕ) × (report : List ℕ) × Owed begun status text report) → (status ≡ WriteFault → ⊥) → (status ≡ Done) ⊎ (status ≡ Memory)
+  pub sample_owed : (status : Status) → (status ≢ WriteFault → (text : List ℕ) × (report : List ℕ) × Owed begun status text report)
+      → (status ≡ Done) ⊎ (status ≡ Memory) ⊎ (status ≡ WriteFault)
   unfolding Owes
-  sample_owed Done owed calm = inl refl
-  sample_owed (Refused kind) owed calm = let reported = (owed (λ e. cc)).2.0 in absurd (no_cause (error.Refused reported.diagnostics) reported.cause)
-  sample_owed Usage owed calm = absurd ((owed (λ e. cc)).2.0 (sample many, samples))
-  sample_owed ReadFault owed calm = let configured = (owed (λ e. cc)).2.0 in absurd (no_derive configured.1.0 configured.1.1)
-  sample_owed WriteFault owed calm = absurd (calm refl)
-  sample_owed Memory owed calm = inr refl
-  sample_owed FileFault owed calm = let named = (owed (λ e. cc)).2.0 in absurd (no_derive (Some named.0) named.1)
+  sample_owed Done owed = inl refl
+  sample_owed (Refused kind) owed = let reported = (owed (λ e. cc)).2.0 in absurd (no_cause (error.Refused reported.diagnostics) reported.cause)
+  sample_owed Usage owed = absurd ((owed (λ e. cc)).2.0 (sample many, samples))
+  sample_owed ReadFault owed = let configured = (owed (λ e. cc)).2.0 in absurd (no_derive configured.1.0 configured.1.1)
+  sample_owed WriteFault owed = inr (inr refl)
+  sample_owed Memory owed = inr (inl refl)
+  sample_owed FileFault owed = let named = (owed (λ e. cc)).2.0 in absurd (no_derive (Some named.0) named.1)

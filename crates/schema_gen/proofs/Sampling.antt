@@ -33,4 +33,4 @@ module _ (many : ℕ) (config : Configuration) (bytes : List ℕ) (config_is : c
   line_of document line components of line_is =
       let own = subst (λ b. (of : IsDocumentOf config b document) × (components ≡ length of.components)) bytes_are of in
       let here = subst (λ c. (of : IsDocumentOf c (sample_text many) document) × (components ≡ length of.components)) config_is own in
-      record { text = document; document = here.0; line_is = line_is ∙ ap (λ n. sample_line many n (length document)) here.1 }
+      record { text = document; derived = here.0; line_is = line_is ∙ ap (λ n. sample_line many n (length document)) here.1 }

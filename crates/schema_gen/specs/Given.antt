@@ -19,8 +19,8 @@ pub record Given : Type 0 where
   pub config : Configuration
   pub text : List ℕ
 
--- the words have a form, and the configuration is that of their path, where `Says` tells which bytes
--- say it
+-- the words are of a form of `derive`, and the configuration is that of their path, where `Says`
+-- tells which bytes say it
 abbrev pub IsConfiguredBy : (Says : List ℕ → Configuration → Type 0)
     → Beginning → Configuration → Type 0
 IsConfiguredBy Says begun c = (path : Option (List ℕ))

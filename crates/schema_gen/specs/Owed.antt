@@ -23,8 +23,9 @@ abbrev pub Refuses : Task → DeriveError → Type 0
 Refuses (of_source given) e = IsRefusedSource given.config given.text e
 Refuses (of_sample many) e = ⊥
 
--- words may name the path of a configuration, which the file there may not say; a source is given
--- with the configuration, and the text of its document answers; or words ask for a sample
+-- Words may name the path of a configuration, and a file there that says none is refused. A source
+-- is given with the configuration, and the text of its document answers; a sample is given by how
+-- many declarations it has, and its line answers.
 abbrev pub schema_gen : Program
 schema_gen = record {
   usage = codes "usage: schema_gen derive [--config PATH]\n   or: schema_gen sample N\n";

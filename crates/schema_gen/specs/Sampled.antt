@@ -1,4 +1,4 @@
--- What a run with the word `sample` writes.
+-- What a run of `sample N` writes.
 use Rattle.std.specs.Prelude.{◌≡◌, ◌++◌, ℕ, List, length, codes}
 use Rattle.std.specs.Fmt.{decimal}
 use Rattle.configuration.specs.Configuration.{empty_configuration}
@@ -11,9 +11,9 @@ sample_line declarations components bytes =
     codes "declarations " ++ (decimal declarations ++ (codes " components "
     ++ (decimal components ++ (codes " bytes " ++ (decimal bytes ++ codes "\n")))))
 
--- The line tells how many declarations a sample has, how many components the document of its source
--- has under the empty configuration, and how many bytes this has with its new line.
+-- The line tells how many declarations a sample has, how many components its document has under the
+-- empty configuration, and how many bytes the document has with its new line.
 pub record IsSampleLine (many : ℕ) (line : List ℕ) : Type 0 where
   pub text : List ℕ
-  pub document : IsDocumentOf empty_configuration (sample_text many) text
-  pub line_is : line ≡ sample_line many (length document.components) (length text)
+  pub derived : IsDocumentOf empty_configuration (sample_text many) text
+  pub line_is : line ≡ sample_line many (length derived.components) (length text)

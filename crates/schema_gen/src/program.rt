@@ -30,14 +30,14 @@ use reporting::{Status, Words, run_command};
 use std::alloc::Global;
 use streams::{Sink, Source};
 
-/// Runs the program: with the word `derive` it reads the source to its end, and writes the document of its components
+/// Runs the program. With the word `derive` alone it reads the source to its end, and writes the document of its components
 /// to `out`. With `derive --config PATH` it first reads the configuration from the file at the path. With `sample N` it reads
-/// nothing, and writes how many components and bytes the document of `sample_source` has for this number. What it has to say
-/// beside goes to `err`, a line each: of a refusal the kind, the span in bytes and the message; of other words how to use
-/// them; of a fault of reading the input or the file that there was one.
+/// nothing, and writes to `out` a line: how many declarations `sample_source` of this number has, and how many components and
+/// bytes its document. What it has to say beside goes to `err`, in lines: of a refusal the kind, the span in bytes and the
+/// message; of other words how to use them; of a fault of reading the input or the file that there was one.
 ///
-/// Nothing is written before all is made, and writing takes no memory. So `out` gets the whole document or nothing,
-/// except after a fault of writing, when it has a front of what it was to get.
+/// Nothing is written before all is made, and writing takes no memory. So `out` gets all that it is to get or nothing,
+/// except after a fault of writing, when it has a front of it.
 pub fn run<S: Source, F: Files, O: Sink, E: Sink>(
     alloc: Global,
     words: &Words,
@@ -60,14 +60,12 @@ pub fn run<S: Source, F: Files, O: Sink, E: Sink>(
     ensures derived { (path : Option (List ℕ)) → IsDerive words.now path → result ≡ Status.Done
         → (text : List ℕ) × IsDocument (beginning_of S.Source F.Files words.now input.old files.old) text
         × Appends (O.written out.old) (O.written out.new) text }
-    // A sample goes through the derivation of its source.
+    // The line of a sample tells of the document that its source has. No sample is refused.
     ensures sampled { (many : ℕ) → IsSample words.now many → result ≡ Status.Done
         → (line : List ℕ) × IsSampleLine many line
         × Appends (O.written out.old) (O.written out.new) line }
     ensures unrefused { (many : ℕ) → IsSample words.now many
-        → ¬ (CountsFault (O.faults out.old) (O.faults out.new))
-        → ¬ (CountsFault (E.faults err.old) (E.faults err.new))
-        → (result ≡ Status.Done) ⊎ (result ≡ Status.Memory) }
+        → (result ≡ Status.Done) ⊎ (result ≡ Status.Memory) ⊎ (result ≡ Status.WriteFault) }
     ensures refused { (kind : AnyKind) → result ≡ Status.Refused kind → (line : List ℕ)
         × IsReported (beginning_of S.Source F.Files words.now input.old files.old) kind line
         × Appends (E.written err.old) (E.written err.new) line }
@@ -77,8 +75,8 @@ pub fn run<S: Source, F: Files, O: Sink, E: Sink>(
         (codes "usage: schema_gen derive [--config PATH]\n   or: schema_gen sample N\n") }
     ensures only_usage { ¬ (HaveForm words.now)
         → (result ≡ Status.Usage) ⊎ (result ≡ Status.WriteFault) }
-    // The configuration comes first, and is refused with kinds of its own. Without one nothing of
-    // the input is read, and where the words name no path, no file is.
+    // The configuration comes first, and is refused with kinds of its own. Where the words give
+    // none, nothing of the input is read, and where they name no path, no file is.
     ensures bad_config { (kind : AnyKind) → IsTrue (is_of_configuration kind)
         → result ≡ Status.Refused kind → IsMisconfiguredBy kind
         (beginning_of S.Source F.Files words.now input.old files.old) }

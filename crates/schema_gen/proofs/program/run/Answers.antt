@@ -25,9 +25,7 @@ pub returns-clause-sampled : goal.returns-clause-sampled
 returns-clause-sampled g c = λ many samples is. let done = c.run_command.ensures.done is in (done.0, of_number _ many samples _ done.1, done.2)
 
 pub returns-clause-unrefused : goal.returns-clause-unrefused
-returns-clause-unrefused g c = λ many samples out_calm err_calm.
-    sample_owed _ many samples _ (λ whole. let written = c.run_command.ensures.written whole in (written.0, written.1, written.2))
-    (λ failed. elim (c.run_command.ensures.write_fault failed) [ inl out ↦ out_calm out | inr err ↦ err_calm err ])
+returns-clause-unrefused g c = λ many samples. sample_owed _ many samples _ (λ whole. let written = c.run_command.ensures.written whole in (written.0, written.1, written.2))
 
 pub returns-clause-bad_config : goal.returns-clause-bad_config
 returns-clause-bad_config g c = λ kind own is. let refused = c.run_command.ensures.refused kind is in bad_config_cause c.refused_texts_have_faults.ensures _ kind own refused.0 refused.1
