@@ -10,6 +10,9 @@ argument `--serde` and with the stand-ins whose crate the sources name as the ro
 Where there is a document the crate derives; it describes nothing where no declaration is taken. Else the faults are counted by kinds.
 The program reports the first hundred faults, and of a declaration the first. Behind the totals stands each unknown name, with its crates.
 
+With `--leave-out` what a refusal says to leave out by `--exclude` is left out, of two declarations or aliases of one name the one that
+is reported, and the crate is run again, until nothing more is given twice. Such crates are counted for themselves.
+
 The exit status is 0 whatever the program refuses, and 2 where the arguments are others than these.
 """
 import argparse
@@ -110,10 +113,28 @@ def kind(fault):
     return f"other: {fault['kind']}"
 
 
-def judge(crate, status, said, totals, registry):
+def given_twice(said):
+    """Returns the places, `PATH:LINE`, of what a refusal says to leave out since another has its name."""
+    of_names = [it for it in faults(said) if it["kind"] in ("DuplicateName", "AliasDepth") and "--exclude" in it["help"]]
+    return [f"{it['path']}:{it['line']}" for it in of_names]
+
+
+def run(program, words, leaves_out):
+    """Returns the exit status, the standard error and how many declarations and aliases are left out."""
+    left = []
+    while True:
+        ran = subprocess.run([program, *(f"--exclude={it}" for it in left), *words], capture_output=True, text=True, errors="replace", check=False)
+        more = [it for it in given_twice(ran.stderr) if it not in left] if leaves_out else []
+        if not more:
+            return ran.returncode, ran.stderr, len(left)
+        left += more
+
+
+def judge(crate, status, said, left, totals, registry):
     """Prints what became of a crate, and adds it to the totals."""
     if status == 0:
         which = "derives nothing" if "nothing is described" in said else "derives"
+        which += " where what is given twice is left out" if left else ""
         totals["crates"][which] += 1
         print(f"{crate}: {which}")
         return
@@ -141,6 +162,7 @@ def main():
     words.add_argument("--program", metavar="PATH", default=f"{here}/schema_gen_file", help="the program, instead of ./schema_gen_file of this repository")
     words.add_argument("--stand-ins", metavar="FOLDER", default=f"{here}/stand_ins", help="the folder of the stand-ins, instead of stand_ins; `--stand-ins=` takes none")
     words.add_argument("--words", metavar="WORDS", default="--serde", help="the arguments before the files, instead of `--serde`")
+    words.add_argument("--leave-out", action="store_true", help="leaves out what a refusal says is given twice, and runs again")
     words.add_argument("--plain", action="store_true", help="only crates of which a derive stands under no condition")
     words.add_argument("--cases", metavar="FOLDER", help="runs nothing, and puts each crate's arguments into FOLDER, as `rt try --cases` reads them")
     words.add_argument("--answers", metavar="FILE", help="runs nothing, and reads what `rt try --cases` wrote on standard error")
@@ -157,10 +179,9 @@ def main():
                     to.write("".join(f"{line}\n" for line in lines))
         elif answered is not None:
             if crate in answered:
-                judge(crate, *answered[crate], totals, registry)
+                judge(crate, *answered[crate], 0, totals, registry)
         else:
-            ran = subprocess.run([it.program, *said], capture_output=True, text=True, errors="replace", check=False)
-            judge(crate, ran.returncode, ran.stderr, totals, registry)
+            judge(crate, *run(it.program, said, it.leave_out), totals, registry)
     if it.cases:
         return 0
     print(f"\n{sum(totals['crates'].values())} crates")
