@@ -1,4 +1,5 @@
--- A ring of declarations, of which each names the next and the last the first: in turn a struct, a struct over a type parameter and an enum with an internal tag.
+-- A ring of declarations, of which each names the next and the last the first: in turn a struct, a struct over a type parameter
+-- and an enum with an internal tag.
 use Rattle.std.specs.Prelude.{◌≡◌, ◌≤◌, ◌%◌, ℕ, zero, suc, List, [], ◌∷◌, map, codes, Bool, true, false}
 use Rattle.std.specs.Fmt.{decimal}
 use Rattle.std.specs.List.{range_with_len}
@@ -33,6 +34,7 @@ turn_by (suc (suc n)) = tagged_enum
 abbrev pub turn : ℕ → Turn
 turn i = turn_by (i % 3)
 
+-- the code points of S, G and E
 abbrev pub letter : Turn → ℕ
 letter plain_struct = 83
 letter generic_struct = 71
@@ -67,12 +69,20 @@ variant name ms = record { name = name; annotations = unannotated; form = named_
 abbrev pub unit_variant : List ℕ → VariantOf
 unit_variant name = record { name = name; annotations = unannotated; form = no_fields }
 
--- { id: u64, name: Option<String>, next: Option<Box<t>> }, { item: T, next: Option<Box<t>> }, { A, B { next: Vec<t> } }
+-- { id: u64, name: Option<String>, next: Option<Box<t>> }, { item: T, next: Option<Box<t>> }, { next: Vec<t> }
+abbrev pub members : Turn → Open → List MemberOf
+members plain_struct t =
+    member (codes "id") true (leaf leaves.U64)
+    ∷ member (codes "name") false (option (leaf leaves.String))
+    ∷ member (codes "next") false (option (through Box t)) ∷ []
+members generic_struct t = member (codes "item") true (param 0) ∷ member (codes "next") false (option (through Box t)) ∷ []
+members tagged_enum t = member (codes "next") true (items Vec t) ∷ []
+
+-- a struct with the members, or an enum { A, B { .. } } with them in `B`
 abbrev pub body : Turn → Open → BodyOf
-body plain_struct t =
-    fields (named_fields false (member (codes "id") true (leaf leaves.U64) ∷ member (codes "name") false (option (leaf leaves.String)) ∷ member (codes "next") false (option (through Box t)) ∷ []))
-body generic_struct t = fields (named_fields false (member (codes "item") true (param 0) ∷ member (codes "next") false (option (through Box t)) ∷ []))
-body tagged_enum t = variants (Internal (codes "t")) (unit_variant (codes "A") ∷ variant (codes "B") (member (codes "next") true (items Vec t) ∷ []) ∷ [])
+body plain_struct t = fields (named_fields false (members plain_struct t))
+body generic_struct t = fields (named_fields false (members generic_struct t))
+body tagged_enum t = variants (Internal (codes "t")) (unit_variant (codes "A") ∷ variant (codes "B") (members tagged_enum t) ∷ [])
 
 -- the declaration of the number in a ring of so many
 abbrev pub declaration : (many : ℕ) → ℕ → DeclarationOf
@@ -89,7 +99,8 @@ instances many = map instance (numbers many)
 
 -- ---- the law
 
--- Each declaration of the ring has one instance, which is small; the names of instances differ; no inline path is longer than it may be; each instance is a component, and there are as many copies as instances, since none stands in the schema of another.
+-- Each declaration of the ring has one instance, which is small; the names of instances differ; no inline path is longer than it
+-- may be; each instance is a component, and there are as many copies as instances, since none stands in the schema of another.
 pub record IsOpenRing (many : ℕ) : Type 0 where
   pub reached : AreInstances (ring many) (instances many)
   pub small : (t : Open) → IsReachable (ring many) t → type_size t ≤ 2

@@ -1,4 +1,5 @@
-//! Rings of declarations, which are large as one likes: which instances they have, and that nothing in them is beyond a bound.
+//! Rings of declarations, as large as one likes: which instances they have, that each is small and has a name of its own,
+//! and that none stands in the schema of another.
 #![tactic(auto)]
 
 mod law;

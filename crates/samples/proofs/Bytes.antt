@@ -3,15 +3,14 @@ use Rattle.std.proofs.Common.{◌≡◌, ℕ, zero, suc, ◌+◌, ◌*◌, ◌�
 use Rattle.std.proofs.Math.Nat.{mod-le}
 use Rattle.std.proofs.lemmas.Bool.{and_parts, lt-ltb, ltb-true}
 use Rattle.std.proofs.lemmas.Fmt.{length-decimal-le}
-use Rattle.std.proofs.lemmas.List.Elements.{All-from_recursion}
 use Rattle.std.proofs.lemmas.List.Folds.{list_all-append}
 use Rattle.std.proofs.lemmas.List.FromFn.{length-range_with_len}
 use Rattle.std.proofs.lemmas.Str.{IsUtf8-from_ascii}
-use Rattle.std.proofs.lemmas.Str.Ascii.{IsAscii-from_all}
+use Rattle.std.proofs.lemmas.Str.Ascii.{IsAscii-nil, IsAscii-cons}
 use Rattle.std.specs.Fmt.{decimal}
 use Rattle.std.specs.List.{AllByRecursion, flat_map, list_all, range_with_len}
 use Rattle.std.specs.Prelude.{nat_lt}
-use Rattle.std.specs.Str.{IsUtf8}
+use Rattle.std.specs.Str.{IsAscii, IsUtf8}
 use Rattle.rings.specs.Rings.{Turn, plain_struct, generic_struct, tagged_enum, letter, turn, name, next, numbers}
 use Rattle.samples.specs.Samples.{written_arguments, type_text, declaration_text, numbered_text, sample_text}
 use Rattle.samples.proofs.Names.{IsDigit, decimal_digits}
@@ -72,19 +71,17 @@ declarations_ascii many (i ∷ is) h =
     let here = declaration_ascii (turn i) (name i) (type_text (next many i)) named typed in
     both_ascii (numbered_text many i) (flat_map (numbered_text many) is) here (declarations_ascii many is h.1)
 
-from_test : (cs : List ℕ) → all_ascii cs ≡ true → AllByRecursion (λ c. c < 128) cs
-from_test [] h = tt
-from_test (c ∷ cs) h = let both = and_parts (nat_lt c 128) (all_ascii cs) h in (ltb-true c 128 both.0, from_test cs both.1)
+from_test : (cs : List ℕ) → all_ascii cs ≡ true → IsAscii cs
+from_test [] h = IsAscii-nil
+from_test (c ∷ cs) h = let both = and_parts (nat_lt c 128) (all_ascii cs) h in IsAscii-cons c cs (ltb-true c 128 both.0) (from_test cs both.1)
 
 -- each character of a sample is ASCII
-pub sample_ascii : (many : ℕ) → many ≤ 1000 → AllByRecursion (λ c. c < 128) (sample_text many)
+pub sample_ascii : (many : ℕ) → many ≤ 1000 → IsAscii (sample_text many)
 sample_ascii many few = from_test (sample_text many) (declarations_ascii many (numbers many) (numbers_below many few))
 
 -- so a sample is a text
 pub sample_utf8 : (many : ℕ) → many ≤ 1000 → IsUtf8 (sample_text many)
-sample_utf8 many few =
-    let text = sample_text many in
-    IsUtf8-from_ascii text (IsAscii-from_all text (All-from_recursion (λ c. c < 128) text (sample_ascii many few)))
+sample_utf8 many few = IsUtf8-from_ascii (sample_text many) (sample_ascii many few)
 
 -- ---- how many
 name_short : (i : ℕ) → i ≤ 1000 → length (name i) ≤ 5

@@ -19,10 +19,10 @@ use Rattle.derive_decl.specs.Attributed.{first_other, attributes_in}
 use Rattle.derive_decl.specs.Whole.{resolved_among}
 use Rattle.spelling.specs.Spelling.{Spelling, trees_at}
 use Rattle.rings.specs.Rings.{Turn, plain_struct, generic_struct, tagged_enum, parameters, arguments, body}
-use Rattle.samples.specs.Spelled.{plain_body, generic_body, variant_body, declaration_spelling}
+use Rattle.samples.proofs.Spelled.{members_spelling, declaration_spelling}
 use Rattle.samples.proofs.Known.{called, IsKnown}
 use Rattle.samples.proofs.Fields.{IsPlaced}
-use Rattle.samples.proofs.Bodies.{word_at, plain_inside, generic_inside, variant_inside}
+use Rattle.samples.proofs.Bodies.{word_at, fields_inside}
 use Rattle.samples.proofs.Heads.{struct_word, enum_word, attribute_trees, sample_variants, read_variants, variants_read, plain_item, generic_item, tagged_item}
 
 -- The item has the name and the parameters of its turn, something is derived from its attributes, and it is resolved to the
@@ -42,49 +42,49 @@ pub record ReadsItem (t of : Turn) (x type : List ℕ) (ws rest : List Word) : T
   pub shorter : length rest < length ws
 
 plain_read : (of : Turn) (x type : List ℕ) → IsKnown plain_struct x → IsKnown of type → (a b c : Span) (at : ℕ) (ws rest : List Word)
-    → ws ≡ struct_word a ∷ word_at x b ∷ group Curly (trees_at at (plain_body of type)) c ∷ rest → ReadsItem plain_struct of x type ws rest
+    → ws ≡ struct_word a ∷ word_at x b ∷ group Curly (trees_at at (members_spelling plain_struct of type)) c ∷ rest → ReadsItem plain_struct of x type ws rest
 plain_read of x type own known a b c at ws rest e =
-    let inside = plain_inside of type known at in
-    let braces : Trees = trees_at at (plain_body of type) in
-    let read = ap (item_at within_levels) (e ∙ ap (λ w. struct_word a ∷ w ∷ group Curly braces c ∷ rest) (own.word b)) ∙ plain_item x a b c braces rest inside.0 inside.1.read in
+    let fields = fields_inside plain_struct of type known at in
+    let braces : Trees = trees_at at (members_spelling plain_struct of type) in
+    let read = ap (item_at within_levels) (e ∙ ap (λ w. struct_word a ∷ w ∷ group Curly braces c ∷ rest) (own.word b)) ∙ plain_item x a b c braces rest fields.0 fields.1.read in
     record {
       item = _;
       is = record {
         text = refl;
         count = refl;
-        derivable = λ others. rw inside.1.bare refl;
-        resolves = λ ds j placed. rw (inside.1.bare, inside.1.form ds x no_span j placed) refl;
+        derivable = λ others. rw fields.1.bare refl;
+        resolves = λ ds j placed. rw (fields.1.bare, fields.1.form ds x no_span j placed) refl;
       };
       read = read;
       shorter = omega (arith, ap length e);
     }
 
 generic_read : (of : Turn) (x type : List ℕ) → IsKnown generic_struct x → IsKnown of type → (a b c d f g : Span) (at : ℕ) (ws rest : List Word)
-    → ws ≡ struct_word a ∷ word_at x b ∷ sign Less c ∷ called (codes "T") d ∷ sign Greater f ∷ group Curly (trees_at at (generic_body of type)) g ∷ rest → ReadsItem generic_struct of x type ws rest
+    → ws ≡ struct_word a ∷ word_at x b ∷ sign Less c ∷ called (codes "T") d ∷ sign Greater f ∷ group Curly (trees_at at (members_spelling generic_struct of type)) g ∷ rest → ReadsItem generic_struct of x type ws rest
 generic_read of x type own known a b c d f g at ws rest e =
-    let inside = generic_inside of type known at in
-    let braces : Trees = trees_at at (generic_body of type) in
+    let fields = fields_inside generic_struct of type known at in
+    let braces : Trees = trees_at at (members_spelling generic_struct of type) in
     let named = ap (λ w. struct_word a ∷ w ∷ sign Less c ∷ called (codes "T") d ∷ sign Greater f ∷ group Curly braces g ∷ rest) (own.word b) in
-    let read = ap (item_at within_levels) (e ∙ named) ∙ generic_item x a b c d f g braces rest inside.0 inside.1.read in
+    let read = ap (item_at within_levels) (e ∙ named) ∙ generic_item x a b c d f g braces rest fields.0 fields.1.read in
     record {
       item = _;
       is = record {
         text = refl;
         count = refl;
-        derivable = λ others. rw inside.1.bare refl;
-        resolves = λ ds j placed. rw (inside.1.bare, inside.1.form ds x d j placed) refl;
+        derivable = λ others. rw fields.1.bare refl;
+        resolves = λ ds j placed. rw (fields.1.bare, fields.1.form ds x d j placed) refl;
       };
       read = read;
       shorter = omega (arith, ap length e);
     }
 
 tagged_read : (of : Turn) (x type : List ℕ) → IsKnown tagged_enum x → IsKnown of type → (a b c d f h g k m n p q r s : Span) (at : ℕ) (inside : Trees) (ws rest : List Word)
-    → words_of inside ≡ called (codes "A") p ∷ sign Comma q ∷ called (codes "B") r ∷ group Curly (trees_at at (variant_body of type)) s ∷ []
+    → words_of inside ≡ called (codes "A") p ∷ sign Comma q ∷ called (codes "B") r ∷ group Curly (trees_at at (members_spelling tagged_enum of type)) s ∷ []
     → ws ≡ sign Hash h ∷ group Square (attribute_trees a b c d f) g ∷ enum_word k ∷ word_at x m ∷ group Curly inside n ∷ rest → ReadsItem tagged_enum of x type ws rest
 unfolding path_item
 tagged_read of x type own known a b c d f h g k m n p q r s at inside ws rest variants e =
-    let fields = variant_inside of type known at in
-    let braces : Trees = trees_at at (variant_body of type) in
+    let fields = fields_inside tagged_enum of type known at in
+    let braces : Trees = trees_at at (members_spelling tagged_enum of type) in
     let named = ap (λ w. sign Hash h ∷ group Square (attribute_trees a b c d f) g ∷ enum_word k ∷ w ∷ group Curly inside n ∷ rest) (own.word m) in
     let found = ap read_variants variants ∙ variants_read p q r s braces fields.0 fields.1.read in
     let read = ap (item_at within_levels) (e ∙ named) ∙ tagged_item x a b c d f h g k m n inside rest (sample_variants p q r s braces fields.0) found in

@@ -1,3 +1,4 @@
+pub mod Spelled
 pub mod Written
 pub mod Names
 pub mod Places

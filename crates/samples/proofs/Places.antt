@@ -7,8 +7,7 @@ use Rattle.lexing.specs.Scanning.{class_of, piece_at}
 use Rattle.lexing.specs.declared.piece.PieceKind.TheVariants.{Space}
 use Rattle.spelling.specs.Spelling.{Spelling, end, ◌▹◌, text_of, IsCutThere, AreCutThere}
 use Rattle.rings.specs.Rings.{Turn, plain_struct, generic_struct, tagged_enum, turn, name, next}
-use Rattle.samples.specs.Spelled.{sign, space, type_spelling, plain_body, generic_body, variant_body, tagged_body, attribute_spelling}
-use Rattle.samples.specs.Spelled.{declaration_spelling, sample_spelling}
+use Rattle.samples.proofs.Spelled.{sign, space, type_spelling, members_spelling, tagged_body, attribute_spelling, declaration_spelling, sample_spelling}
 use Rattle.samples.proofs.Names.{IsFoundName, name_found}
 
 -- a type before `>`
@@ -20,23 +19,17 @@ type_cut generic_struct type rest behind n h = (n.found 60 _ refl, assumption)
 type_cut tagged_enum type rest behind n h = (n.found 62 _ refl, assumption)
 
 -- what stands in brackets
-plain_cut : (of : Turn) (type behind : List ℕ) → IsFoundName type → AreCutThere (plain_body of type) (125 ∷ behind)
+members_cut : (t of : Turn) (type behind : List ℕ) → IsFoundName type → AreCutThere (members_spelling t of type) (125 ∷ behind)
 unfolding class_of unicode_ident
-plain_cut of type behind h =
+members_cut plain_struct of type behind h =
     let typed = type_cut of type (sign (codes ">") ▹ space ▹ end) (125 ∷ behind) h (refl, (refl, tt)) in assumption typed
-
-generic_cut : (of : Turn) (type behind : List ℕ) → IsFoundName type → AreCutThere (generic_body of type) (125 ∷ behind)
-unfolding class_of unicode_ident
-generic_cut of type behind h =
+members_cut generic_struct of type behind h =
     let typed = type_cut of type (sign (codes ">") ▹ space ▹ end) (125 ∷ behind) h (refl, (refl, tt)) in assumption typed
-
-variant_cut : (of : Turn) (type behind : List ℕ) → IsFoundName type → AreCutThere (variant_body of type) (125 ∷ behind)
-unfolding class_of unicode_ident
-variant_cut of type behind h = let typed = type_cut of type (space ▹ end) (125 ∷ behind) h (refl, tt) in assumption typed
+members_cut tagged_enum of type behind h = let typed = type_cut of type (space ▹ end) (125 ∷ behind) h (refl, tt) in assumption typed
 
 tagged_cut : (of : Turn) (type behind : List ℕ) → IsFoundName type → AreCutThere (tagged_body of type) (125 ∷ behind)
 unfolding class_of unicode_ident
-tagged_cut of type behind h = let inside = variant_cut of type (32 ∷ 125 ∷ behind) h in assumption inside
+tagged_cut of type behind h = let inside = members_cut tagged_enum of type (32 ∷ 125 ∷ behind) h in assumption inside
 
 attribute_cut : (behind : List ℕ) → IsCutThere attribute_spelling behind
 unfolding class_of unicode_ident
@@ -50,9 +43,9 @@ EndsLine text = piece_at (10 ∷ text) ≡ Some (Space, text)
 declaration_cut : (t : Turn) (text : List ℕ) (of : Turn) (type : List ℕ) (rest : Spelling) (behind : List ℕ) → IsFoundName text → IsFoundName type
     → EndsLine (text_of rest ++ behind) → AreCutThere rest behind → AreCutThere (declaration_spelling t text of type rest) behind
 unfolding class_of unicode_ident
-declaration_cut plain_struct text of type rest behind n m e h = (refl, (n.after_space _ behind, (n.found 32 _ refl, (refl, (plain_cut of type _ m, (e, h))))))
+declaration_cut plain_struct text of type rest behind n m e h = (refl, (n.after_space _ behind, (n.found 32 _ refl, (refl, (members_cut plain_struct of type _ m, (e, h))))))
 declaration_cut generic_struct text of type rest behind n m e h =
-    (refl, (n.after_space _ behind, (n.found 60 _ refl, (refl, (refl, (refl, (refl, (generic_cut of type _ m, (e, h)))))))))
+    (refl, (n.after_space _ behind, (n.found 60 _ refl, (refl, (refl, (refl, (refl, (members_cut generic_struct of type _ m, (e, h)))))))))
 declaration_cut tagged_enum text of type rest behind n m e h =
     (refl, (attribute_cut _, (refl, (refl, (n.after_space _ behind, (n.found 32 _ refl, (refl, (tagged_cut of type _ m, (e, h)))))))))
 

@@ -1,6 +1,7 @@
 -- A sample is sound.
-use Rattle.std.proofs.Common.{◌≡◌, ◌∙◌, ℕ, ◌<◌, ◌≤◌, List, inl, inr, refl, sym, subst, arith, IsSome, Option, None, Some, Ok, false}
+use Rattle.std.proofs.Common.{◌≡◌, ◌∙◌, ℕ, ◌<◌, ◌≤◌, List, inl, inr, refl, sym, subst, arith, IsSome, Ok, false}
 use Rattle.std.proofs.lemmas.List.FromFn.{length-map-range_with_len}
+use Rattle.std.proofs.lemmas.Option.{same_Some}
 use Rattle.diag.specs.Refusal.{RefusesNone}
 use Rattle.texts.specs.declared.span.Span.{Span}
 use Rattle.texts.specs.Names.{IsDistinct}
@@ -22,7 +23,7 @@ use Rattle.spelling.specs.Spelling.{SpelledAreCut, trees_at}
 use Rattle.rings.specs.Rings.{IsOpenRing, instance, instances, numbers, ring}
 use Rattle.samples.specs.Samples.{sample_text}
 use Rattle.samples.specs.Sound.{IsSoundSample}
-use Rattle.samples.specs.Spelled.{sample_spelling}
+use Rattle.samples.proofs.Spelled.{sample_spelling}
 use Rattle.samples.proofs.Bytes.{sample_short, sample_utf8}
 use Rattle.samples.proofs.Cut.{samples_are_cut}
 use Rattle.samples.proofs.Depth.{sample_depth}
@@ -35,13 +36,6 @@ TreesAreRead = (source : List ℕ) (trees : Trees) (ds : List DeclaredItem) → 
 -- names that are distinct repeat none
 abbrev pub DistinctOnce : Type 0
 DistinctOnce = (xs : List Ident) → IsDistinct (texts xs) → RefusesNone (IsGivenTwice xs)
-
-some_from : {A : Type 0} (o : Option A) (x : A) → o ≡ Some x → IsSome o
-some_from None x e = cc
-some_from (Some y) x e = refl
-
-same_some : {A : Type 0} (x y : A) → Some x ≡ Some y → x ≡ y
-same_some x y e = cc
 
 -- an open ring is within the bounds of the empty configuration
 ring_bounded : (many : ℕ) → many ≤ 1000 → IsOpenRing many → AreBounded empty_configuration (ring many)
@@ -63,7 +57,7 @@ sample_sound cut trees_read named once exact many some few rings =
     let resolved = sample_resolved many some few ds found.1.0 in
     let faultless : RefusesNone (AreFaultyDeclarations empty_configuration ds) = λ e why. elim why [
       | inl twice ↦ once (declared_idents ds) (sample_distinct many some few ds found.1.0) e twice
-      | inr faulty ↦ (exact empty_configuration ds (named (sample_text many) ds read.0)).0 (some_from _ _ resolved) e faulty
+      | inr faulty ↦ (exact empty_configuration ds (named (sample_text many) ds read.0)).0 (subst IsSome (sym resolved) refl) e faulty
     ] in
     record {
       utf8 = sample_utf8 many few;
@@ -72,5 +66,5 @@ sample_sound cut trees_read named once exact many some few rings =
       read = read.0;
       shallow = read.1;
       clear = record { derivable = sample_derivable many some few ds found.1.0; faultless = faultless };
-      bounded = λ ss is. subst (AreBounded empty_configuration) (same_some (ring many) ss (sym resolved ∙ is)) (ring_bounded many few rings);
+      bounded = λ ss is. subst (AreBounded empty_configuration) (same_Some (ring many) ss (sym resolved ∙ is)) (ring_bounded many few rings);
     }

@@ -22,7 +22,7 @@ use Rattle.derive_decl.specs.Resolved.{all_of}
 use Rattle.derive_decl.specs.Whole.{resolved_among, resolved_declarations}
 use Rattle.spelling.specs.Spelling.{trees_at}
 use Rattle.rings.specs.Rings.{Turn, letter, turn, name, next, parameters, declaration, numbers, ring}
-use Rattle.samples.specs.Spelled.{sample_spelling}
+use Rattle.samples.proofs.Spelled.{sample_spelling}
 use Rattle.samples.proofs.Names.{IsDigit, decimal_digits}
 use Rattle.samples.proofs.Known.{IsKnown, known_by_letter}
 use Rattle.samples.proofs.Lookup.{name_placed, names_distinct}

@@ -5,7 +5,7 @@ use Rattle.std.specs.List.{flat_map}
 use Rattle.spelling.specs.Spelling.{Spelling, text_of}
 use Rattle.rings.specs.Rings.{Turn, plain_struct, generic_struct, tagged_enum, turn, name, next, numbers}
 use Rattle.samples.specs.Samples.{written_arguments, declaration_text, numbered_text, sample_text}
-use Rattle.samples.specs.Spelled.{type_spelling, declaration_spelling, sample_spelling}
+use Rattle.samples.proofs.Spelled.{type_spelling, declaration_spelling, sample_spelling}
 
 -- a type is spelled as it is written
 pub type_spelled : (of : Turn) (type : List ℕ) (rest : Spelling) → text_of (type_spelling of type rest) ≡ (type ++ written_arguments of) ++ text_of rest

@@ -11,7 +11,9 @@ use Rattle.compose.specs.Bounds.{AreBounded}
 use Rattle.compose.specs.Faults.{AreClear}
 use Rattle.samples.specs.Samples.{sample_text}
 
--- The sample of so many declarations is UTF-8 and no longer than a source may be, 1 MiB. It is read as declarations, and its brackets and types nest nowhere too deep. Where nothing is configured, no condition of a refusal holds of the declarations, and nothing of what they are resolved to is beyond a bound.
+-- The sample of so many declarations is UTF-8 and no longer than a source may be, 1 MiB. It is read as declarations, and its
+-- brackets and types nest nowhere too deep. Where nothing is configured, no condition of a refusal holds of the declarations,
+-- and nothing of what they are resolved to is beyond a bound.
 pub record IsSoundSample (many : ℕ) : Type 0 where
   pub utf8 : IsUtf8 (sample_text many)
   pub short : length (sample_text many) ≤ 1048576

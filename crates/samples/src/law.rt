@@ -4,7 +4,7 @@ ghost use Rattle.std.specs.Prelude.{◌<◌, ◌≤◌, ℕ};
 ghost use Rattle.samples.specs.Samples.{most_declarations};
 ghost use Rattle.samples.specs.Sound.{IsSoundSample};
 
-/// A sample is read as declarations, and nothing refuses it.
+/// A sample of 1 to 1000 declarations is read as declarations, and without a configuration nothing refuses it.
 pub fn samples_are_sound()
     ensures { (many : ℕ) → 0 < many → many ≤ most_declarations → IsSoundSample many }
 {

@@ -59,8 +59,8 @@ fn declaration_of(alloc: Global, number: usize, next: usize) -> Result<String, A
     }
 }
 
-/// The source of so many declarations, a line each, of which each names the next and the last the first: in turn a struct, a
-/// struct over a type parameter and an enum. It can only want memory.
+/// The source of `n` declarations, from 1 to `MOST_DECLARATIONS`, a line each, of which each names the next and the last the
+/// first: in turn a struct, a struct over a type parameter and an enum with an internal tag. It can only want memory.
 pub fn sample_source(alloc: Global, n: usize) -> Result<Text, AllocError>
     requires some { 0 < n }
     requires few { n ≤ most_declarations }

@@ -1,8 +1,7 @@
 -- What words, files and input give, where they tell it.
-use Rattle.std.proofs.Common.{◌≡◌, ◌↔◌, ◌<◌, ◌^◌, arith, ℕ, List, IsTrue, Option, Some, None, IsSome, inl, inr, refl, ap, sym, ◌∙◌, subst}
+use Rattle.std.proofs.Common.{◌≡◌, ◌↔◌, arith, ℕ, List, IsTrue, Option, Some, None, IsSome, inl, inr, refl, ap, sym, ◌∙◌, subst}
 use Rattle.std.specs.Fmt.{decimal}
-use Rattle.std.specs.Str.Parse.{digits_value}
-use Rattle.std.proofs.lemmas.Fmt.{decimal_is_IsNumeral}
+use Rattle.std.proofs.lemmas.Fmt.{decimal_injective}
 use Rattle.diag.specs.declared.error.DeriveError.{DeriveError}
 use Rattle.streams.specs.Told.{IsAll}
 use Rattle.schema_core.specs.Document.{document, text_of}
@@ -51,16 +50,12 @@ unfolding IsDerive IsSample
 one_form words None many derives samples = let same = sym derives ∙ samples.0 in cc
 one_form words (Some path) many derives samples = let same = sym derives ∙ samples.0 in cc
 
--- the same digits are of one number
-one_number : (m n : ℕ) → m < 2 ^ 64 → n < 2 ^ 64 → decimal m ≡ decimal n → m ≡ n
-one_number m n few less same = sym (decimal_is_IsNumeral m few).1 ∙ ap (digits_value 10) same ∙ (decimal_is_IsNumeral n less).1
-
 -- words ask for a sample of one size
 pub one_size : (words : List (List ℕ)) (m n : ℕ) → IsSample words m → IsSample words n → m ≡ n
 unfolding IsSample
 one_size words m n samples also =
     let same : decimal m ≡ decimal n = (let words_are = sym samples.0 ∙ also.0 in cc) in
-    one_number m n (let few = samples.2 in omega arith) (let few = also.2 in omega arith) same
+    decimal_injective m n (let few = samples.2 in omega arith) (let few = also.2 in omega arith) same
 
 -- what answers words that ask for a document is one, and what answers those for a sample is its line
 pub of_derive : (begun : Beginning) (path : Option (List ℕ)) → IsDerive begun.words path → (text : List ℕ) → IsAnswered schema_gen begun text → IsDocument begun text

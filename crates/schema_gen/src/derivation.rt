@@ -89,10 +89,7 @@ pub(crate) fn derivation_of(words: &Words) -> Option<Derivation<'_>>
     if let Some(path) = config_path(words) {
         return Some(Derivation::Configured(path));
     }
-    match sample_size(words) {
-        Some(size) => Some(Derivation::Sample(size)),
-        None => None,
-    }
+    Some(Derivation::Sample(sample_size(words)?))
 }
 
 impl Command for Derivation<'_> {

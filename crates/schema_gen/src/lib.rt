@@ -2,7 +2,8 @@
 //! 3.1 component schemas out. A file may configure what deriving may take.
 //!
 //! `derive_components` takes a text of declarations, `whole_files::derive_files` whole files as they are, and `run` is a run of
-//! the program over streams. `Config` says what deriving may take: read from JSON, or set.
+//! the program over streams. `Config` says what deriving may take: read from JSON, or set. `sample_source` makes a large source
+//! from a number.
 #![tactic(auto)]
 
 mod command;

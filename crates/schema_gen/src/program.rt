@@ -58,7 +58,8 @@ pub fn run<S: Source, F: Files, O: Sink, E: Sink>(
     // The document is that of the source's components, without others, and no condition of a
     // refusal holds. No other value that `serde_json` can hold has the text that was written.
     ensures derived { (path : Option (List ℕ)) → IsDerive words.now path → result ≡ Status.Done
-        → (text : List ℕ) × IsDocument (beginning_of S.Source F.Files words.now input.old files.old) text
+        → (text : List ℕ)
+        × IsDocument (beginning_of S.Source F.Files words.now input.old files.old) text
         × Appends (O.written out.old) (O.written out.new) text }
     // The line of a sample tells of the document that its source has. No sample is refused.
     ensures sampled { (many : ℕ) → IsSample words.now many → result ≡ Status.Done

@@ -14,7 +14,7 @@ pub(crate) struct SampleSize {
     pub(crate) ghost few: { many ≤ most_declarations },
 }
 
-/// The size of a sample that the text says, in decimal and without a leading zero.
+/// The size of a sample that the text says, in decimal and without a leading zero, if it says one.
 pub(crate) fn size_of(text: &str) -> Option<SampleSize>
     ensures { MatchOption result
         ((n : ℕ) → 0 < n → n ≤ most_declarations → ¬ (text.now ≡ decimal n))

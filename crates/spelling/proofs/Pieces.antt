@@ -1,11 +1,9 @@
 -- The pieces of a spelling, and how each is found.
-use Rattle.std.proofs.Common.{◌≡◌, ℕ, ◌+◌, ◌<◌, List, [], ◌∷◌, ◌++◌, length, refl, ap, sym, subst, Some}
+use Rattle.std.proofs.Common.{◌≡◌, ℕ, suc, ◌+◌, List, [], ◌∷◌, ◌++◌, length, refl, ap, sym, subst, Some}
 use Rattle.std.proofs.lemmas.List.{append_cancel_right}
-use Rattle.std.proofs.lemmas.List.Elements.{All-from_recursion}
-use Rattle.std.proofs.lemmas.Str.{chars-IsAscii, encodes-IsAscii}
-use Rattle.std.proofs.lemmas.Str.Ascii.{IsAscii-from_all}
-use Rattle.std.specs.List.{AllByRecursion}
-use Rattle.std.specs.Str.{chars, encode_utf8_all, IsAscii}
+use Rattle.std.proofs.lemmas.Str.{encodes-IsAscii}
+use Rattle.std.proofs.lemmas.Str.Ascii.{IsAscii-nil, IsAscii-cons}
+use Rattle.std.specs.Str.{IsAscii}
 use Rattle.unicode_ident.proofs.Computing.{unicode_ident}
 use Rattle.tokens.specs.declared.token.Bracket.{Bracket}
 use Rattle.tokens.specs.declared.token.Bracket.TheVariants.{Round, Square, Curly}
@@ -37,29 +35,14 @@ abbrev mutual
 
 -- ---- characters of one byte
 
-abbrev pub AreAscii : List ℕ → Type 0
-AreAscii cs = AllByRecursion (λ c. c < 128) cs
-
--- what std says of ASCII
-is_ascii : (cs : List ℕ) → AreAscii cs → IsAscii cs
-is_ascii cs h = IsAscii-from_all cs (All-from_recursion (λ c. c < 128) cs h)
-
--- they are the characters of a text
-pub ascii_chars : (cs : List ℕ) → AreAscii cs → chars cs ≡ cs
-ascii_chars cs h = chars-IsAscii cs (is_ascii cs h)
-
--- each takes one byte
-pub ascii_bytes : (cs : List ℕ) → AreAscii cs → length (encode_utf8_all cs) ≡ length cs
-ascii_bytes cs h = ap length (encodes-IsAscii cs (is_ascii cs h))
-
 -- two texts of them
-pub ascii_front : (xs ys : List ℕ) → AreAscii (xs ++ ys) → AreAscii xs
-ascii_front [] ys h = tt
-ascii_front (x ∷ xs) ys h = (h.0, ascii_front xs ys h.1)
+pub ascii_front : (xs ys : List ℕ) → IsAscii (xs ++ ys) → IsAscii xs
+ascii_front [] ys h = IsAscii-nil
+ascii_front (x ∷ xs) ys h = IsAscii-cons x xs (h 0) (ascii_front xs ys (λ i. h (suc i)))
 
-pub ascii_rest : (xs ys : List ℕ) → AreAscii (xs ++ ys) → AreAscii ys
+pub ascii_rest : (xs ys : List ℕ) → IsAscii (xs ++ ys) → IsAscii ys
 ascii_rest [] ys h = h
-ascii_rest (x ∷ xs) ys h = ascii_rest xs ys h.1
+ascii_rest (x ∷ xs) ys h = ascii_rest xs ys (λ i. h (suc i))
 
 -- ---- what is found
 
@@ -77,9 +60,9 @@ closing_found Square behind = refl
 closing_found Curly behind = refl
 
 -- a piece that is found, before those of what follows it
-pub found_before : (kind : PieceKind) (cs behind : List ℕ) (offset : ℕ) (rest : List Piece) → AreAscii cs → piece_at (cs ++ behind) ≡ Some (kind, behind)
+pub found_before : (kind : PieceKind) (cs behind : List ℕ) (offset : ℕ) (rest : List Piece) → IsAscii cs → piece_at (cs ++ behind) ≡ Some (kind, behind)
     → Cuts rest (offset + length cs) behind → Cuts (piece_from kind offset (length cs) ∷ rest) offset (cs ++ behind)
 found_before kind cs behind offset rest h e cuts =
     let found = finds_longest (cs ++ behind) kind behind e in
     let front : found.0 ≡ cs = append_cancel_right found.0 cs behind (sym found.1) in
-    (cs, behind, refl, subst (λ v. IsLongest kind v behind) front found.2, refl, ap (λ v. offset + v) (sym (ascii_bytes cs h)), cuts)
+    (cs, behind, refl, subst (λ v. IsLongest kind v behind) front found.2, refl, ap (λ v. offset + length v) (sym (encodes-IsAscii cs h)), cuts)

@@ -1,6 +1,5 @@
 -- Token trees as they are spelled, with the white space between them, and when a text is cut where its spelling says.
-use Rattle.std.specs.Prelude.{◌≡◌, ◌<◌, ◌+◌, ℕ, List, [], ◌∷◌, ◌++◌, length, Some}
-use Rattle.std.specs.List.{AllByRecursion}
+use Rattle.std.specs.Prelude.{◌≡◌, ◌+◌, ℕ, List, [], ◌∷◌, ◌++◌, length, Some, IsAscii}
 use Rattle.std.proofs.Math.Nat.{le-add_right}
 use Rattle.texts.specs.declared.span.Span.{Span}
 use Rattle.tokens.specs.declared.token.Bracket.{Bracket}
@@ -23,11 +22,6 @@ mutual
   pub data Spelling : Type 0 where
     end : Spelling
     ◌▹◌ : Spelled → Spelling → Spelling
-
--- the first spelling, and behind it the other
-abbrev pub followed_by : Spelling → Spelling → Spelling
-followed_by end other = other
-followed_by (s ▹ rest) other = s ▹ followed_by rest other
 
 -- ---- the text
 
@@ -74,4 +68,4 @@ abbrev mutual
 
 -- The law: where each character is one byte, and each piece is found where it stands, the text is cut into the trees.
 abbrev pub SpelledAreCut : Type 0
-SpelledAreCut = (spelling : Spelling) → AllByRecursion (λ c. c < 128) (text_of spelling) → AreCutThere spelling [] → IsCut (text_of spelling) (trees_at 0 spelling)
+SpelledAreCut = (spelling : Spelling) → IsAscii (text_of spelling) → AreCutThere spelling [] → IsCut (text_of spelling) (trees_at 0 spelling)

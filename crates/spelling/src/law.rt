@@ -2,7 +2,7 @@
 
 ghost use Rattle.spelling.specs.Spelling.{SpelledAreCut};
 
-/// A text whose pieces are found where its spelling says is cut into the trees of the spelling.
+/// A text of ASCII characters whose pieces are found where its spelling says is cut into the trees of the spelling.
 pub fn spelled_are_cut()
     ensures { SpelledAreCut }
 {}

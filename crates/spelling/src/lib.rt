@@ -1,4 +1,4 @@
-//! Token trees as they are spelled: a text that is spelled so is cut into them.
+//! Token trees as they are spelled: a text of ASCII characters that is spelled so is cut into them.
 #![tactic(auto)]
 
 mod law;

@@ -31,28 +31,30 @@ type_spelling tagged_enum name rest = word name ▹ rest
 abbrev pub field_spelling : (name : List ℕ) → Spelling → Spelling
 field_spelling name rest = word name ▹ sign (codes ":") ▹ space ▹ rest
 
--- { id: u64, name: Option<String>, next: Option<Box<t>> }
-abbrev pub plain_body : Turn → (type : List ℕ) → Spelling
-plain_body of type =
+-- what stands in braces before the type of the next declaration, and what follows it
+abbrev pub front : Turn → Spelling → Spelling
+front plain_struct rest =
     space ▹ field_spelling (codes "id") (word (codes "u64") ▹ sign (codes ",") ▹ space ▹
     field_spelling (codes "name") (word (codes "Option") ▹ sign (codes "<") ▹ word (codes "String") ▹ sign (codes ">") ▹ sign (codes ",") ▹ space ▹
-    field_spelling (codes "next") (word (codes "Option") ▹ sign (codes "<") ▹ word (codes "Box") ▹ sign (codes "<") ▹
-    type_spelling of type (sign (codes ">") ▹ sign (codes ">") ▹ space ▹ end))))
-
--- { item: T, next: Option<Box<t>> }
-abbrev pub generic_body : Turn → (type : List ℕ) → Spelling
-generic_body of type =
+    field_spelling (codes "next") (word (codes "Option") ▹ sign (codes "<") ▹ word (codes "Box") ▹ sign (codes "<") ▹ rest)))
+front generic_struct rest =
     space ▹ field_spelling (codes "item") (word (codes "T") ▹ sign (codes ",") ▹ space ▹
-    field_spelling (codes "next") (word (codes "Option") ▹ sign (codes "<") ▹ word (codes "Box") ▹ sign (codes "<") ▹
-    type_spelling of type (sign (codes ">") ▹ sign (codes ">") ▹ space ▹ end)))
+    field_spelling (codes "next") (word (codes "Option") ▹ sign (codes "<") ▹ word (codes "Box") ▹ sign (codes "<") ▹ rest))
+front tagged_enum rest = space ▹ field_spelling (codes "next") (word (codes "Vec") ▹ sign (codes "<") ▹ rest)
 
--- { next: Vec<t> }
-abbrev pub variant_body : Turn → (type : List ℕ) → Spelling
-variant_body of type = space ▹ field_spelling (codes "next") (word (codes "Vec") ▹ sign (codes "<") ▹ type_spelling of type (sign (codes ">") ▹ space ▹ end))
+-- what stands in braces behind that type
+abbrev pub back : Turn → Spelling
+back plain_struct = sign (codes ">") ▹ sign (codes ">") ▹ space ▹ end
+back generic_struct = sign (codes ">") ▹ sign (codes ">") ▹ space ▹ end
+back tagged_enum = sign (codes ">") ▹ space ▹ end
+
+-- { id: u64, name: Option<String>, next: Option<Box<t>> }, { item: T, next: Option<Box<t>> }, { next: Vec<t> }
+abbrev pub members_spelling : Turn → Turn → (type : List ℕ) → Spelling
+members_spelling t of type = front t (type_spelling of type (back t))
 
 -- { A, B { next: Vec<t> } }
 abbrev pub tagged_body : Turn → (type : List ℕ) → Spelling
-tagged_body of type = space ▹ word (codes "A") ▹ sign (codes ",") ▹ space ▹ word (codes "B") ▹ space ▹ group Curly (variant_body of type) ▹ space ▹ end
+tagged_body of type = space ▹ word (codes "A") ▹ sign (codes ",") ▹ space ▹ word (codes "B") ▹ space ▹ group Curly (members_spelling tagged_enum of type) ▹ space ▹ end
 
 -- [serde(tag = "t")]
 abbrev pub attribute_spelling : Spelled
@@ -61,10 +63,10 @@ attribute_spelling =
 
 -- the declaration of that turn and name, which names the type of that turn and name, and what follows it
 abbrev pub declaration_spelling : Turn → (name : List ℕ) → Turn → (type : List ℕ) → Spelling → Spelling
-declaration_spelling plain_struct name of type rest = word (codes "struct") ▹ space ▹ word name ▹ space ▹ group Curly (plain_body of type) ▹ new_line ▹ rest
+declaration_spelling plain_struct name of type rest = word (codes "struct") ▹ space ▹ word name ▹ space ▹ group Curly (members_spelling plain_struct of type) ▹ new_line ▹ rest
 declaration_spelling generic_struct name of type rest =
     word (codes "struct") ▹ space ▹ word name ▹ sign (codes "<") ▹ word (codes "T") ▹ sign (codes ">") ▹ space ▹
-    group Curly (generic_body of type) ▹ new_line ▹ rest
+    group Curly (members_spelling generic_struct of type) ▹ new_line ▹ rest
 declaration_spelling tagged_enum name of type rest =
     sign (codes "#") ▹ attribute_spelling ▹ space ▹ word (codes "enum") ▹ space ▹ word name ▹ space ▹
     group Curly (tagged_body of type) ▹ new_line ▹ rest
