@@ -5,5 +5,6 @@ pub mod Readable
 pub mod Sound
 pub mod Spanned
 pub mod Stages
+pub mod ToldElsewhere
 pub mod ToldUnplain
 pub mod Written

@@ -1,3 +1,4 @@
+pub mod Elsewhere
 pub mod Faults
 pub mod Helps
 pub mod LeftOut

@@ -1,5 +1,5 @@
 -- What is derived of files, and what is told where nothing is.
-use Rattle.std.specs.Prelude.{◌≡◌, ◌≢◌, ◌<◌, ◌≤◌, ◌⊎◌, ℕ, List, [], ◌∷◌, ◌++◌, length, map, codes, sum_by, true, false, Some, None}
+use Rattle.std.specs.Prelude.{◌≡◌, ◌≢◌, ◌<◌, ◌≤◌, ◌⊎◌, ℕ, List, [], ◌∷◌, ◌++◌, length, map, codes, sum_by, true, false, Option, Some, None}
 use Rattle.diag.specs.declared.diagnostics.DiangosticsInner.{DiangosticsInner}
 use Rattle.diag.specs.declared.error.DeriveError.TheVariants.{Refused}
 use Rattle.diag.specs.declared.rename_row.RenameRow.{RenameRow}
@@ -23,6 +23,7 @@ use Rattle.prepare.specs.declared.file_items.FileImpl.{FileImpl}
 use Rattle.gathering.specs.Reading.{AreRead}
 use Rattle.gathering.specs.Telling.{told_plainly, told_unplaced}
 use Rattle.selecting.specs.Clashes.{clash_lines, told_deep}
+use Rattle.selecting.specs.Elsewhere.{elsewhere_name}
 use Rattle.selecting.specs.Selected.{AreKnown, AreSelected}
 use Rattle.selecting.specs.Standing.{unknown_only, unknown_exclude}
 use Rattle.selecting.specs.Types.{Adds}
@@ -77,7 +78,7 @@ pub data AreLeft (s : Selection) (c : Configuration) (names : List (List ℕ)) (
 -- ---- what is selected
 
 -- The components are those of the declarations that are left of what is selected, each read from its own text, with the rows of names behind those of the configuration; their document, with alternatives under either keyword, describes what the declarations are resolved to, and these are the warnings, behind those in front and what is told of what is left out. No name is that of an alias and of something else.
-pub record DerivesSelected (s : Selection) (c : Configuration) (names : List (List ℕ)) (chosen : List FileItem) (needed : List FileAlias) (impls : List FileImpl) (front : List Told) (components : List Entry) (warnings : List Told) : Type 0 where
+pub record DerivesSelected (s : Selection) (c : Configuration) (names : List (List ℕ)) (chosen : List FileItem) (needed : List FileAlias) (elsewhere : FileItem → Option (List ℕ)) (impls : List FileImpl) (front : List Told) (components : List Entry) (warnings : List Told) : Type 0 where
   pub shallow : ¬ (AreDeep c.aliases)
   pub told : List Told
   pub from : List FileItem
@@ -87,7 +88,7 @@ pub record DerivesSelected (s : Selection) (c : Configuration) (names : List (Li
   pub distinct : clash_lines names declarations needed ≡ []
   pub derived : AreDerived (with_rows c rows) declarations components
   pub describes : (by : Alternatives) → Describes derived.resolved (collects_all c.collect) (document_by by components)
-  pub warned : AreAllWarned s.not_plain (with_rows c rows) names declarations from impls components (front ++ told) warnings
+  pub warned : AreAllWarned s.not_plain (with_rows c rows) names elsewhere declarations from impls components (front ++ told) warnings
 
 abbrev pub long_message : List ℕ
 long_message = codes "the declarations are longer than 16777216 bytes"
@@ -117,7 +118,7 @@ pub record AreDerivedFrom (s : Selection) (c : Configuration) (files : List File
   pub selects : Selects s c (names_of files) items chosen aliases needed with_them
   pub impls : List FileImpl
   pub written : HaveImpls 0 files impls
-  pub derives : DerivesSelected s with_them (names_of files) chosen needed impls (map told_of_file faults) components warnings
+  pub derives : DerivesSelected s with_them (names_of files) chosen needed (elsewhere_name items chosen aliases needed) impls (map told_of_file faults) components warnings
 
 abbrev pub only_message : List ℕ → List ℕ
 only_message name = codes "no declaration has the name " ++ name

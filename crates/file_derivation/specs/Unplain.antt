@@ -8,10 +8,9 @@ use Rattle.plainness.specs.declared.unplain.Reason.{Reason}
 use Rattle.plainness.specs.declared.unplain.Reason.TheVariants.{Body, Reaches}
 use Rattle.plainness.specs.declared.unplain.Unplain.{Unplain}
 use Rattle.compose.specs.Unplain.{AreUnplainOf}
-use Rattle.telling.specs.Told.{told_at}
 use Rattle.telling.specs.declared.told.Told.{Told}
 use Rattle.prepare.specs.declared.file_items.FileItem.{FileItem}
-use Rattle.gathering.specs.Reading.{file_name}
+use Rattle.file_derivation.specs.Elsewhere.{told_at_name}
 
 abbrev pub obstacle_text : Obstacle → List ℕ
 obstacle_text Float = codes "f32 or f64 stands in the type of a field"
@@ -29,7 +28,7 @@ unplain_message u = u.name ++ (codes " is not plain: " ++ reason_text u.reason)
 
 -- what is told of an instance of the declaration that is read from the item, at the name of that
 abbrev pub told_unplain : (names : List (List ℕ)) → DeclaredItem → FileItem → Unplain → Told
-told_unplain names d i u = told_at (file_name names i.file) i.place i.text d.ident.span (codes "warning") (unplain_message u)
+told_unplain names d i u = told_at_name names d i (unplain_message u)
 
 -- Of instances of these declarations, each of which is read from the item at the same place, this is told, in order.
 pub data AreUnplainTold (names : List (List ℕ)) (ds : List DeclaredItem) (from : List FileItem) : List Unplain → List Told → Type 0 where

@@ -14,6 +14,7 @@ use Rattle.warnings.specs.Warned.{warnings_of}
 use Rattle.gathering.specs.Reading.{file_name}
 use Rattle.gathering.specs.Telling.{told_plainly, whole_span}
 use Rattle.prepare.specs.declared.file_items.FileImpl.{FileImpl}
+use Rattle.file_derivation.specs.Elsewhere.{told_all_elsewhere}
 use Rattle.file_derivation.specs.Unplain.{IsPlainTold}
 use Rattle.file_derivation.specs.declared.warned.Warnings.{Warnings}
 
@@ -72,13 +73,13 @@ told_nothing is_declared false = warning (nothing_message is_declared) ∷ []
 
 -- ---- all warnings
 
--- all that is warned of: what is left out, declarations, the impls by hand that are for them, what is not plain, where that is asked for, and their document
-pub record AreAllWarned (plain : Bool) (c : Configuration) (names : List (List ℕ)) (ds : List DeclaredItem) (from : List FileItem) (impls : List FileImpl) (components : List Entry) (left_out warnings : List Told) : Type 0 where
+-- all that is warned of: what is left out, declarations, the impls by hand that are for them, what another file has in place of theirs, what is not plain, where that is asked for, and their document
+pub record AreAllWarned (plain : Bool) (c : Configuration) (names : List (List ℕ)) (elsewhere : FileItem → Option (List ℕ)) (ds : List DeclaredItem) (from : List FileItem) (impls : List FileImpl) (components : List Entry) (left_out warnings : List Told) : Type 0 where
   pub own : List Told
   pub warned : AreWarned names ds from (length ds) own
   pub unplain : List Told
   pub not_plain : IsPlainTold plain c names ds from unplain
-  pub whole : warnings ≡ (((left_out ++ own) ++ told_impls names ds impls) ++ unplain) ++ told_nothing (has_some ds) (has_some components)
+  pub whole : warnings ≡ ((((left_out ++ own) ++ told_impls names ds impls) ++ told_all_elsewhere names elsewhere ds from) ++ unplain) ++ told_nothing (has_some ds) (has_some components)
 
 -- these are the first hundred of all, and how many there are
 abbrev pub AreFirst : List Told → Warnings → Type 0

@@ -16,7 +16,7 @@ use compose::Derived;
 use configuration::Config;
 use gathering::{FileImpl, Gathered, Source, told_plainly};
 use prepare::{FileAlias, FileItem};
-use selecting::{Selection, select, unknown_exclude, unknown_only};
+use selecting::{Elsewhere, Selection, select, unknown_exclude, unknown_only};
 use std::alloc::{AllocError, Global};
 use telling::Told;
 use texts::{List, Text};
@@ -128,7 +128,10 @@ fn derive_either(
     know_names(alloc, selection, names, items, aliases)?;
     let selected = select(alloc, selection, names, items, aliases, &mut config)?;
     let faults = faults.as_slice();
-    derive_selected(alloc, names, &selected, impls, faults, selection, config)
+    let elsewhere = Elsewhere::new(alloc, items, aliases, &selected)?;
+    derive_selected(
+        alloc, names, &selected, &elsewhere, impls, faults, selection, config,
+    )
 }
 
 /// What is derived of the files that are gathered.
@@ -138,7 +141,9 @@ fn derive_either(
 /// name of the selection that is not known, or else that aliases stand more than 32 deep in each other, or that the texts of
 /// what is selected have more than 16,777,216 bytes, or else the faults of all declarations that cannot be read, or else the
 /// aliases whose names something else has, too, or else of each declaration the first fault, or else that the instances are
-/// beyond a bound. Where something is derived, the warnings say of which of serde's attributes the JSON is another than the schemas say.
+/// beyond a bound. Where something is derived, the warnings say of which of serde's attributes the JSON is another than the
+/// schemas say, which impls of serde's traits are written by hand, which declarations name what another file has in place of
+/// what their own file has, and with `not_plain` of each instance that is not plain the reason.
 ///
 /// With `skip_refused` files and declarations that are refused are left out instead, and what needs them, and the rest is
 /// derived: the warnings tell first what is left out, and why.

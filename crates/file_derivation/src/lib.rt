@@ -2,6 +2,7 @@
 #![tactic(auto)]
 
 mod derive;
+mod elsewhere;
 mod faults;
 mod helps;
 mod judged;

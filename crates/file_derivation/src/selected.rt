@@ -12,12 +12,14 @@ ghost use Rattle.syntax.specs.Items.{declarations_view};
 ghost use Rattle.syntax.specs.Named.{AreNamed};
 ghost use Rattle.gathering.specs.Files.{most_bytes};
 ghost use Rattle.selecting.specs.Clashes.{clash_lines};
+ghost use Rattle.selecting.specs.Elsewhere.{found_by};
 ghost use Rattle.telling.specs.declared.told.Told.{Told as AnyTold};
 ghost use Rattle.file_derivation.specs.LeftOut.{told_of_file};
 ghost use Rattle.file_derivation.specs.Warned.{has_some, told_nothing, AreAllWarned, AreFirst};
 ghost use Rattle.file_derivation.specs.Outcomes.{bytes_of, DerivesSelected, RefusesSelected, AreFaultsOrBound, IfToldIs};
 
 use crate::derive::{Refusal, alone};
+use crate::elsewhere::with_elsewhere;
 use crate::faults::faults_of;
 use crate::left_out::told_of_files;
 use crate::rounds::{leave_faults, leave_texts, read_whole};
@@ -29,7 +31,7 @@ use configuration::Config;
 use diag::{DeriveError, Diagnostics};
 use gathering::{FileImpl, Reading, one_reading_of_items, read_items, told_plainly, told_unplaced};
 use prepare::{FileAlias, FileItem};
-use selecting::{Selected, Selection, clash_lines, told_deep};
+use selecting::{Elsewhere, Selected, Selection, clash_lines, told_deep};
 use std::alloc::{AllocError, Global};
 use syntax::Declarations;
 use telling::Told;
@@ -140,13 +142,14 @@ fn with_warnings(
 }
 
 /// What is derived of the declarations, each read from the text of the item at the same place, and what they are warned of
-/// behind these warnings.
+/// behind these warnings; `plain` asks for a warning of each instance that is not plain.
 fn derive_read(
     alloc: Global,
     names: &[Text],
     from: &[&FileItem],
     declarations: Declarations,
     impls: &[FileImpl],
+    elsewhere: &Elsewhere,
     plain: bool,
     config: &Config,
     warnings: Warnings,
@@ -159,12 +162,13 @@ fn derive_read(
         (document_by by d.0.components))) }
     ensures warned { IfOk result (λ d. (front : AnyList AnyTold) → AreFirst front warnings
         → (all : AnyList AnyTold) × AreAllWarned plain config.now names.now
-        (declarations_view declarations) (map (λ i. i.now) from.now) impls.now d.0.components
+        (found_by elsewhere.now) (declarations_view declarations) (map (λ i. i.now) from.now) impls.now d.0.components
         front all × AreFirst all d.1) }
     ensures refused { Refuses result (AreRefused config.now (declarations_view declarations)) }
 {
     let own = warned_of(alloc, names, from, &declarations, impls, warnings)?;
-    let warnings = with_unplain(alloc, names, from, &declarations, plain, config, own)?;
+    let named = with_elsewhere(alloc, names, from, &declarations, elsewhere, own)?;
+    let warnings = with_unplain(alloc, names, from, &declarations, plain, config, named)?;
     let is_declared = !declarations.items.is_empty();
     let derived = derive_declarations(alloc, declarations, config)?;
     Ok(with_warnings(alloc, derived, warnings, is_declared)?)
@@ -176,6 +180,7 @@ fn derive_whole(
     names: &[Text],
     chosen: &[&FileItem],
     needed: &[&FileAlias],
+    elsewhere: &Elsewhere,
     impls: &[FileImpl],
     selection: &Selection,
     mut config: Config,
@@ -184,7 +189,8 @@ fn derive_whole(
     requires few { bytes_of (map (λ i. i.now) chosen.now) ≤ most_bytes }
     ensures derived { IfOk result (λ d. selection.now.skip_refused ≡ false
         → (all : AnyList AnyTold) × DerivesSelected selection.now config names.now
-        (map (λ i. i.now) chosen.now) (map (λ a. a.now) needed.now) impls.now []
+        (map (λ i. i.now) chosen.now) (map (λ a. a.now) needed.now)
+        (found_by elsewhere.now) impls.now []
         d.0.components all × AreFirst all d.1) }
     ensures told { IfErr result (IfToldIs (λ told. selection.now.skip_refused ≡ false
         → RefusesSelected selection.now config names.now (map (λ i. i.now) chosen.now)
@@ -208,6 +214,7 @@ fn derive_whole(
         from,
         declarations,
         impls,
+        elsewhere,
         plain,
         &config,
         warnings,
@@ -228,6 +235,7 @@ fn derive_left(
     names: &[Text],
     chosen: &[&FileItem],
     needed: &[&FileAlias],
+    elsewhere: &Elsewhere,
     impls: &[FileImpl],
     faults: &[Told],
     selection: &Selection,
@@ -237,7 +245,8 @@ fn derive_left(
     requires few { bytes_of (map (λ i. i.now) chosen.now) ≤ most_bytes }
     ensures derived { IfOk result (λ d. selection.now.skip_refused ≡ true
         → (all : AnyList AnyTold) × DerivesSelected selection.now config names.now
-        (map (λ i. i.now) chosen.now) (map (λ a. a.now) needed.now) impls.now
+        (map (λ i. i.now) chosen.now) (map (λ a. a.now) needed.now)
+        (found_by elsewhere.now) impls.now
         (map told_of_file faults.now) d.0.components all × AreFirst all d.1) }
     ensures told { IfErr result (IfToldIs (λ told. selection.now.skip_refused ≡ true
         → RefusesSelected selection.now config names.now (map (λ i. i.now) chosen.now)
@@ -263,6 +272,7 @@ fn derive_left(
         from,
         declarations,
         impls,
+        elsewhere,
         plain,
         &config,
         warnings,
@@ -280,6 +290,7 @@ pub(crate) fn derive_selected(
     alloc: Global,
     names: &[Text],
     selected: &Selected<'_>,
+    elsewhere: &Elsewhere,
     impls: &[FileImpl],
     faults: &[Told],
     selection: &Selection,
@@ -287,7 +298,8 @@ pub(crate) fn derive_selected(
 ) -> Result<(Derived, Warnings), Refusal>
     ensures derived { IfOk result (λ d. (selection.now.skip_refused ≡ false → faults.now ≡ [])
         → (all : AnyList AnyTold) × DerivesSelected selection.now config names.now
-        (map (λ i. i.now) selected.now.items) (map (λ a. a.now) selected.now.aliases) impls.now
+        (map (λ i. i.now) selected.now.items) (map (λ a. a.now) selected.now.aliases)
+        (found_by elsewhere.now) impls.now
         (map told_of_file faults.now) d.0.components all × AreFirst all d.1) }
     ensures told { IfErr result (IfToldIs (RefusesSelected selection.now config names.now
         (map (λ i. i.now) selected.now.items) (map (λ a. a.now) selected.now.aliases))) }
@@ -296,8 +308,10 @@ pub(crate) fn derive_selected(
     are_within(alloc, names, chosen, needed, selection, &config)?;
     if selection.skip_refused {
         return derive_left(
-            alloc, names, chosen, needed, impls, faults, selection, config,
+            alloc, names, chosen, needed, elsewhere, impls, faults, selection, config,
         );
     }
-    derive_whole(alloc, names, chosen, needed, impls, selection, config)
+    derive_whole(
+        alloc, names, chosen, needed, elsewhere, impls, selection, config,
+    )
 }

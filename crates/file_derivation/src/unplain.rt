@@ -10,17 +10,17 @@ ghost use Rattle.telling.specs.declared.told.Told.{Told as AnyTold};
 ghost use Rattle.file_derivation.specs.Unplain.{obstacle_text, reason_text, unplain_message, told_unplain, AreUnplainTold, IsPlainTold};
 ghost use Rattle.file_derivation.specs.Warned.{AreFirst, IsToldFirst};
 
+use crate::elsewhere::told_at_name;
 use crate::warned::{MOST_TOLD, Warnings};
 use compose::unplain_of;
 use configuration::Config;
 use diag::DeriveError;
-use gathering::file_name;
 use plainness::{Obstacle, Reason, Unplain};
 use prepare::FileItem;
 use selecting::Selection;
 use std::alloc::{AllocError, Global};
 use syntax::{Declaration, Declarations};
-use telling::{Told, told_in};
+use telling::Told;
 use texts::{List, Text};
 
 fn obstacle_text(obstacle: Obstacle) -> &'static str
@@ -71,18 +71,8 @@ fn told_unplain(
     if count >= MOST_TOLD {
         return Ok(None);
     }
-    let (name, text) = (file_name(names, item.file), item.text.as_str());
     let message = unplain_message(alloc, one)?;
-    let span = declaration.ident.span;
-    let told = told_in(
-        alloc,
-        name,
-        &item.place,
-        text,
-        span,
-        "warning",
-        message.as_str(),
-    )?;
+    let told = told_at_name(alloc, names, declaration, item, message.as_str())?;
     Ok(Some(told))
 }
 

@@ -1,8 +1,8 @@
 -- What is selected is what the program chooses, by the names that are not reached.
-use Rattle.std.proofs.Common.{◌≡◌, ◌∙◌, ◌⊎◌, inl, inr, refl, ap, sym, subst, ℕ, List, [], ◌∷◌, ◌++◌, map, Bool, true, false, cond, MatchBool, ◌||◌, Option, Some, None, is_none}
+use Rattle.std.proofs.Common.{◌≡◌, ◌⊎◌, inl, inr, refl, ap, ℕ, List, [], ◌∷◌, ◌++◌, map, Bool, true, false, cond, MatchBool, Option, Some, None, is_none}
 use Rattle.std.specs.List.{filter}
 use Rattle.std.proofs.lemmas.Bool.{or_cases, or_left, or_right}
-use Rattle.reaching.specs.Reached.{IsNodeIn, AreUnreached, IsReached}
+use Rattle.reaching.specs.Reached.{IsNodeIn, AreUnreached}
 use Rattle.reaching.specs.declared.node.Node.{Node}
 use Rattle.prepare.specs.declared.file_items.FileItem.{FileItem}
 use Rattle.prepare.specs.declared.file_items.FileAlias.{FileAlias}

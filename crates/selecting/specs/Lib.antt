@@ -1,5 +1,6 @@
 pub mod Clashes
 pub mod Deriving
+pub mod Elsewhere
 pub mod Imports
 pub mod Laws
 pub mod Lists

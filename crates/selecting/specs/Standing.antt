@@ -1,7 +1,7 @@
 -- Which of what files have counts: what is excluded does not, and a stand-in gives way to the user's own files.
-use Rattle.std.specs.Prelude.{ℕ, List, [], ◌∷◌, ◌++◌, map, find, codes, Bool, not, ◌&&◌, ◌||◌, nat_lt, is_none, Option}
+use Rattle.std.specs.Prelude.{ℕ, List, ◌++◌, map, find, codes, Bool, not, ◌&&◌, ◌||◌, nat_lt, is_none, Option}
 use Rattle.std.specs.Fmt.{decimal}
-use Rattle.std.specs.List.{filter, list_any}
+use Rattle.std.specs.List.{filter}
 use Rattle.texts.specs.Names.{is_in}
 use Rattle.prepare.specs.declared.file_items.FileItem.{FileItem}
 use Rattle.prepare.specs.declared.file_items.FileAlias.{FileAlias}

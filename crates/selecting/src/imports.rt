@@ -34,7 +34,7 @@ fn has_type(found: &BTreeMap<String, usize>, names: &[Text]) -> bool
 }
 
 /// Adds the names of the declarations.
-fn push_declared(
+pub(crate) fn push_declared(
     alloc: Global,
     names: &mut List<Text>,
     items: &[&FileItem],

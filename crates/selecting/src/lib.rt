@@ -3,6 +3,7 @@
 
 mod clashes;
 mod derives;
+mod elsewhere;
 mod imports;
 mod known;
 mod law;
@@ -13,6 +14,7 @@ mod standing;
 mod types;
 
 pub use clashes::{clash_lines, told_deep};
+pub use elsewhere::Elsewhere;
 pub use known::{unknown_exclude, unknown_only};
 pub use law::one_selecting;
 pub use selected::{Selected, select};

@@ -14,7 +14,8 @@ pub struct Selection {
     pub exclude: List<Text>,
     /// What is refused is left out, and what needs it.
     pub skip_refused: bool,
-    /// Of what is described, each instance that is not plain is warned of: its component may accept other JSON than serde reads.
+    /// Of what is described, each instance that is not plain is warned of: its component is not proved to accept exactly the
+    /// JSON of its shape.
     pub not_plain: bool,
     /// How many of the files, from the first on, are the user's own. Those behind them are stand-ins: what they declare is
     /// described where it is named, unless the user's own files have a declaration or an alias of the name.

@@ -118,7 +118,7 @@ fn push_item_names(
 }
 
 /// Whether the alias has its own name in its type.
-fn names_itself(alias: &FileAlias) -> bool
+pub(crate) fn names_itself(alias: &FileAlias) -> bool
     ensures { result ≡ names_itself alias.now }
 {
     is_in(

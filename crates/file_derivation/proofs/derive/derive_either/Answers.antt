@@ -1,10 +1,11 @@
-use Rattle.std.proofs.Common.{◌≡◌, ◌∙◌, ℕ, [], List, Bool, true, false, map, sym, subst}
+use Rattle.std.proofs.Common.{◌≡◌, ◌∙◌, ℕ, [], List, Option, true, false, map, sym, subst}
 use Rattle.std.proofs.lemmas.Bool.{true≢false}
 use Rattle.std.proofs.lemmas.Result.{err_from_is_err_and}
 use Rattle.std.specs.Borrow.{Bor}
 use Rattle.prepare.specs.declared.file_items.FileAlias.{FileAlias}
 use Rattle.prepare.specs.declared.file_items.FileItem.{FileItem}
 use Rattle.telling.specs.declared.told.Told.{Told}
+use Rattle.selecting.specs.Elsewhere.{elsewhere_name, found_by}
 use Rattle.file_derivation.specs.LeftOut.{told_of_file}
 use Rattle.file_derivation.specs.Outcomes.{Selects, DerivesSelected, RefusesSelected, AreDerivedFrom, of_files, of_selected}
 use Rattle.file_derivation.proofs.Stages.{some_told, none_told, told_if, if_ok, if_err, not_known}
@@ -45,7 +46,8 @@ returns-clause-derived c =
     (λ d derives files names gathered have written.
     let mine = derives (λ whole. c.as_slice-faults.ensures ∙ none whole) in
     let components = d.0.components in
-    let at = subst (λ (v : List Told). DerivesSelected s with_them own chosen needed impls (map told_of_file v) components mine.0) c.as_slice-faults.ensures mine.1 in
+    let at = subst (λ (v : List Told). DerivesSelected s with_them own chosen needed (found_by c.in_ok-elsewhere.elsewhere) impls (map told_of_file v) components mine.0) c.as_slice-faults.ensures mine.1 in
+    let found_at = subst (λ (v : FileItem → Option (List ℕ)). DerivesSelected s with_them own chosen needed v impls (map told_of_file c.args.faults) components mine.0) c.in_ok-elsewhere.ensures at in
     let found : AreDerivedFrom s config files components mine.0 = record {
       items = items;
       aliases = aliases;
@@ -57,7 +59,7 @@ returns-clause-derived c =
       selects = subst (λ (v : List (List ℕ)). Selects s config v items chosen aliases needed with_them) names selects;
       impls = impls;
       written = written;
-      derives = subst (λ (v : List (List ℕ)). DerivesSelected s with_them v chosen needed impls (map told_of_file c.args.faults) components mine.0) names at;
+      derives = subst (λ (v : List (List ℕ)). DerivesSelected s with_them v chosen needed (elsewhere_name items chosen aliases needed) impls (map told_of_file c.args.faults) components mine.0) names found_at;
     } in
     (mine.0, found, mine.2)) c.derive_selected.ensures.derived
 

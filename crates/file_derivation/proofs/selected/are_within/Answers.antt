@@ -1,4 +1,4 @@
-use Rattle.std.proofs.Common.{◌∙◌, [], ◌∷◌, List, map, ap, sym, subst}
+use Rattle.std.proofs.Common.{◌∙◌, [], ◌∷◌, map, ap, sym, subst}
 use Rattle.std.specs.Borrow.{Bor}
 use Rattle.prepare.specs.declared.file_items.FileAlias.{FileAlias}
 use Rattle.prepare.specs.declared.file_items.FileItem.{FileItem}

@@ -1,4 +1,4 @@
-use Rattle.std.proofs.Common.{◌≡◌, ◌∙◌, ◌++◌, ℕ, [], ◌∷◌, List, length, map, ap, sym, subst, append_assoc}
+use Rattle.std.proofs.Common.{◌≡◌, ◌∙◌, ◌++◌, [], ◌∷◌, List, length, map, ap, sym, subst, append_assoc}
 use Rattle.std.specs.Borrow.{Bor}
 use Rattle.std.proofs.lemmas.List.{length-map}
 use Rattle.std.proofs.lemmas.Result.{err_from_is_err_and}
@@ -17,7 +17,8 @@ use Rattle.gathering.specs.Reading.{AreRead}
 use Rattle.file_derivation.specs.Faults.{AreFaults}
 use Rattle.file_derivation.specs.Helps.{origin_of}
 use Rattle.file_derivation.specs.LeftOut.{told_of_file}
-use Rattle.file_derivation.specs.Rounds.{CanBeRead, LeavesTexts, LeavesFaults}
+use Rattle.file_derivation.specs.Rounds.{CanBeRead, LeavesFaults}
+use Rattle.selecting.specs.Elsewhere.{found_by}
 use Rattle.file_derivation.specs.Warned.{AreAllWarned, AreFirst}
 use Rattle.file_derivation.specs.Outcomes.{RefusesSelected, of_clashes, of_bounds, some_are, DerivesSelected}
 use Rattle.file_derivation.proofs.Stages.{refused_so, told_if, as_many}
@@ -75,6 +76,7 @@ returns-in-Ok-clause-derived c = λ skip.
     let ds = declarations_view c.in_ok-left.left.declarations in
     let from = shown c.in_ok-left.left.from in
     let rows = c.in_ok-push_rows_of.ensures.0 in
+    let elsewhere = found_by c.args.elsewhere.now in
     let impls = c.args.impls.now in
     let components = c.in-Ok.derived.0.components in
     let configured : c.push_rows_of.new.config ≡ with_rows config rows = c.in_ok-push_rows_of.ensures.2 in
@@ -87,7 +89,7 @@ returns-in-Ok-clause-derived c = λ skip.
     ∙ ap (λ (v : List Told). v ++ leaves.0) (texts.2 ∙ ap (λ (v : List Told). v ++ texts.0) c.in_ok-lines.ensures)
     ∙ append_assoc (map told_of_file c.args.faults.now) texts.0 leaves.0 in
     let mine = c.in-Ok.ensures.warned front (subst (λ (v : List Told). AreFirst v c.of-warnings.result) lines c.of-warnings.ensures) in
-    let found : DerivesSelected s config names chosen needed impls (map told_of_file c.args.faults.now) components mine.0 = record {
+    let found : DerivesSelected s config names chosen needed elsewhere impls (map told_of_file c.args.faults.now) components mine.0 = record {
       shallow = c.requires.shallow;
       told = texts.0 ++ leaves.0;
       from = from;
@@ -97,8 +99,8 @@ returns-in-Ok-clause-derived c = λ skip.
       distinct = c.in_ok-are_distinct.ensures.distinct;
       derived = made.0;
       describes = made.1;
-      warned = subst (λ (v : Configuration). AreAllWarned s.not_plain v names ds from impls components front mine.0) configured
-          (subst (λ (v : List (Bor FileItem)). AreAllWarned s.not_plain c.push_rows_of.new.config names ds (shown v) impls components front mine.0) c.as_slice-from.ensures mine.1);
+      warned = subst (λ (v : Configuration). AreAllWarned s.not_plain v names elsewhere ds from impls components front mine.0) configured
+          (subst (λ (v : List (Bor FileItem)). AreAllWarned s.not_plain c.push_rows_of.new.config names elsewhere ds (shown v) impls components front mine.0) c.as_slice-from.ensures mine.1);
     } in
     (mine.0, found, mine.2)
 

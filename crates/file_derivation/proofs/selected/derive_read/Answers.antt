@@ -8,6 +8,8 @@ use Rattle.compose.specs.Bounds.{collects_all}
 use Rattle.compose.specs.Faults.{AreDerived}
 use Rattle.compose.specs.declared.derive.Derived.{Derived}
 use Rattle.prepare.specs.declared.file_items.FileItem.{FileItem}
+use Rattle.selecting.specs.Elsewhere.{found_by}
+use Rattle.file_derivation.specs.Elsewhere.{told_all_elsewhere}
 use Rattle.file_derivation.specs.Warned.{has_some, told_impls, told_nothing, AreAllWarned}
 use Rattle.file_derivation.proofs.Written.{some_where, some_mapped}
 use Rattle.file_derivation.proofs.selected.derive_read.Goals as goal
@@ -29,12 +31,13 @@ returns-clause-warned c = λ front first.
     let impls = c.args.impls.now in
     let components = c.in_ok-derived.derived.components in
     let mine = c.in_ok-own.ensures front first in
-    let before = (front ++ mine.0) ++ told_impls names ds impls in
-    let more = c.in_ok-warnings.ensures.told before mine.2 in
+    let elsewhere = found_by c.args.elsewhere.now in
+    let before = ((front ++ mine.0) ++ told_impls names ds impls) ++ told_all_elsewhere names elsewhere ds from in
+    let more = c.in_ok-warnings.ensures.told before (c.in_ok-named.ensures ((front ++ mine.0) ++ told_impls names ds impls) mine.2) in
     let is_declared = not c.is_empty-is_declared.result in
     let all = (before ++ more.0) ++ told_nothing is_declared (has_some components) in
     let some : is_declared ≡ has_some ds = some_where c.is_empty-is_declared.result items c.is_empty-is_declared.ensures ∙ some_mapped declaration_view items in
-    let warned : AreAllWarned plain config names ds from impls components front all = record {
+    let warned : AreAllWarned plain config names elsewhere ds from impls components front all = record {
       own = mine.0;
       warned = mine.1;
       unplain = more.0;
@@ -42,4 +45,4 @@ returns-clause-warned c = λ front first.
       whole = ap (λ (b : Bool). (before ++ more.0) ++ told_nothing b (has_some components)) some;
     } in
     let given = c.in_ok-with_warnings.ensures in
-    (all, subst (λ (v : Derived). AreAllWarned plain config names ds from impls v.components front all) (sym given.derived) warned, given.warned (before ++ more.0) more.2)
+    (all, subst (λ (v : Derived). AreAllWarned plain config names elsewhere ds from impls v.components front all) (sym given.derived) warned, given.warned (before ++ more.0) more.2)

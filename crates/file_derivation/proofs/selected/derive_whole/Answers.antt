@@ -1,4 +1,4 @@
-use Rattle.std.proofs.Common.{◌≡◌, ◌∙◌, ℕ, [], List, length, map, ap, refl, sym, subst, inl, inr}
+use Rattle.std.proofs.Common.{◌≡◌, ◌∙◌, [], List, length, map, ap, sym, subst, inl, inr}
 use Rattle.std.specs.Borrow.{Bor}
 use Rattle.diag.specs.declared.error.DeriveError.TheVariants.{Refused}
 use Rattle.schema_core.specs.Document.{document_by}
@@ -12,6 +12,7 @@ use Rattle.prepare.specs.declared.file_items.FileAlias.{FileAlias}
 use Rattle.prepare.specs.declared.file_items.FileItem.{FileItem}
 use Rattle.std.proofs.lemmas.List.{length-map}
 use Rattle.std.proofs.lemmas.Result.{err_from_is_err_and}
+use Rattle.selecting.specs.Elsewhere.{found_by}
 use Rattle.file_derivation.specs.Warned.{AreAllWarned}
 use Rattle.file_derivation.specs.Faults.{AreFaults}
 use Rattle.file_derivation.specs.Helps.{origin_of}
@@ -61,12 +62,13 @@ returns-in-Ok-clause-derived c = λ all.
     let ds = declarations_view c.in_ok-reading.reading.declarations in
     let from = shown c.in_ok-reading.reading.from in
     let read = subst (AreRead names chosen from ds) none c.in_ok-reading.ensures.read in
+    let elsewhere = found_by c.args.elsewhere.now in
     let impls = c.args.impls.now in
     let components = c.in-Ok.derived.0.components in
     let configured : c.push_rows_of.new.config ≡ with_rows config c.in_ok-push_rows_of.ensures.0 = c.in_ok-push_rows_of.ensures.2 in
     let made = subst (λ (v : Configuration). (made : AreDerived v ds components) × ((by : Alternatives) → Describes made.resolved (collects_all v.collect) (document_by by components))) configured c.in-Ok.ensures.derived in
     let mine = c.in-Ok.ensures.warned [] c.new-warnings.ensures in
-    let found : DerivesSelected s config names chosen needed impls [] components mine.0 = record {
+    let found : DerivesSelected s config names chosen needed elsewhere impls [] components mine.0 = record {
       shallow = c.requires.shallow;
       told = [];
       from = from;
@@ -76,8 +78,8 @@ returns-in-Ok-clause-derived c = λ all.
       distinct = c.in_ok-are_distinct.ensures.distinct;
       derived = made.0;
       describes = made.1;
-      warned = subst (λ (v : Configuration). AreAllWarned s.not_plain v names ds from impls components [] mine.0) configured
-          (subst (λ (v : List (Bor FileItem)). AreAllWarned s.not_plain c.push_rows_of.new.config names ds (shown v) impls components [] mine.0) c.as_slice-from.ensures mine.1);
+      warned = subst (λ (v : Configuration). AreAllWarned s.not_plain v names elsewhere ds from impls components [] mine.0) configured
+          (subst (λ (v : List (Bor FileItem)). AreAllWarned s.not_plain c.push_rows_of.new.config names elsewhere ds (shown v) impls components [] mine.0) c.as_slice-from.ensures mine.1);
     } in
     (mine.0, found, mine.2)
 

@@ -1,4 +1,4 @@
-use Rattle.std.proofs.Common.{◌≡◌, ◌∙◌, ℕ, List, Option, map, ap, subst, IfOk}
+use Rattle.std.proofs.Common.{◌≡◌, ◌∙◌, List, map, ap, subst, IfOk}
 use Rattle.std.specs.Borrow.{Bor}
 use Rattle.std.specs.BTreeMap.{get_by_text}
 use Rattle.std.specs.List.{filter}

@@ -1,4 +1,4 @@
-use Rattle.std.proofs.Common.{◌≡◌, ◌∙◌, ℕ, List, not, bytes_eq, map, option_map, ap, sym}
+use Rattle.std.proofs.Common.{◌∙◌, ℕ, List, not, bytes_eq, map, option_map, ap, sym}
 use Rattle.std.proofs.lemmas.Bool.{ltb-true}
 use Rattle.std.specs.Borrow.{Bor}
 use Rattle.prepare.specs.declared.file_items.FileAlias.{FileAlias}

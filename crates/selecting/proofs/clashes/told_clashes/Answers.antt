@@ -1,4 +1,4 @@
-use Rattle.std.proofs.Common.{◌≡◌, ◌∙◌, ◌-◌, ◌++◌, [], ◌∷◌, ℕ, List, length, take, drop, map, ap, sym, append_assoc}
+use Rattle.std.proofs.Common.{◌∙◌, ◌-◌, ◌++◌, [], ◌∷◌, ℕ, List, length, take, drop, map, ap, sym, append_assoc}
 use Rattle.std.specs.Borrow.{Bor}
 use Rattle.prepare.specs.declared.file_items.FileAlias.{FileAlias}
 use Rattle.telling.specs.declared.told.Told.{Told}

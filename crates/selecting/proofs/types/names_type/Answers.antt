@@ -1,9 +1,9 @@
-use Rattle.std.proofs.Common.{◌≡◌, ◌∙◌, ◌⊎◌, inl, inr, false, Bool, ℕ, List, is_some, ap, sym, subst, ◌≡◌}
+use Rattle.std.proofs.Common.{◌≡◌, ◌∙◌, ◌⊎◌, false, is_some, ap, sym, subst, ◌≡◌}
 use Rattle.std.specs.BTreeMap.{get_by_text}
 use Rattle.configuration.specs.Aliases.{alias_names}
 use Rattle.configuration.specs.Form.{IsTypeText}
 use Rattle.diag.specs.declared.error.DeriveError.TheVariants.{Memory}
-use Rattle.type_grammar.specs.Source.{ReadsType, IsNoType, IsDeepType}
+use Rattle.type_grammar.specs.Source.{IsNoType, IsDeepType}
 use Rattle.written_types.specs.Written.{written_view}
 use Rattle.selecting.specs.Lists.{is_named}
 use Rattle.selecting.specs.Types.{is_path_to}

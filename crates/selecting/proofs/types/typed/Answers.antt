@@ -1,4 +1,4 @@
-use Rattle.std.proofs.Common.{◌++◌, [], ◌∷◌, List, MatchBool, Bool, true, false, map, sym, subst, append-nil, append_assoc}
+use Rattle.std.proofs.Common.{◌++◌, [], ◌∷◌, List, map, sym, subst, append-nil, append_assoc}
 use Rattle.std.specs.Borrow.{Bor}
 use Rattle.prepare.specs.declared.file_items.FileAlias.{FileAlias}
 use Rattle.selecting.specs.Lists.{AreThose, no_others, one_holds, one_fails}
