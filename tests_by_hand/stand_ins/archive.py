@@ -11,7 +11,8 @@ Where there is a document the crate derives; it describes nothing where no decla
 The program reports the first hundred faults, and of a declaration the first. Behind the totals stands each unknown name, with its crates.
 
 With `--leave-out` what a refusal says to leave out by `--exclude` is left out, of two declarations or aliases of one name the one that
-is reported, and the crate is run again, until nothing more is given twice. Such crates are counted for themselves.
+is reported, of two fields or variants of one name the declaration that they stand in, and the crate is run again, until nothing more
+is given twice. Such crates are counted for themselves.
 
 The exit status is 0 whatever the program refuses, and 2 where the arguments are others than these.
 """
@@ -26,6 +27,7 @@ import sys
 DERIVE = re.compile(r"\bderive\s*\([^)]*\b(?:Serialize|Deserialize)\b")
 PLAIN = re.compile(r"#\s*\[\s*derive\s*\([^)]*\b(?:Serialize|Deserialize)\b")
 FAULT = re.compile(r"^(?P<path>/.*?)(?::(?P<line>\d+):(?P<column>\d+))?: (?P<kind>[A-Z]\w+): (?P<message>.*)$")
+DECLARES = re.compile(r"^\s*(?:pub\b.*)?\b(?:struct|enum)\s+\w")
 UNKNOWN = "unknown type "
 
 
@@ -102,7 +104,7 @@ def kind(fault):
         return "type of another crate or of a macro"
     if "is not built" in fault["help"] or "flatten" in fault["message"]:
         return "feature not built"
-    if "given twice" in fault["message"] and re.match(r"\s*(pub\b.*)?\b(struct|enum)\b", line):
+    if "given twice" in fault["message"] and DECLARES.search(line):
         return "two declarations of one name"
     if fault["kind"] == "Syntax" and line[at:at + 1] == "=" and re.search(r"\b(struct|enum)\b", line):
         return "default of a type parameter"
@@ -113,10 +115,19 @@ def kind(fault):
     return f"other: {fault['kind']}"
 
 
+def named_line(fault):
+    """Returns the line that `--exclude` wants for what a fault says to leave out: its own, or that of the name of the declaration there."""
+    line = int(fault["line"])
+    if "the line of its name" in fault["help"]:
+        lines = read(fault["path"]).split("\n")[:line]
+        line = max((at for at, it in enumerate(lines, 1) if DECLARES.search(it)), default=line)
+    return line
+
+
 def given_twice(said):
     """Returns the places, `PATH:LINE`, of what a refusal says to leave out since another has its name."""
     of_names = [it for it in faults(said) if it["kind"] in ("DuplicateName", "AliasDepth") and "--exclude" in it["help"]]
-    return [f"{it['path']}:{it['line']}" for it in of_names]
+    return [f"{it['path']}:{named_line(it)}" for it in of_names]
 
 
 def run(program, words, leaves_out):

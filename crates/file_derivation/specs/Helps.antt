@@ -1,13 +1,14 @@
 -- What the reader may do about the fault of a declaration, by the declarations around it.
-use Rattle.std.specs.Prelude.{◌==◌, ℕ, List, [], ◌∷◌, ◌++◌, map, cond, codes, Option, Some, None, option_map, option_and_then, slice_get}
+use Rattle.std.specs.Prelude.{◌==◌, ℕ, List, [], ◌∷◌, ◌++◌, map, bytes_eq, cond, codes, Option, Some, None, option_map, option_and_then, slice_get}
 use Rattle.std.specs.Option.{option_or}
 use Rattle.diag.specs.declared.diagnostics.DiangosticsInner.{DiangosticsInner}
 use Rattle.diag.specs.declared.kind.Kind.{Kind}
-use Rattle.diag.specs.declared.kind.Kind.TheVariants.{Syntax, DuplicateName, UnknownType}
+use Rattle.diag.specs.declared.kind.Kind.TheVariants.{Syntax, DuplicateName, UnknownType, Arity}
 use Rattle.texts.specs.Names.{is_in}
 use Rattle.syntax.specs.Items.{DeclaredItem, declarations_view}
 use Rattle.scopes.specs.Names.{place_among}
 use Rattle.derive_decl.specs.Attributed.{first_feature, feature_name}
+use Rattle.derive_decl.specs.Faults.{fieldless_message}
 use Rattle.derive_decl.specs.declared.feature.Feature.{Feature}
 use Rattle.telling.specs.Told.{place_in}
 use Rattle.telling.specs.declared.told.Told.{Told}
@@ -43,11 +44,18 @@ feature_help feature = codes "`" ++ (feature_name feature ++ codes "` is not bui
 abbrev pub excluded_help : Origin → List ℕ → Option (List ℕ)
 excluded_help o name = cond (is_in name o.excluded) (Some (name ++ codes " is excluded by --exclude")) None
 
+-- of a wrong number of type arguments, and of a tuple form without a field, by the message
+abbrev pub arity_help : List ℕ → List ℕ
+arity_help message = cond (bytes_eq message fieldless_message)
+    (codes "give it a field of the type `[u8; 0]`: its JSON, too, is the empty array")
+    (codes "write each of its type arguments, also one that has a default; an alias has none")
+
 -- of the declaration at the place among these, by the kind and the message of its fault
 abbrev pub around_help : Origin → List DeclaredItem → ℕ → DeclaredItem → Kind → List ℕ → Option (List ℕ)
 around_help o ds at d DuplicateName message = option_and_then (second_help o ds at) (place_among ds d.ident.text)
 around_help o ds at d Syntax message = option_map feature_help (first_feature d)
 around_help o ds at d UnknownType message = option_and_then (excluded_help o) (unknown_type message)
+around_help o ds at d Arity message = Some (arity_help message)
 around_help o ds at d _ message = None
 
 -- what is told of the fault of the declaration at the place, which is read from the item

@@ -6,7 +6,7 @@ ghost use Rattle.syntax.specs.Items.{declaration_view};
 ghost use Rattle.scopes.specs.Names.{place_among};
 ghost use Rattle.derive_decl.specs.Attributed.{first_feature};
 ghost use Rattle.gathering.specs.Telling.{unknown_type};
-ghost use Rattle.file_derivation.specs.Helps.{first_help, second_help, feature_help, excluded_help, around_help, told_fault, origin_around, declared_around};
+ghost use Rattle.file_derivation.specs.Helps.{first_help, second_help, feature_help, excluded_help, arity_help, around_help, told_fault, origin_around, declared_around};
 
 use derive_decl::{Feature, first_feature};
 use diag::{Diagnostics, Kind};
@@ -126,6 +126,16 @@ fn unknown_help(
     }
 }
 
+/// What the reader may do about a wrong number of type arguments, or about a tuple form without a field, by the message.
+fn arity_help(message: &str) -> &'static str
+    ensures { result.now ≡ arity_help message.now }
+{
+    if message == "a tuple form without a field" {
+        return "give it a field of the type `[u8; 0]`: its JSON, too, is the empty array";
+    }
+    "write each of its type arguments, also one that has a default; an alias has none"
+}
+
 /// What the reader may do about the fault of the declaration at the place, by what is around it.
 fn around_help(
     alloc: Global,
@@ -142,6 +152,7 @@ fn around_help(
         Kind::DuplicateName => second_help(alloc, around, at, declaration),
         Kind::Syntax => built_help(alloc, declaration),
         Kind::UnknownType => unknown_help(alloc, around, refusal.message()),
+        Kind::Arity => Ok(Some(Text::new(alloc, arity_help(refusal.message()))?)),
         _ => Ok(None),
     }
 }

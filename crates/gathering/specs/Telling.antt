@@ -4,7 +4,7 @@ use Rattle.std.proofs.Common.{arith}
 use Rattle.std.specs.Option.{option_or}
 use Rattle.diag.specs.Kind.{name_of}
 use Rattle.diag.specs.declared.kind.Kind.{Kind}
-use Rattle.diag.specs.declared.kind.Kind.TheVariants.{BadRow, AliasDepth, MissingRow, UnknownType, BadArgument, TypeSize, TooManyInstances, TooManyCopies}
+use Rattle.diag.specs.declared.kind.Kind.TheVariants.{BadRow, AliasDepth, TooDeep, Syntax, SerdeTag, MissingRow, DuplicateName, UnknownType, BadArgument, TypeSize, TooManyInstances, NameClash, InlineDepth, TooManyCopies}
 use Rattle.diag.specs.declared.diagnostics.DiangosticsInner.{DiangosticsInner}
 use Rattle.diag.specs.declared.suggestion.Suggestion.{Suggestion}
 use Rattle.diag.specs.declared.suggestion.Suggestion.TheVariants.{Help}
@@ -44,10 +44,16 @@ declare_help name = codes "add a declaration that says its JSON, as `struct " ++
 abbrev pub plain_help : Kind → Option (List ℕ)
 plain_help BadRow = Some (codes "an alias is the text of a type, as it stands behind the `:` of a field")
 plain_help AliasDepth = Some (codes "leave out the alias, and declare a struct of its name")
+plain_help TooDeep = Some (codes "give an inner type a struct of its own")
+plain_help Syntax = Some (codes "rewrite it; or leave the declaration out by --exclude PATH:LINE, the line of its name, and add one that says its JSON")
+plain_help SerdeTag = Some (codes "keep one `tag` or `untagged`, and `content` only beside a `tag`")
 plain_help MissingRow = Some (codes "give it a `rename`")
+plain_help DuplicateName = Some (codes "rename one; of two under a `cfg`, leave the declaration out by --exclude PATH:LINE, the line of its name, and add it with one of them")
 plain_help BadArgument = Some (codes "give it a struct of its own")
 plain_help TypeSize = Some (codes "give a part of it a struct of its own")
 plain_help TooManyInstances = Some (codes "raise `limit` in the configuration, at most to 4096")
+plain_help NameClash = Some (codes "rename one of the declarations")
+plain_help InlineDepth = Some (codes "put a struct with named fields in place of a tuple, of a map's key or of a type argument")
 plain_help TooManyCopies = Some (codes "raise `copies` in the configuration, at most to 100000")
 plain_help _ = None
 

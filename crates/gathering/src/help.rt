@@ -47,10 +47,24 @@ fn plain_help(kind: Kind) -> Option<&'static str>
             Some("an alias is the text of a type, as it stands behind the `:` of a field")
         }
         Kind::AliasDepth => Some("leave out the alias, and declare a struct of its name"),
+        Kind::TooDeep => Some("give an inner type a struct of its own"),
+        Kind::Syntax => Some(
+            "rewrite it; or leave the declaration out by --exclude PATH:LINE, the line of its name, and add one that says its JSON",
+        ),
+        Kind::SerdeTag => {
+            Some("keep one `tag` or `untagged`, and `content` only beside a `tag`")
+        }
         Kind::MissingRow => Some("give it a `rename`"),
+        Kind::DuplicateName => Some(
+            "rename one; of two under a `cfg`, leave the declaration out by --exclude PATH:LINE, the line of its name, and add it with one of them",
+        ),
         Kind::BadArgument => Some("give it a struct of its own"),
         Kind::TypeSize => Some("give a part of it a struct of its own"),
         Kind::TooManyInstances => Some("raise `limit` in the configuration, at most to 4096"),
+        Kind::NameClash => Some("rename one of the declarations"),
+        Kind::InlineDepth => Some(
+            "put a struct with named fields in place of a tuple, of a map's key or of a type argument",
+        ),
         Kind::TooManyCopies => Some("raise `copies` in the configuration, at most to 100000"),
         _ => None,
     }
