@@ -10,7 +10,7 @@ ghost use Rattle.file_derivation.specs.Warned.{AreFirst};
 ghost use Rattle.file_derivation.specs.Outcomes.{names_of, only_message, exclude_message, AreNotKnown, AreDerivedFrom, AreTold, IfToldIs, IsOutcome, IfDerived, IfRefused, IsDerivation, AreSound};
 
 use crate::law::sound_are_not_told;
-use crate::selected::derive_selected;
+use crate::selected::{Files, derive_selected};
 use crate::warned::Warnings;
 use compose::Derived;
 use configuration::Config;
@@ -127,11 +127,14 @@ fn derive_either(
     }
     know_names(alloc, selection, names, items, aliases)?;
     let selected = select(alloc, selection, names, items, aliases, &mut config)?;
-    let faults = faults.as_slice();
     let elsewhere = Elsewhere::new(alloc, items, aliases, &selected)?;
-    derive_selected(
-        alloc, names, &selected, &elsewhere, impls, faults, selection, config,
-    )
+    let files = Files {
+        names,
+        impls,
+        elsewhere: &elsewhere,
+        faults: faults.as_slice(),
+    };
+    derive_selected(alloc, &files, &selected, selection, config)
 }
 
 /// What is derived of the files that are gathered.

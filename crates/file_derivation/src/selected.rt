@@ -37,6 +37,19 @@ use syntax::Declarations;
 use telling::Told;
 use texts::{List, Text};
 
+/// What is known of all files.
+#[derive(Clone, Copy)]
+pub(crate) struct Files<'f> {
+    /// Their names.
+    pub(crate) names: &'f [Text],
+    /// The impls of serde's traits that are written by hand in them.
+    pub(crate) impls: &'f [FileImpl],
+    /// Which names mean, in one of them, what another has.
+    pub(crate) elsewhere: &'f Elsewhere,
+    /// What is told of those that are no files of Rust.
+    pub(crate) faults: &'f [Told],
+}
+
 /// The most bytes of the declarations that are selected.
 const MOST_BYTES: usize = 16_777_216;
 
@@ -141,33 +154,38 @@ fn with_warnings(
     Ok((derived, warnings))
 }
 
-/// What is derived of the declarations, each read from the text of the item at the same place, and what they are warned of
-/// behind these warnings; `plain` asks for a warning of each instance that is not plain.
+/// What is derived of the declarations that are read, and what they are warned of behind these warnings; `plain` asks for a
+/// warning of each instance that is not plain.
 fn derive_read(
     alloc: Global,
-    names: &[Text],
-    from: &[&FileItem],
-    declarations: Declarations,
-    impls: &[FileImpl],
-    elsewhere: &Elsewhere,
+    files: &Files<'_>,
+    reading: Reading<'_>,
     plain: bool,
     config: &Config,
     warnings: Warnings,
 ) -> Result<(Derived, Warnings), DeriveError>
-    requires many { length from.now ≡ length (declarations_view declarations) }
-    requires named { AreNamed (declarations_view declarations) }
+    requires many { length reading.from ≡ length (declarations_view reading.declarations) }
+    requires named { AreNamed (declarations_view reading.declarations) }
     ensures derived { IfOk result (λ d. (made : AreDerived config.now
-        (declarations_view declarations) d.0.components)
+        (declarations_view reading.entry.declarations) d.0.components)
         × ((by : Alternatives) → Describes made.resolved (collects_all config.now.collect)
         (document_by by d.0.components))) }
     ensures warned { IfOk result (λ d. (front : AnyList AnyTold) → AreFirst front warnings
-        → (all : AnyList AnyTold) × AreAllWarned plain config.now names.now
-        (found_by elsewhere.now) (declarations_view declarations) (map (λ i. i.now) from.now) impls.now d.0.components
+        → (all : AnyList AnyTold) × AreAllWarned plain config.now files.now.names.now
+        (found_by files.now.elsewhere.now) (declarations_view reading.entry.declarations)
+        (map (λ i. i.now) reading.entry.from) files.now.impls.now d.0.components
         front all × AreFirst all d.1) }
-    ensures refused { Refuses result (AreRefused config.now (declarations_view declarations)) }
+    ensures refused { Refuses result
+        (AreRefused config.now (declarations_view reading.entry.declarations)) }
 {
-    let own = warned_of(alloc, names, from, &declarations, impls, warnings)?;
-    let named = with_elsewhere(alloc, names, from, &declarations, elsewhere, own)?;
+    let Reading {
+        declarations,
+        from,
+        ..
+    } = reading;
+    let (names, from) = (files.names, from.as_slice());
+    let own = warned_of(alloc, names, from, &declarations, files.impls, warnings)?;
+    let named = with_elsewhere(alloc, names, from, &declarations, files.elsewhere, own)?;
     let warnings = with_unplain(alloc, names, from, &declarations, plain, config, named)?;
     let is_declared = !declarations.items.is_empty();
     let derived = derive_declarations(alloc, declarations, config)?;
@@ -177,45 +195,36 @@ fn derive_read(
 /// What is derived of the declarations that are selected, and what they are warned of, where nothing is left out.
 fn derive_whole(
     alloc: Global,
-    names: &[Text],
+    files: &Files<'_>,
     chosen: &[&FileItem],
     needed: &[&FileAlias],
-    elsewhere: &Elsewhere,
-    impls: &[FileImpl],
     selection: &Selection,
     mut config: Config,
 ) -> Result<(Derived, Warnings), Refusal>
     requires shallow { ¬ (AreDeep config.aliases) }
     requires few { bytes_of (map (λ i. i.now) chosen.now) ≤ most_bytes }
     ensures derived { IfOk result (λ d. selection.now.skip_refused ≡ false
-        → (all : AnyList AnyTold) × DerivesSelected selection.now config names.now
+        → (all : AnyList AnyTold) × DerivesSelected selection.now config files.now.names.now
         (map (λ i. i.now) chosen.now) (map (λ a. a.now) needed.now)
-        (found_by elsewhere.now) impls.now []
+        (found_by files.now.elsewhere.now) files.now.impls.now []
         d.0.components all × AreFirst all d.1) }
     ensures told { IfErr result (IfToldIs (λ told. selection.now.skip_refused ≡ false
-        → RefusesSelected selection.now config names.now (map (λ i. i.now) chosen.now)
-        (map (λ a. a.now) needed.now) told)) }
+        → RefusesSelected selection.now config files.now.names.now
+        (map (λ i. i.now) chosen.now) (map (λ a. a.now) needed.now) told)) }
 {
+    let names = files.names;
     let reading = read_items(alloc, names, chosen)?;
     if !reading.faults.is_empty() {
         return Err(Refusal::Told(reading.faults));
     }
     push_rows_of(alloc, &mut config, &reading.declarations)?;
     are_distinct(alloc, names, &reading.declarations, needed)?;
-    let Reading {
-        declarations,
-        from,
-        ..
-    } = reading;
-    let (from, warnings, plain) = (from.as_slice(), Warnings::new(alloc), selection.not_plain);
+    let warnings = Warnings::new(alloc);
     match derive_read(
         alloc,
-        names,
-        from,
-        declarations,
-        impls,
-        elsewhere,
-        plain,
+        files,
+        reading,
+        selection.not_plain,
         &config,
         warnings,
     ) {
@@ -232,27 +241,25 @@ fn derive_whole(
 /// out: of files, of whose faults this is told, of declarations that cannot be read, and of those at fault.
 fn derive_left(
     alloc: Global,
-    names: &[Text],
+    files: &Files<'_>,
     chosen: &[&FileItem],
     needed: &[&FileAlias],
-    elsewhere: &Elsewhere,
-    impls: &[FileImpl],
-    faults: &[Told],
     selection: &Selection,
     mut config: Config,
 ) -> Result<(Derived, Warnings), Refusal>
     requires shallow { ¬ (AreDeep config.aliases) }
     requires few { bytes_of (map (λ i. i.now) chosen.now) ≤ most_bytes }
     ensures derived { IfOk result (λ d. selection.now.skip_refused ≡ true
-        → (all : AnyList AnyTold) × DerivesSelected selection.now config names.now
+        → (all : AnyList AnyTold) × DerivesSelected selection.now config files.now.names.now
         (map (λ i. i.now) chosen.now) (map (λ a. a.now) needed.now)
-        (found_by elsewhere.now) impls.now
-        (map told_of_file faults.now) d.0.components all × AreFirst all d.1) }
+        (found_by files.now.elsewhere.now) files.now.impls.now
+        (map told_of_file files.now.faults.now) d.0.components all × AreFirst all d.1) }
     ensures told { IfErr result (IfToldIs (λ told. selection.now.skip_refused ≡ true
-        → RefusesSelected selection.now config names.now (map (λ i. i.now) chosen.now)
-        (map (λ a. a.now) needed.now) told)) }
+        → RefusesSelected selection.now config files.now.names.now
+        (map (λ i. i.now) chosen.now) (map (λ a. a.now) needed.now) told)) }
 {
-    let mut lines = told_of_files(alloc, faults)?;
+    let names = files.names;
+    let mut lines = told_of_files(alloc, files.faults)?;
     let readable = leave_texts(alloc, names, chosen, &mut lines)?;
     let reading = read_whole(alloc, names, readable.as_slice())?;
     push_rows_of(alloc, &mut config, &reading.declarations)?;
@@ -260,23 +267,8 @@ fn derive_left(
         alloc, names, selection, &config, readable, reading, &mut lines,
     )?;
     are_distinct(alloc, names, &left.declarations, needed)?;
-    let Reading {
-        declarations,
-        from,
-        ..
-    } = left;
-    let (from, warnings, plain) = (from.as_slice(), Warnings::of(lines), selection.not_plain);
-    match derive_read(
-        alloc,
-        names,
-        from,
-        declarations,
-        impls,
-        elsewhere,
-        plain,
-        &config,
-        warnings,
-    ) {
+    let warnings = Warnings::of(lines);
+    match derive_read(alloc, files, left, selection.not_plain, &config, warnings) {
         Ok(derived) => Ok(derived),
         Err(DeriveError::Memory) => Err(Refusal::Memory),
         Err(DeriveError::Refused(refusal)) => {
@@ -288,30 +280,24 @@ fn derive_left(
 /// What is derived of what is selected, and what it is warned of; the faults are those of files that are left out.
 pub(crate) fn derive_selected(
     alloc: Global,
-    names: &[Text],
+    files: &Files<'_>,
     selected: &Selected<'_>,
-    elsewhere: &Elsewhere,
-    impls: &[FileImpl],
-    faults: &[Told],
     selection: &Selection,
     config: Config,
 ) -> Result<(Derived, Warnings), Refusal>
-    ensures derived { IfOk result (λ d. (selection.now.skip_refused ≡ false → faults.now ≡ [])
-        → (all : AnyList AnyTold) × DerivesSelected selection.now config names.now
+    ensures derived { IfOk result (λ d.
+        (selection.now.skip_refused ≡ false → files.now.faults.now ≡ [])
+        → (all : AnyList AnyTold) × DerivesSelected selection.now config files.now.names.now
         (map (λ i. i.now) selected.now.items) (map (λ a. a.now) selected.now.aliases)
-        (found_by elsewhere.now) impls.now
-        (map told_of_file faults.now) d.0.components all × AreFirst all d.1) }
-    ensures told { IfErr result (IfToldIs (RefusesSelected selection.now config names.now
+        (found_by files.now.elsewhere.now) files.now.impls.now
+        (map told_of_file files.now.faults.now) d.0.components all × AreFirst all d.1) }
+    ensures told { IfErr result (IfToldIs (RefusesSelected selection.now config files.now.names.now
         (map (λ i. i.now) selected.now.items) (map (λ a. a.now) selected.now.aliases))) }
 {
     let (chosen, needed) = (selected.items.as_slice(), selected.aliases.as_slice());
-    are_within(alloc, names, chosen, needed, selection, &config)?;
+    are_within(alloc, files.names, chosen, needed, selection, &config)?;
     if selection.skip_refused {
-        return derive_left(
-            alloc, names, chosen, needed, elsewhere, impls, faults, selection, config,
-        );
+        return derive_left(alloc, files, chosen, needed, selection, config);
     }
-    derive_whole(
-        alloc, names, chosen, needed, elsewhere, impls, selection, config,
-    )
+    derive_whole(alloc, files, chosen, needed, selection, config)
 }

@@ -32,13 +32,13 @@ read_whole-requires c = record { readable = subst (λ (v : List (Bor FileItem)).
 
 pub leave_faults-requires : goal.leave_faults-requires
 leave_faults-requires c = record {
-  read = subst (λ (v : List (Bor FileItem)). AreRead c.args.names.now (shown v) (shown c.in_ok-reading.reading.from) (declarations_view c.in_ok-reading.reading.declarations) []) c.as_slice.ensures c.in_ok-reading.ensures.read;
+  read = subst (λ (v : List (Bor FileItem)). AreRead c.args.files.now.names.now (shown v) (shown c.in_ok-reading.reading.from) (declarations_view c.in_ok-reading.reading.declarations) []) c.as_slice.ensures c.in_ok-reading.ensures.read;
   named = c.in_ok-reading.ensures.named;
 }
 
 pub derive_read-requires : goal.derive_read-requires
 derive_read-requires c = record {
-  many = ap length c.as_slice-from.ensures ∙ sym (length-map c.in_ok-left.left.from (λ i. i.now)) ∙ as_many c.in_ok-left.ensures.leaves.3;
+  many = sym (length-map c.in_ok-left.left.from (λ i. i.now)) ∙ as_many c.in_ok-left.ensures.leaves.3;
   named = c.in_ok-left.ensures.named;
 }
 
@@ -46,7 +46,7 @@ pub returns-in_err-are_distinct-clause-told : goal.returns-in_err-are_distinct-c
 returns-in_err-are_distinct-clause-told c =
     let s = c.args.selection.now in
     let config = c.args.config in
-    let names = c.args.names.now in
+    let names = c.args.files.now.names.now in
     let chosen = shown c.args.chosen.now in
     let needed = map (λ (a : Bor FileAlias). a.now) c.args.needed.now in
     let readable = shown c.in_ok-readable.readable in
@@ -67,7 +67,7 @@ pub returns-in-Ok-clause-derived : goal.returns-in-Ok-clause-derived
 returns-in-Ok-clause-derived c = λ skip.
     let s = c.args.selection.now in
     let config = c.args.config in
-    let names = c.args.names.now in
+    let names = c.args.files.now.names.now in
     let chosen = shown c.args.chosen.now in
     let needed = map (λ (a : Bor FileAlias). a.now) c.args.needed.now in
     let readable = shown c.in_ok-readable.readable in
@@ -76,20 +76,20 @@ returns-in-Ok-clause-derived c = λ skip.
     let ds = declarations_view c.in_ok-left.left.declarations in
     let from = shown c.in_ok-left.left.from in
     let rows = c.in_ok-push_rows_of.ensures.0 in
-    let elsewhere = found_by c.args.elsewhere.now in
-    let impls = c.args.impls.now in
+    let elsewhere = found_by c.args.files.now.elsewhere.now in
+    let impls = c.args.files.now.impls.now in
     let components = c.in-Ok.derived.0.components in
     let configured : c.push_rows_of.new.config ≡ with_rows config rows = c.in_ok-push_rows_of.ensures.2 in
     let read = subst (λ (v : List (Bor FileItem)). AreRead names (shown v) (shown c.in_ok-reading.reading.from) (declarations_view c.in_ok-reading.reading.declarations) []) c.as_slice.ensures c.in_ok-reading.ensures.read in
     let faulty = subst (λ (v : Configuration). LeavesFaults s v names readable leaves.0 leaves.1) configured leaves.2 in
     let made = subst (λ (v : Configuration). (made : AreDerived v ds components) × ((by : Alternatives) → Describes made.resolved (collects_all v.collect) (document_by by components))) configured c.in-Ok.ensures.derived in
-    let front = map told_of_file c.args.faults.now ++ (texts.0 ++ leaves.0) in
+    let front = map told_of_file c.args.files.now.faults.now ++ (texts.0 ++ leaves.0) in
     let lines : c.leave_faults.new.lines ≡ front =
     leaves.4
     ∙ ap (λ (v : List Told). v ++ leaves.0) (texts.2 ∙ ap (λ (v : List Told). v ++ texts.0) c.in_ok-lines.ensures)
-    ∙ append_assoc (map told_of_file c.args.faults.now) texts.0 leaves.0 in
+    ∙ append_assoc (map told_of_file c.args.files.now.faults.now) texts.0 leaves.0 in
     let mine = c.in-Ok.ensures.warned front (subst (λ (v : List Told). AreFirst v c.of-warnings.result) lines c.of-warnings.ensures) in
-    let found : DerivesSelected s config names chosen needed elsewhere impls (map told_of_file c.args.faults.now) components mine.0 = record {
+    let found : DerivesSelected s config names chosen needed elsewhere impls (map told_of_file c.args.files.now.faults.now) components mine.0 = record {
       shallow = c.requires.shallow;
       told = texts.0 ++ leaves.0;
       from = from;
@@ -99,8 +99,7 @@ returns-in-Ok-clause-derived c = λ skip.
       distinct = c.in_ok-are_distinct.ensures.distinct;
       derived = made.0;
       describes = made.1;
-      warned = subst (λ (v : Configuration). AreAllWarned s.not_plain v names elsewhere ds from impls components front mine.0) configured
-          (subst (λ (v : List (Bor FileItem)). AreAllWarned s.not_plain c.push_rows_of.new.config names elsewhere ds (shown v) impls components front mine.0) c.as_slice-from.ensures mine.1);
+      warned = subst (λ (v : Configuration). AreAllWarned s.not_plain v names elsewhere ds from impls components front mine.0) configured mine.1;
     } in
     (mine.0, found, mine.2)
 
@@ -108,7 +107,7 @@ pub returns-clause-told : goal.returns-clause-told
 returns-clause-told c =
     let s = c.args.selection.now in
     let config = c.args.config in
-    let names = c.args.names.now in
+    let names = c.args.files.now.names.now in
     let chosen = shown c.args.chosen.now in
     let needed = map (λ (a : Bor FileAlias). a.now) c.args.needed.now in
     let readable = shown c.in_ok-readable.readable in

@@ -30,7 +30,7 @@ returns-then-not-is_empty-clause-told c = λ whole.
 
 pub derive_read-requires : goal.derive_read-requires
 derive_read-requires c = record {
-  many = ap length c.as_slice-from.ensures ∙ sym (length-map c.in_ok-reading.reading.from (λ i. i.now)) ∙ as_many c.in_ok-reading.ensures.read;
+  many = sym (length-map c.in_ok-reading.reading.from (λ i. i.now)) ∙ as_many c.in_ok-reading.ensures.read;
   named = c.in_ok-reading.ensures.named;
 }
 
@@ -38,7 +38,7 @@ pub returns-in_err-are_distinct-clause-told : goal.returns-in_err-are_distinct-c
 returns-in_err-are_distinct-clause-told c =
     let s = c.args.selection.now in
     let config = c.args.config in
-    let names = c.args.names.now in
+    let names = c.args.files.now.names.now in
     let chosen = shown c.args.chosen.now in
     let needed = map (λ (a : Bor FileAlias). a.now) c.args.needed.now in
     let none = none_told c.is_empty.result c.is_empty.ensures c.if-not-is_empty.false in
@@ -55,15 +55,15 @@ pub returns-in-Ok-clause-derived : goal.returns-in-Ok-clause-derived
 returns-in-Ok-clause-derived c = λ all.
     let s = c.args.selection.now in
     let config = c.args.config in
-    let names = c.args.names.now in
+    let names = c.args.files.now.names.now in
     let chosen = shown c.args.chosen.now in
     let needed = map (λ (a : Bor FileAlias). a.now) c.args.needed.now in
     let none = none_told c.is_empty.result c.is_empty.ensures c.if-not-is_empty.false in
     let ds = declarations_view c.in_ok-reading.reading.declarations in
     let from = shown c.in_ok-reading.reading.from in
     let read = subst (AreRead names chosen from ds) none c.in_ok-reading.ensures.read in
-    let elsewhere = found_by c.args.elsewhere.now in
-    let impls = c.args.impls.now in
+    let elsewhere = found_by c.args.files.now.elsewhere.now in
+    let impls = c.args.files.now.impls.now in
     let components = c.in-Ok.derived.0.components in
     let configured : c.push_rows_of.new.config ≡ with_rows config c.in_ok-push_rows_of.ensures.0 = c.in_ok-push_rows_of.ensures.2 in
     let made = subst (λ (v : Configuration). (made : AreDerived v ds components) × ((by : Alternatives) → Describes made.resolved (collects_all v.collect) (document_by by components))) configured c.in-Ok.ensures.derived in
@@ -78,8 +78,7 @@ returns-in-Ok-clause-derived c = λ all.
       distinct = c.in_ok-are_distinct.ensures.distinct;
       derived = made.0;
       describes = made.1;
-      warned = subst (λ (v : Configuration). AreAllWarned s.not_plain v names elsewhere ds from impls components [] mine.0) configured
-          (subst (λ (v : List (Bor FileItem)). AreAllWarned s.not_plain c.push_rows_of.new.config names elsewhere ds (shown v) impls components [] mine.0) c.as_slice-from.ensures mine.1);
+      warned = subst (λ (v : Configuration). AreAllWarned s.not_plain v names elsewhere ds from impls components [] mine.0) configured mine.1;
     } in
     (mine.0, found, mine.2)
 
@@ -87,7 +86,7 @@ pub returns-clause-told : goal.returns-clause-told
 returns-clause-told c = λ all.
     let s = c.args.selection.now in
     let config = c.args.config in
-    let names = c.args.names.now in
+    let names = c.args.files.now.names.now in
     let chosen = shown c.args.chosen.now in
     let needed = map (λ (a : Bor FileAlias). a.now) c.args.needed.now in
     let told = c.in_ok-told-in-Err-Refused.told in
