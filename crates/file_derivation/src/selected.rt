@@ -5,6 +5,8 @@ ghost use Rattle.closing.specs.Described.{Describes};
 ghost use Rattle.compose.specs.Bounds.{collects_all};
 ghost use Rattle.compose.specs.Faults.{AreDerived, AreRefused};
 ghost use Rattle.configuration.specs.Aliases.{AreDeep};
+ghost use Rattle.configuration.specs.Configuration.{with_rows};
+ghost use Rattle.diag.specs.declared.rename_row.RenameRow.{RenameRow as AnyRow};
 ghost use Rattle.diag.specs.Refusal.{Refuses};
 ghost use Rattle.schema_core.specs.Document.{document_by};
 ghost use Rattle.schema_core.specs.declared.alternatives.Alternatives.{Alternatives};
@@ -14,9 +16,11 @@ ghost use Rattle.gathering.specs.Files.{most_bytes};
 ghost use Rattle.selecting.specs.Clashes.{clash_lines};
 ghost use Rattle.selecting.specs.Elsewhere.{found_by};
 ghost use Rattle.telling.specs.declared.told.Told.{Told as AnyTold};
+ghost use Rattle.file_derivation.specs.Faults.{AreFaults};
+ghost use Rattle.file_derivation.specs.Helps.{origin_of};
 ghost use Rattle.file_derivation.specs.LeftOut.{told_of_file};
 ghost use Rattle.file_derivation.specs.Warned.{has_some, told_nothing, AreAllWarned, AreFirst};
-ghost use Rattle.file_derivation.specs.Outcomes.{bytes_of, DerivesSelected, RefusesSelected, AreFaultsOrBound, IfToldIs};
+ghost use Rattle.file_derivation.specs.Outcomes.{bytes_of, AreLeft, DerivesSelected, RefusesSelected, AreFaultsOrBound, IfToldIs};
 
 use crate::derive::{Refusal, alone};
 use crate::elsewhere::with_elsewhere;
@@ -237,6 +241,35 @@ fn derive_whole(
     }
 }
 
+/// What is left of the declarations that are selected, where those that cannot be read are left out, and of the others by
+/// rounds those at fault, each with what needs it. The rows of the names in all that can be read are put behind those of the
+/// configuration. Of what is left out is told why.
+fn left_of<'i>(
+    alloc: Global,
+    names: &[Text],
+    chosen: &[&'i FileItem],
+    selection: &Selection,
+    config: &mut Config,
+    lines: &mut List<Told>,
+) -> Result<Reading<'i>, AllocError>
+    requires few { bytes_of (map (λ i. i.now) chosen.now) ≤ most_bytes }
+    ensures left { IfOk result (λ r. selection.now.skip_refused ≡ true
+        → (told : AnyList AnyTold) × (rows : AnyList AnyRow) × AreLeft selection.now config.old
+        names.now (map (λ i. i.now) chosen.now) told (map (λ i. i.now) r.from)
+        (declarations_view r.declarations) rows
+        × (config.new ≡ with_rows config.old rows) × (lines.new ≡ lines.old ++ told)) }
+    ensures faultless { IfOk result (λ r. AreFaults config.new (declarations_view r.declarations)
+        (origin_of names.now selection.now (map (λ i. i.now) r.from))
+        (length (declarations_view r.declarations)) []) }
+    ensures many { IfOk result (λ r. length r.from ≡ length (declarations_view r.declarations)) }
+    ensures named { IfOk result (λ r. AreNamed (declarations_view r.declarations)) }
+{
+    let readable = leave_texts(alloc, names, chosen, lines)?;
+    let reading = read_whole(alloc, names, readable.as_slice())?;
+    push_rows_of(alloc, config, &reading.declarations)?;
+    Ok(leave_faults(alloc, names, selection, config, readable, reading, lines)?)
+}
+
 /// What is derived of the declarations that are selected and left, and what they are warned of, where what is refused is left
 /// out: of files, of whose faults this is told, of declarations that cannot be read, and of those at fault.
 fn derive_left(
@@ -258,15 +291,16 @@ fn derive_left(
         → RefusesSelected selection.now config files.now.names.now
         (map (λ i. i.now) chosen.now) (map (λ a. a.now) needed.now) told)) }
 {
-    let names = files.names;
     let mut lines = told_of_files(alloc, files.faults)?;
-    let readable = leave_texts(alloc, names, chosen, &mut lines)?;
-    let reading = read_whole(alloc, names, readable.as_slice())?;
-    push_rows_of(alloc, &mut config, &reading.declarations)?;
-    let left = leave_faults(
-        alloc, names, selection, &config, readable, reading, &mut lines,
+    let left = left_of(
+        alloc,
+        files.names,
+        chosen,
+        selection,
+        &mut config,
+        &mut lines,
     )?;
-    are_distinct(alloc, names, &left.declarations, needed)?;
+    are_distinct(alloc, files.names, &left.declarations, needed)?;
     let warnings = Warnings::of(lines);
     match derive_read(alloc, files, left, selection.not_plain, &config, warnings) {
         Ok(derived) => Ok(derived),
