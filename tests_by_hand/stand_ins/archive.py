@@ -49,7 +49,7 @@ def names_root(crate, text):
     """Tells whether a text names a crate as the root of a path, and no module of this name that it has in scope."""
     scope = rf"\buse\s[^;]*(?:::|[{{,])\s*{crate}\s*(?:[;,}}]|::\s*\{{\s*self\b)|\bmod\s+{crate}\s*[;{{]"
     # (of a `use` only the root counts: in `use std::{fs, time::Duration};` that is `std`)
-    roots = re.sub(r"\buse\s+(?:::\s*)?(\w+)\s*::[^;]*;", r"use \1::;", text)
+    roots = re.sub(r"\buse\s+(?:::\s*)?(\w+)\b[^;]*;", r"use \1::;", text)
     return re.search(rf"(?<!:)\b{crate}\s*::", roots) and not re.search(scope, text)
 
 
