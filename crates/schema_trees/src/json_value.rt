@@ -2,10 +2,11 @@ ghost use Rattle.std.specs.Prelude.{◌≡◌, true, false, IfOk, MatchResult, s
 ghost use Rattle.serde_json.specs.View.{view, number_view, items_view, members_view};
 ghost use Rattle.serde_json.specs.Find.{is_float};
 ghost use Rattle.serde_json.specs.Written.{has_float, items_have_float, members_have_float};
-ghost use Rattle.acceptance.specs.Json.{null as json_null, text as json_text};
+ghost use Rattle.acceptance.specs.Json.{null as json_null, number as json_number, text as json_text};
 ghost use Rattle.acceptance.specs.Data.{data_of};
 ghost use Rattle.schema_trees.specs.Held.{IsHeld, HoldsNumber, HoldsValue, HoldsItems, HoldsMembers};
 
+use crate::bound::Bound;
 use serde_json::{Map, Number, Value};
 use std::alloc::{AllocError, Global};
 use std::marker::Model;
@@ -57,6 +58,15 @@ impl Json {
     {
         Json {
             value: Value::String(text),
+        }
+    }
+
+    /// The number.
+    pub fn number(number: Bound) -> Json
+        ensures { result ≡ json_number number }
+    {
+        Json {
+            value: Value::Number(number.number()),
         }
     }
 
