@@ -3,6 +3,7 @@ pub mod Fields
 pub mod Forms
 pub mod Found
 pub mod Held
+pub mod OneOf
 pub mod OneText
 pub mod Puts
 pub mod ReadBack

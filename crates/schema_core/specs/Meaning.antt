@@ -1,17 +1,19 @@
 -- What a schema accepts, told on the tree, and the laws that the JSON of the tree says the same.
 use Rattle.std.specs.Prelude.{◌≡◌, ℕ, ℤ, List, [], ◌∷◌, Bool, true, false, ◌&&◌, ◌||◌, Option, Some, None, option_map, codes, int_le, pos, length, drop, IsTrue}
 use Rattle.std.specs.List.{list_all, list_any}
-use Rattle.acceptance.specs.Json.{Json, names, look, same, distinct, on_map, on_list, on_number, if_there}
+use Rattle.acceptance.specs.Json.{Json, list, names, look, same, distinct, on_map, on_list, on_number, if_there, member_of}
 use Rattle.texts.specs.Names.{is_in, IsDistinct}
 use Rattle.acceptance.specs.Acceptance.{kinds_of, others_pass, names_pass, accepts_with, component_schema}
 use Rattle.acceptance.specs.References.{EachReference}
 use Rattle.schema_trees.specs.declared.bounds.Bounds.{Bounds}
+use Rattle.schema_trees.specs.declared.annotations.AnnotationKeywords.{AnnotationKeywords as Annotations}
 use Rattle.schema_trees.specs.declared.tree.TypeWord.{TypeWord}
 use Rattle.schema_trees.specs.declared.tree.TypeWord.TheVariants.{Any, One, Nullable}
 use Rattle.schema_trees.specs.declared.tree.RefLeaf.{RefLeaf}
 use Rattle.schema_trees.specs.Schema.{SchemaOf, leaf, object, array, one_of, all_of, SchemasOf, no_schemas, schema, schema_count, PropertiesOf, no_properties, property, property_names, PartOf, no_part, truth, part, EachLeaf}
 use Rattle.schema_core.specs.declared.alternatives.Alternatives.{Alternatives}
-use Rattle.schema_core.specs.Form.{word_text, array_word, form_by}
+use Rattle.schema_core.specs.declared.alternatives.Alternatives.TheVariants.{OneOf, AnyOf}
+use Rattle.schema_core.specs.Form.{word_text, array_word, alternatives_word, form_by, schema_forms}
 use Rattle.schema_core.specs.Document.{Entry, document_by}
 use Rattle.schema_core.specs.Entries.{entry_names, find}
 
@@ -124,6 +126,16 @@ FormsAccept = (by : Alternatives) (component : List ℕ → Json → Bool) (s : 
 -- The references of the JSON of a schema are its leaves: what passes at each leaf's name passes at each reference.
 abbrev pub FormsRefer : Type 0
 FormsRefer = (by : Alternatives) (passes : List ℕ → Bool) (s : SchemaOf RefLeaf) → EachLeaf (λ r. IsTrue (passes r.name)) s → EachReference (λ name. IsTrue (passes name)) (form_by by s)
+
+-- what stands under one keyword of alternatives, and not under the other
+abbrev pub under : Alternatives → Alternatives → Json → Option Json
+under OneOf OneOf x = Some x
+under AnyOf AnyOf x = Some x
+under _ _ x = None
+
+-- The law: a schema that is one of several has the forms of these under its keyword of alternatives alone.
+abbrev pub OneOfHolds : Type 0
+OneOfHolds = (by word : Alternatives) (annotations : Annotations) (ss : SchemasOf RefLeaf) → member_of (alternatives_word word) (form_by by (one_of annotations ss)) ≡ under by word (list (schema_forms by ss))
 
 -- The document has under each name the form of the entry of that name.
 abbrev pub DocumentsHold : Type 0

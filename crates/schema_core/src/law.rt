@@ -1,7 +1,7 @@
 //! What rests on the definitions alone: laws that callers rely on, as contracts of functions that do nothing. They hold of
 //! documents with alternatives under either keyword.
 
-ghost use Rattle.schema_core.specs.Meaning.{FormsAccept, FormsRefer, DocumentsHold};
+ghost use Rattle.schema_core.specs.Meaning.{FormsAccept, FormsRefer, OneOfHolds, DocumentsHold};
 ghost use Rattle.schema_core.specs.OneText.{OneText, OneDocument, TextsReadBack};
 
 /// The JSON of a schema accepts a value exactly if the tree does.
@@ -12,6 +12,11 @@ pub fn forms_accept()
 /// The references of the JSON of a schema are the leaves of the tree.
 pub fn forms_refer()
     ensures { FormsRefer }
+{}
+
+/// The JSON of a schema that is one of several has the forms of these under its keyword of alternatives, and none under the other.
+pub fn one_of_holds()
+    ensures { OneOfHolds }
 {}
 
 /// A component is found in the document under its name, and no other is.

@@ -15,7 +15,8 @@ pub use alternatives::Alternatives;
 pub use components::Components;
 pub use components_iter::ComponentsIter;
 pub use law::{
-    documents_are_one, documents_hold, forms_accept, forms_refer, texts_are_one, texts_read_back,
+    documents_are_one, documents_hold, forms_accept, forms_refer, one_of_holds, texts_are_one,
+    texts_read_back,
 };
 pub use schema_trees::{
     Additional, AllOfSchema, AnnotationKeywords, Annotations, Array, ArrayItems, Bound, Bounds,
