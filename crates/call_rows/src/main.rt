@@ -6,6 +6,7 @@ mod aliases;
 mod answers;
 mod arguments;
 mod composed;
+mod flattened;
 mod parts;
 mod reported;
 mod single_words;
@@ -44,6 +45,7 @@ fn told(alloc: Global, row: &Row) -> anyhow::Result<String> {
         "numbers" => arguments::numbers(alloc),
         "instances" => composed::of_source(alloc, given),
         "files" => whole_files::document(alloc, given),
+        "flattened" => flattened::declaration(alloc, given),
         "terms" | "parts" | "place" => term_rows::of_source(alloc, row.call.as_str(), given),
         other => bail!("no call {other}"),
     }

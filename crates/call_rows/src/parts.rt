@@ -1,6 +1,6 @@
 //! The schemas of what stands in a body, as a document.
 
-use component::TermLeaf;
+use component::{Term, TermLeaf};
 use declaration_schemas::{
     InternallyTaggedUnnamedSchema, MixedEnumContent, ObjectSchema, OneOf, PlainSchema, Property,
 };
@@ -48,6 +48,19 @@ impl Fill for References {
     }
 }
 
+/// Adds the schema of the term.
+pub(crate) fn push_term(
+    alloc: Global,
+    components: &mut Components,
+    name: &str,
+    term: &Term,
+) -> Result<(), AllocError> {
+    let name = Text::new(alloc, name)?;
+    let schema = filled(alloc, term, &References)?;
+    components.insert(name, schema)?;
+    Ok(())
+}
+
 /// Adds the schema of what has a term.
 fn push<T: ToTerm>(
     alloc: Global,
@@ -57,10 +70,8 @@ fn push<T: ToTerm>(
 ) -> Result<(), DeriveError>
     requires { T.is_ready made.now }
 {
-    let name = Text::new(alloc, name)?;
     let term = made.to_term(alloc)?;
-    let schema = filled(alloc, &term, &References)?;
-    components.insert(name, schema)?;
+    push_term(alloc, components, name, &term)?;
     Ok(())
 }
 
@@ -128,7 +139,7 @@ fn push_body(alloc: Global, components: &mut Components, body: &Body) -> Result<
         Body::Fields(Form::Named { members, .. }) => {
             push_members(alloc, components, members.as_slice())
         }
-        Body::Fields(_) => Ok(()),
+        Body::Fields(_) | Body::Numbers { .. } => Ok(()),
         Body::Units { names, .. } => push_names(alloc, components, names.as_slice()),
         Body::Variants { tagging, variants } => {
             for variant in variants.as_slice() {

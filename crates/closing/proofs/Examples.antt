@@ -4,10 +4,10 @@ use Rattle.schema_trees.specs.declared.tree.TypeWord.TheVariants.{Any}
 use Rattle.schema_trees.specs.declared.tree.RefLeaf.{RefLeaf}
 use Rattle.schema_trees.specs.Annotations.{no_annotations}
 use Rattle.schema_trees.specs.Objects.{only_word}
-use Rattle.schema_trees.specs.Schema.{SchemaOf, leaf, no_properties, property}
+use Rattle.schema_trees.specs.Schema.{SchemaOf, leaf, no_properties, property, no_part}
 use Rattle.open_types.specs.Open.{Open, any_value, tuple, param, named, no_types, more_types}
 use Rattle.component.specs.Places.{inside, place}
-use Rattle.shapes.specs.Declarations.{named_fields, unnamed_fields, fields, FormOf, DeclarationOf, unannotated}
+use Rattle.shapes.specs.Declarations.{alone, named_fields, unnamed_fields, fields, FormOf, DeclarationOf, unannotated}
 use Rattle.terms.specs.Terms.{object_of}
 use Rattle.shapes.specs.InstanceNames.{instance_name}
 use Rattle.closing.specs.Closed as closed
@@ -19,10 +19,10 @@ abbrev pub declares : List ℕ → ℕ → FormOf → DeclarationOf
 declares name parameters form = record { name = name; parameters = parameters; annotations = unannotated; body = fields form }
 
 abbrev pub with_v : Open → FormOf
-with_v t = named_fields false (record { name = codes "v"; required = true; annotations = unannotated; of = t } ∷ [])
+with_v t = named_fields (alone false) (record { name = codes "v"; required = true; annotations = unannotated; of = t } ∷ [])
 
 abbrev an_object : SchemaOf RefLeaf → SchemaOf RefLeaf
-an_object s = object_of no_annotations false (codes "v" ∷ []) (property (codes "v") s no_properties)
+an_object s = object_of no_annotations no_part (codes "v" ∷ []) (property (codes "v") s no_properties)
 
 abbrev a_reference : List ℕ → SchemaOf RefLeaf
 a_reference name = leaf (record { name = name; annotations = no_annotations })

@@ -16,10 +16,12 @@ use Rattle.shapes.specs.Declarations.{DeclarationOf, AreApartBodies}
 use Rattle.shapes.specs.Shape.{type_shape}
 use Rattle.shapes.specs.Plain.{IsPlainType}
 use Rattle.terms.specs.InstanceTerms.{instance_term}
+use Rattle.shapes.specs.Instances.{body_at}
 use Rattle.shapes.specs.InstanceNames.{instance_name}
 use Rattle.shapes.specs.InstanceShape.{shape, HasShape, IsPlain, IsRoot, IsReachable}
 use Rattle.inlining.specs.Inlining.{IsAtMost}
 use Rattle.closing.specs.Closed.{most_inlined}
+use Rattle.closing.specs.Excluding.{alternatives, AtMostOneAccepts, TellsOneOf}
 use Rattle.instances.specs.Lists.{IsOneOf, AreInstances}
 use Rattle.instances.specs.Names.{NamesDiffer}
 use Rattle.closing.specs.Links.{inline_in, referred_in, targets_at, references_at, IsComponent, inlining_of}
@@ -47,13 +49,15 @@ abbrev pub HasComponent : Json → List ℕ → Type 0
 HasComponent doc name = IsTrue (is_some (component_schema doc name))
 
 -- Each root and each reference has its component, and where all are collected each reachable instance; each name is that of a
--- reachable instance, and the component of each plain reachable instance accepts exactly what has its shape.
+-- reachable instance, and the component of each plain reachable instance accepts exactly what has its shape. Under either keyword
+-- at most one alternative of an enum's component, plain or not, accepts a value that tells at most one of its variants.
 pub record Describes (ss : List DeclarationOf) (all : Bool) (doc : Json) : Type 0 where
   pub roots : (d : ℕ) → IsRoot ss d → HasComponent doc (instance_name ss (named d no_types))
   pub collected : IsTrue all → (t : Open) → IsReachable ss t → HasComponent doc (instance_name ss t)
   pub only : (name : List ℕ) → HasComponent doc name → (t : Open) × IsReachable ss t × (name ≡ instance_name ss t)
   pub references : (name : List ℕ) (s : Json) → component_schema doc name ≡ Some s → EachReference (HasComponent doc) s
   pub accepts : (t : Open) → IsReachable ss t → IsPlain ss t → (s v : Json) → component_schema doc (instance_name ss t) ≡ Some s → Accepts doc s v ↔ HasShape ss t v
+  pub excludes : (t : Open) → IsReachable ss t → (s v : Json) → component_schema doc (instance_name ss t) ≡ Some s → TellsOneOf (body_at ss t) v → (by : Alternatives) → AtMostOneAccepts doc (alternatives by s) v
 
 -- The law: a document of components describes the declarations, under either keyword of alternatives, where names are apart and no inline path is longer than it may be.
 abbrev pub ComponentsDescribe : Type 0

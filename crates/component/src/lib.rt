@@ -10,5 +10,5 @@ mod term;
 pub use law::references_are_leaves;
 pub use place::{Place, place_term};
 pub use references::{SchemaReference, references_of};
-pub use schemas::{annotated, annotated_null, bounds_of, null_default};
+pub use schemas::{annotated, annotated_null, bounds_of, null_default, one_of_null};
 pub use term::{Term, TermLeaf, copy_term};

@@ -183,7 +183,11 @@ fn both(alloc: Global, first: Term, second: Term) -> Result<List<Term>, AllocErr
 }
 
 /// One of the schema and null.
-fn one_of_null(alloc: Global, schema: Term, annotations: Annotations) -> Result<Term, AllocError>
+pub fn one_of_null(
+    alloc: Global,
+    schema: Term,
+    annotations: Annotations,
+) -> Result<Term, AllocError>
     ensures { IfOk result (λ s. term_view s ≡ one_of_null annotations (term_view schema)) }
 {
     let null = only_word(

@@ -1,5 +1,5 @@
 -- What is not plain is of declarations that are there.
-use Rattle.std.proofs.Common.{◌<◌, List, [], ◌∷◌, length, refl, inl, inr, sym, subst}
+use Rattle.std.proofs.Common.{◌<◌, List, ◌∷◌, length, refl, inl, inr, sym, subst}
 use Rattle.open_types.specs.Open.{Open}
 use Rattle.shapes.specs.Declarations.{DeclarationOf, AreFitting}
 use Rattle.shapes.specs.InstanceShape.{IsReachable}

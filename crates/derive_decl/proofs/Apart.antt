@@ -10,7 +10,7 @@ use Rattle.serde_rules.specs.Container.{rename_rule}
 use Rattle.attributes.specs.declared.serde_item.SerdeItem.{SerdeItem}
 use Rattle.syntax.specs.Items.{FieldItem, named, unnamed, unit, VariantItem, struct_body, enum_body, DeclaredItem}
 use Rattle.resolving.specs.Resolved.{resolved_type}
-use Rattle.shapes.specs.Declarations.{named_fields, unnamed_fields, no_fields, VariantOf, BodyOf, fields, units, variants, DeclarationOf, member_names, form_names, variant_names, telling, IsApartVariant, AreApartVariants, IsApartBody, AreApartBodies}
+use Rattle.shapes.specs.Declarations.{alone, named_fields, unnamed_fields, no_fields, VariantOf, BodyOf, fields, units, variants, DeclarationOf, member_names, form_names, variant_names, telling, IsApartVariant, AreApartVariants, IsApartBody, AreApartBodies}
 use Rattle.shapes.specs.declared.tagging.Tagging.{Tagging}
 use Rattle.derive_decl.specs.Attributed.{attributes_with, are_derivable}
 use Rattle.serde_names.specs.Kept.{kept, kept_variants}
@@ -28,7 +28,7 @@ use Rattle.derive_decl.proofs.Values.{joined, chosen, passed, distinct_from}
 pub forms_apart : FormsAreApart
 forms_apart around items (named fs) form is =
     let rules = field_rules items in
-    let found = mapped (named_fields rules.denies) (passing members_are_distinct (all_of (member_of around rules) (kept fs))) form (chosen (are_allowed items) (named_form around rules fs) form is).1 in
+    let found = mapped (named_fields (alone rules.denies)) (passing members_are_distinct (all_of (member_of around rules) (kept fs))) form (chosen (are_allowed items) (named_form around rules fs) form is).1 in
     subst (λ f. IsDistinct (form_names f)) found.2 (distinct_from (member_names found.0) (passed members_are_distinct (all_of (member_of around rules) (kept fs)) found.0 found.1).1)
 forms_apart around items (unnamed []) form is = absurd (none-some form is)
 forms_apart around items (unnamed (f ∷ fs)) form is =

@@ -25,7 +25,7 @@ use Rattle.resolving.specs.Resolved.{resolved_type, ResolutionIsExact}
 use Rattle.scopes.specs.Names.{texts, are_distinct, IsGivenTwice}
 use Rattle.scopes.specs.Parameters.{parameters_of}
 use Rattle.scopes.specs.declared.parameters.ParameterKind.TheVariants.{TypesAndConstants}
-use Rattle.shapes.specs.Declarations.{MemberOf, FormOf, named_fields, unnamed_fields, VariantOf, BodyOf, fields, units, variants, DeclarationOf, member_names, variant_names, telling}
+use Rattle.shapes.specs.Declarations.{MemberOf, FormOf, alone, named_fields, unnamed_fields, VariantOf, BodyOf, fields, units, variants, DeclarationOf, member_names, variant_names, telling}
 use Rattle.shapes.specs.declared.tagging.Tagging.{Tagging}
 use Rattle.shapes.specs.declared.tagging.Tagging.TheVariants.{External, Internal, Adjacent, Untagged}
 use Rattle.derive_decl.specs.Attributed.{attributes_with, are_derivable}
@@ -103,7 +103,7 @@ module _ (exact : ResolutionIsExact) (once : NamesOnce) (allowed : RulesAllowed)
 
   members_clear : (around : Around) (rules : FieldRules) (fs : List FieldItem) (form : FormOf) → named_form around rules fs ≡ Some form → RefusesNone (AreFaultyMembers around rules fs)
   members_clear around rules fs form is =
-      let found = mapped (named_fields rules.denies) (passing members_are_distinct (all_of (member_of around rules) (kept fs))) form is in
+      let found = mapped (named_fields (alone rules.denies)) (passing members_are_distinct (all_of (member_of around rules) (kept fs))) form is in
       let all = passed members_are_distinct (all_of (member_of around rules) (kept fs)) found.0 found.1 in
       λ e fault. elim fault [
         | inl somewhere ↦ all_clear (member_of around rules) (IsFaultyMember around rules) (member_clear around rules) (kept fs) found.0 all.0 e somewhere

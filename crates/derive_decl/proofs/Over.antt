@@ -13,7 +13,7 @@ use Rattle.open_types.specs.Open.{Open}
 use Rattle.open_types.specs.Within.{IsOver, AreAllOver}
 use Rattle.resolving.specs.Resolved.{resolved_type, ResolvedAreOver}
 use Rattle.scopes.specs.Names.{declared_names, texts, place_among}
-use Rattle.shapes.specs.Declarations.{MemberOf, FormOf, named_fields, unnamed_fields, no_fields, VariantOf, BodyOf, fields, units, variants, DeclarationOf, member_types, form_types, variant_types, body_types, declaration_names, declaration_at, parameters_in, AreFitting}
+use Rattle.shapes.specs.Declarations.{MemberOf, FormOf, alone, named_fields, unnamed_fields, no_fields, VariantOf, BodyOf, fields, units, variants, DeclarationOf, member_types, form_types, variant_types, body_types, declaration_names, declaration_at, parameters_in, AreFitting}
 use Rattle.shapes.specs.declared.tagging.Tagging.{Tagging}
 use Rattle.derive_decl.specs.Attributed.{attributes_with, are_derivable}
 use Rattle.serde_names.specs.Kept.{kept, kept_variants}
@@ -91,7 +91,7 @@ module _ (over : ResolvedAreOver) where
     form_over : (items : List SerdeItem) (fs : FieldItems) (form : FormOf) → form_of around items fs ≡ Some form → AreTypesOver (form_types form)
     form_over items (named fs) form e =
         let rules = field_rules items in
-        let m = mapped (named_fields rules.denies) (passing members_are_distinct (all_of (member_of around rules) (kept fs))) form (chosen (are_allowed items) (named_form around rules fs) form e).1 in
+        let m = mapped (named_fields (alone rules.denies)) (passing members_are_distinct (all_of (member_of around rules) (kept fs))) form (chosen (are_allowed items) (named_form around rules fs) form e).1 in
         subst (λ f. AreTypesOver (form_types f)) m.2 (members_over rules (kept fs) m.0 (passed members_are_distinct (all_of (member_of around rules) (kept fs)) m.0 m.1).0)
     form_over items (unnamed []) form e = absurd (none-some form e)
     form_over items (unnamed (f ∷ fs)) form e =

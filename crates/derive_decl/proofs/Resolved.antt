@@ -30,7 +30,7 @@ use Rattle.resolving.specs.Resolved.{resolved_type, Fault, unknown_type, wrong_a
 use Rattle.scopes.specs.Names.{texts, are_distinct, duplicate_message, Repeats, IsGivenTwice}
 use Rattle.scopes.specs.Parameters.{parameters_of}
 use Rattle.scopes.specs.declared.parameters.ParameterKind.TheVariants.{TypesAndConstants}
-use Rattle.shapes.specs.Declarations.{FormOf, named_fields, unnamed_fields, no_fields, BodyOf, fields, units, variants, member_names, variant_names, telling}
+use Rattle.shapes.specs.Declarations.{FormOf, alone, named_fields, unnamed_fields, no_fields, BodyOf, fields, units, variants, member_names, variant_names, telling}
 use Rattle.shapes.specs.declared.tagging.Tagging.{Tagging}
 use Rattle.shapes.specs.declared.tagging.Tagging.TheVariants.{External, Internal, Adjacent, Untagged}
 use Rattle.derive_decl.specs.declared.feature.Other.{Other}
@@ -144,7 +144,7 @@ module _ (exact : ResolutionIsExact) (decided : NamesDecided) (rules_decided : R
   named_given around rules fs have none =
       let all = all_given (member_of around rules) (IsFaultyMember around rules) HasName (member_given around rules) (kept fs) (all_kept HasName is_kept fs have) (λ e h. none e (inl h)) in
       let apart = differ (written_idents around.rows rules.rule (kept fs)) (member_names all.0) (member_texts around rules (kept fs) all.0 all.1) (λ e twice. none e (inr twice)) in
-      (named_fields rules.denies all.0, ap (option_map (named_fields rules.denies)) (passes members_are_distinct (all_of (member_of around rules) (kept fs)) all.0 all.1 apart))
+      (named_fields (alone rules.denies) all.0, ap (option_map (named_fields (alone rules.denies))) (passes members_are_distinct (all_of (member_of around rules) (kept fs)) all.0 all.1 apart))
 
   pub form_given : (around : Around) (items : List SerdeItem) (x : Ident) (fs : FieldItems) → HaveNames fs → RefusesNone (AreFaultyFields around items x fs) → Given (form_of around items fs)
   form_given around items x (named fs) have none =

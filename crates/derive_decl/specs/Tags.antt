@@ -11,7 +11,7 @@ use Rattle.open_types.specs.Open.{Open}
 use Rattle.open_types.specs.Open as types
 use Rattle.shapes.specs.declared.tagging.Tagging.{Tagging}
 use Rattle.shapes.specs.declared.tagging.Tagging.TheVariants.{External, Internal, Adjacent, Untagged}
-use Rattle.shapes.specs.Declarations.{FormOf, named_fields, unnamed_fields, member_names}
+use Rattle.shapes.specs.Declarations.{FormOf, named_fields, unnamed_fields, member_names, names_beside}
 
 -- a tuple, or the unit
 abbrev pub is_tuple : Open → Bool
@@ -27,8 +27,8 @@ can_be_tagged _ _ = true
 
 -- the tag has the name of a member beside it, or of the content
 abbrev pub tag_is_taken : Tagging → FormOf → Bool
-tag_is_taken (Internal tag) (named_fields denies ms) = is_in tag (member_names ms)
-tag_is_taken (Adjacent tag content) (named_fields denies ms) = bytes_eq tag content
+tag_is_taken (Internal tag) (named_fields b ms) = is_in tag (names_beside b.flattened (member_names ms))
+tag_is_taken (Adjacent tag content) (named_fields b ms) = bytes_eq tag content
 tag_is_taken (Adjacent tag content) (unnamed_fields ts) = bytes_eq tag content
 tag_is_taken _ _ = false
 

@@ -89,6 +89,7 @@ pub fn named_form(alloc: Global, root: &Root<'_>, fields: &[Field]) -> Result<Fo
     let members = distinct_members(alloc, root.container, &rules, fields)?;
     Ok(Form::Named {
         denies_others: rules.deny_unknown_fields,
+        beside: None,
         members,
     })
 }

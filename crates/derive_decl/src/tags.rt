@@ -12,7 +12,7 @@ ghost use Rattle.shapes.specs.Views.{member_view, form_view};
 use diag::{DeriveError, Kind};
 use open_types::OpenType;
 use scopes::duplicate_name;
-use shapes::{Form, Member, Tagging};
+use shapes::{Form, Member, Tagging, flattened_of};
 use std::alloc::Global;
 use syntax::Variant;
 use texts::{Span, Text};
@@ -61,14 +61,20 @@ fn is_member(name: &Text, members: &[Member]) -> bool
     false
 }
 
-/// Whether the tag has the name of what stands beside it: of a member, or of the content.
+/// Whether the tag has the name of what stands beside it: of a member, or of the content. Beside what is flattened it stands
+/// in an object of its own.
 fn tag_is_taken(tagging: &Tagging, form: &Form) -> bool
     ensures { result ≡ tag_is_taken tagging.now (form_view form.now) }
 {
     match (tagging, form) {
-        (Tagging::Internal { tag }, Form::Named { members, .. }) => {
-            is_member(tag, members.as_slice())
-        }
+        (
+            Tagging::Internal { tag },
+            Form::Named {
+                beside,
+                members,
+                ..
+            },
+        ) => flattened_of(beside).is_empty() && is_member(tag, members.as_slice()),
         (Tagging::Adjacent { tag, content }, Form::Named { .. }) => tag == content,
         (Tagging::Adjacent { tag, content }, Form::Unnamed(_)) => tag == content,
         _ => false,

@@ -3,7 +3,7 @@ use Rattle.std.specs.Prelude.{◌≡◌, ℕ, List, [], ◌∷◌, ◌++◌, sli
 use Rattle.configuration.specs.Configuration.{Configuration}
 use Rattle.syntax.specs.Items.{DeclaredItem}
 use Rattle.plainness.specs.declared.unplain.Obstacle.{Obstacle}
-use Rattle.plainness.specs.declared.unplain.Obstacle.TheVariants.{Float, MapKey, TaggedNewtype, Unit, NoVariant}
+use Rattle.plainness.specs.declared.unplain.Obstacle.TheVariants.{Float, MapKey, TaggedNewtype, Flattened, Unit, NoVariant}
 use Rattle.plainness.specs.declared.unplain.Reason.{Reason}
 use Rattle.plainness.specs.declared.unplain.Reason.TheVariants.{Body, Reaches}
 use Rattle.plainness.specs.declared.unplain.Unplain.{Unplain}
@@ -16,6 +16,7 @@ abbrev pub obstacle_text : Obstacle → List ℕ
 obstacle_text Float = codes "f32 or f64 stands in the type of a field"
 obstacle_text MapKey = codes "a map's key is not String, str, char or an externally tagged enum of unit variants"
 obstacle_text TaggedNewtype = codes "beside `tag`, a newtype variant holds no struct with named fields and without deny_unknown_fields"
+obstacle_text Flattened = codes "it flattens a map beside something else, or what is no struct with named fields and without deny_unknown_fields"
 obstacle_text Unit = codes "it is a unit struct, or () stands in the type of a field"
 obstacle_text NoVariant = codes "it is untagged and has no variant that is not skipped"
 

@@ -33,6 +33,9 @@ fn obstacle_text(obstacle: Obstacle) -> &'static str
         Obstacle::TaggedNewtype => {
             "beside `tag`, a newtype variant holds no struct with named fields and without deny_unknown_fields"
         }
+        Obstacle::Flattened => {
+            "it flattens a map beside something else, or what is no struct with named fields and without deny_unknown_fields"
+        }
         Obstacle::Unit => "it is a unit struct, or () stands in the type of a field",
         Obstacle::NoVariant => "it is untagged and has no variant that is not skipped",
     }

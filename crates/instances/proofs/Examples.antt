@@ -2,7 +2,7 @@
 use Rattle.std.proofs.Common.{ℕ, zero, suc, ◌<◌, List, [], ◌∷◌, Some, None, true, false, codes, ◌≡◌, refl, sym, subst, inl, inr, arith}
 use Rattle.open_types.specs.Open.{Open, Opens, any_value, free_object, param, named, no_types, more_types}
 use Rattle.open_types.specs.Instances.{StandsInOne}
-use Rattle.shapes.specs.Declarations.{named_fields, fields, DeclarationOf, unannotated, AreFitting}
+use Rattle.shapes.specs.Declarations.{alone, named_fields, fields, DeclarationOf, unannotated, AreFitting}
 use Rattle.shapes.specs.Instances.{places_at}
 use Rattle.shapes.specs.InstanceShape.{IsRoot, IsReachable, root, stands}
 use Rattle.instances.specs.Lists.{IsOneOf, number_in, AreDifferent, AreInstances}
@@ -14,7 +14,7 @@ a_struct name parameters t = record {
   name = name;
   parameters = parameters;
   annotations = unannotated;
-  body = fields (named_fields false (record { name = codes "v"; required = true; annotations = unannotated; of = t } ∷ []));
+  body = fields (named_fields (alone false) (record { name = codes "v"; required = true; annotations = unannotated; of = t } ∷ []));
 }
 
 abbrev one : Open → Opens

@@ -1,5 +1,5 @@
 -- Walks over a table that grows at its end, and over instances.
-use Rattle.std.proofs.Common.{ℕ, zero, suc, ◌+◌, ◌<◌, ◌≤◌, ◌==◌, List, [], ◌∷◌, ◌++◌, length, map, get_or, take, Bool, true, false, cond, ◌≡◌, refl, ap, sym, subst, ◌∙◌, ◌⊎◌, inl, inr, arith, length-append}
+use Rattle.std.proofs.Common.{ℕ, zero, suc, ◌+◌, ◌<◌, ◌≤◌, ◌==◌, List, [], ◌∷◌, ◌++◌, length, map, get_or, take, Bool, true, false, cond, Option, Some, None, option_map, ◌≡◌, refl, ap, sym, subst, ◌∙◌, ◌⊎◌, inl, inr, arith, length-append}
 use Rattle.std.proofs.lemmas.Bool.{false≢true, eqb-true, eq-eqb, cases_Bool}
 use Rattle.std.proofs.lemmas.List.{length-map, map-append, take_more, map_push}
 use Rattle.open_types.specs.Open.{Open, Opens, leaf, any_value, free_object, unit, tuple, items, set, map_of, option, through, param, named, no_types, more_types, IsOverFirst, AreOverFirst, substituted}
@@ -7,8 +7,8 @@ use Rattle.open_types.specs.Instances.{StandsIn, StandsInOne, declared_place, ar
 use Rattle.open_types.specs.Within.{IsOver, AreOver, AreAllOver}
 use Rattle.type_table.specs.Types.{type_at, types_at, AllBelow, IsFront}
 use Rattle.type_table.proofs.Laws.{type-stays, type_front, below-more, below_front, front_itself, front_twice}
-use Rattle.shapes.specs.Declarations.{MemberOf, FormOf, named_fields, unnamed_fields, no_fields, VariantOf, BodyOf, fields, units, variants, DeclarationOf, declaration_at, parameters_in, member_types, form_types, variant_types, body_types}
-use Rattle.shapes.specs.Instances.{member_over, form_over, variant_over, body_over, places_at}
+use Rattle.shapes.specs.Declarations.{MemberOf, FlattenedOf, FlattenedMapOf, FormOf, named_fields, unnamed_fields, no_fields, VariantOf, BodyOf, fields, units, numbers, variants, DeclarationOf, declaration_at, parameters_in, member_types, flattened_types, map_types, form_types, variant_types, body_types}
+use Rattle.shapes.specs.Instances.{member_over, flattened_over, flattened_map_over, form_over, variant_over, body_over, places_at}
 use Rattle.shapes.specs.InstanceShape.{IsReachable, IsRoot, root}
 use Rattle.shapes.specs.Declarations.{AreFitting}
 use Rattle.instances.specs.Fitting.{IsFit}
@@ -85,8 +85,19 @@ module _ (args : Opens) where
   members-put [] = refl
   members-put (m ∷ ms) = ap (λ ts. put m.of ∷ ts) (members-put ms)
 
+  flattened-put : (fs : List FlattenedOf) → flattened_types (map (flattened_over args) fs) ≡ map put (flattened_types fs)
+  flattened-put [] = refl
+  flattened-put (f ∷ fs) = ap (λ ts. put f.of ∷ ts) (flattened-put fs)
+
+  map-put : (x : Option FlattenedMapOf) → map_types (option_map (flattened_map_over args) x) ≡ map put (map_types x)
+  map-put None = refl
+  map-put (Some m) = refl
+
   form-put : (form : FormOf) → form_types (form_over args form) ≡ map put (form_types form)
-  form-put (named_fields denies ms) = members-put ms
+  form-put (named_fields b ms) =
+      (λ i. flattened-put b.flattened i ++ (map-put b.map i ++ members-put ms i))
+      ∙ ap (λ ts. map put (flattened_types b.flattened) ++ ts) (sym (map-append put (map_types b.map) (member_types ms)))
+      ∙ sym (map-append put (flattened_types b.flattened) (map_types b.map ++ member_types ms))
   form-put (unnamed_fields ts) = refl
   form-put no_fields = refl
 
@@ -98,6 +109,7 @@ module _ (args : Opens) where
   pub places-over : (body : BodyOf) → body_types (body_over args body) ≡ map put (body_types body)
   places-over (fields form) = form-put form
   places-over (units tagging names) = refl
+  places-over (numbers tagging ns) = refl
   places-over (variants tagging xs) = variants-put xs
 
 -- what stands in one of the types

@@ -5,14 +5,14 @@ use Rattle.leaves.specs.Leaves.{kind_of}
 use Rattle.leaves.specs.declared.leaf.LeafKind.{LeafKind}
 use Rattle.leaves.specs.declared.leaf.LeafKind.TheVariants as kinds
 use Rattle.open_types.specs.Open.{Open, Opens, leaf, any_value, free_object, tuple, items, set, map_of, option, through, named, no_types, more_types}
-use Rattle.shapes.specs.Declarations.{FormOf, named_fields, unnamed_fields, no_fields, VariantOf, BodyOf, fields, units, variants, DeclarationOf, declaration_at, form_types}
-use Rattle.shapes.specs.Plain.{IsNames, IsKey, IsPlainType, ArePlainTypes, AreAllPlain, IsPlainForm, IsOpenStruct, IsContent, AreContent, CanBeTagged, IsPlainVariant, ArePlainVariants, KeepsVariant}
+use Rattle.shapes.specs.Declarations.{FlattenedOf, FlattenedMapOf, FormOf, named_fields, unnamed_fields, no_fields, VariantOf, BodyOf, fields, units, numbers, variants, DeclarationOf, declaration_at, member_types}
+use Rattle.shapes.specs.Plain.{IsNames, IsKey, IsPlainType, ArePlainTypes, AreAllPlain, IsOpen, IsOpenStruct, IsContent, IsText, AreFlattened, IsPlainBeside, IsPlainForm, AreContent, CanBeTagged, IsPlainVariant, ArePlainVariants, KeepsVariant}
 use Rattle.shapes.specs.declared.tagging.Tagging.{Tagging}
 use Rattle.shapes.specs.declared.tagging.Tagging.TheVariants.{External, Internal, Untagged}
 use Rattle.plainness.specs.declared.unplain.Obstacle.{Obstacle}
 use Rattle.plainness.specs.declared.unplain.Obstacle.TheVariants as obstacles
 use Rattle.plainness.specs.Laws.{ObstaclesAreExact}
-use Rattle.plainness.specs.Obstacles.{is_names, is_text, is_key, leaf_obstacle, key_obstacle, type_obstacle, types_obstacle, all_obstacle, form_obstacle, is_open_struct, is_content, are_content, content_obstacle, variant_obstacle, variants_obstacle, kept_obstacle}
+use Rattle.plainness.specs.Obstacles.{is_names, is_text, is_key, leaf_obstacle, key_obstacle, type_obstacle, types_obstacle, all_obstacle, is_any_text, flattened_obstacle, beside_obstacle, form_obstacle, is_open, is_open_struct, is_content, are_content, content_obstacle, variant_obstacle, variants_obstacle, kept_obstacle}
 
 -- ---- nothing, something, two and a test
 
@@ -87,21 +87,51 @@ all_exact : (ss : List DeclarationOf) (ts : List Open) → IsClear (all_obstacle
 all_exact ss [] = nothing
 all_exact ss (t ∷ ts) = both_clear (type_obstacle ss t) (all_obstacle ss ts) (type_exact ss t) (all_exact ss ts)
 
+turned : {A P Q : Type 0} → A ↔ (P × Q) → A ↔ (Q × P)
+turned f = (λ a. let g = f.0 a in (g.1, g.0), λ h. f.1 (h.1, h.0))
+
 -- ---- bodies
 
-form_exact : (ss : List DeclarationOf) (form : FormOf) → IsClear (form_obstacle ss form) ↔ IsPlainForm ss form
-form_exact ss no_fields = something obstacles.Unit
-form_exact ss (named_fields denies ms) = all_exact ss (form_types (named_fields denies ms))
-form_exact ss (unnamed_fields ts) = all_exact ss ts
+opens_exact : (denies : Bool) (m : Option FlattenedMapOf) → IsTrue (is_open denies m) ↔ IsOpen denies m
+opens_exact false None = yes
+opens_exact false (Some m) = no
+opens_exact true m = no
 
 open_exact : (body : BodyOf) → IsTrue (is_open_struct body) ↔ IsOpenStruct body
-open_exact (fields (named_fields false ms)) = yes
+open_exact (fields (named_fields b ms)) = opens_exact b.denies b.map
 open_exact _ = no
 
 content_exact : (ss : List DeclarationOf) (t : Open) → IsTrue (is_content ss t) ↔ IsContent ss t
 content_exact ss (through h t) = content_exact ss t
 content_exact ss (named d ts) = open_exact (declaration_at ss d).body
 content_exact ss _ = no
+
+any_text_exact : (t : Open) → IsTrue (is_any_text t) ↔ IsText t
+any_text_exact (leaf x) = text_exact (kind_of x)
+any_text_exact (through h t) = any_text_exact t
+any_text_exact _ = no
+
+flattened_exact : (ss : List DeclarationOf) (fs : List FlattenedOf) → IsClear (flattened_obstacle ss fs) ↔ AreFlattened ss fs
+flattened_exact ss [] = nothing
+flattened_exact ss (f ∷ fs) =
+    both_clear (option_or (cond (is_content ss f.of) None (Some obstacles.Flattened)) (type_obstacle ss f.of)) (flattened_obstacle ss fs)
+    (both_clear (cond (is_content ss f.of) None (Some obstacles.Flattened)) (type_obstacle ss f.of) (unless (is_content ss f.of) obstacles.Flattened (content_exact ss f.of)) (type_exact ss f.of))
+    (flattened_exact ss fs)
+
+beside_exact : (ss : List DeclarationOf) (denies : Bool) (fs : List FlattenedOf) (m : Option FlattenedMapOf) → IsClear (beside_obstacle ss denies fs m) ↔ IsPlainBeside ss denies fs m
+beside_exact ss denies [] None = nothing
+beside_exact ss false [] (Some m) =
+    both_clear (cond (is_any_text m.key) None (Some obstacles.Flattened)) (type_obstacle ss m.value) (unless (is_any_text m.key) obstacles.Flattened (any_text_exact m.key)) (type_exact ss m.value)
+beside_exact ss false (f ∷ fs) None = flattened_exact ss (f ∷ fs)
+beside_exact ss true [] (Some m) = something obstacles.Flattened
+beside_exact ss false (f ∷ fs) (Some m) = something obstacles.Flattened
+beside_exact ss true (f ∷ fs) None = something obstacles.Flattened
+beside_exact ss true (f ∷ fs) (Some m) = something obstacles.Flattened
+
+form_exact : (ss : List DeclarationOf) (form : FormOf) → IsClear (form_obstacle ss form) ↔ IsPlainForm ss form
+form_exact ss (named_fields b ms) = turned (both_clear (beside_obstacle ss b.denies b.flattened b.map) (all_obstacle ss (member_types ms)) (beside_exact ss b.denies b.flattened b.map) (all_exact ss (member_types ms)))
+form_exact ss (unnamed_fields ts) = all_exact ss ts
+form_exact ss no_fields = something obstacles.Unit
 
 contents_exact : (ss : List DeclarationOf) (ts : List Open) → IsTrue (are_content ss ts) ↔ AreContent ss ts
 contents_exact ss (t ∷ []) = content_exact ss t
@@ -113,7 +143,7 @@ tag_exact ss _ ts = nothing
 
 variant_exact : (ss : List DeclarationOf) (tagging : Tagging) (form : FormOf) → IsClear (variant_obstacle ss tagging form) ↔ IsPlainVariant ss tagging form
 variant_exact ss tagging no_fields = nothing
-variant_exact ss tagging (named_fields denies ms) = form_exact ss (named_fields denies ms)
+variant_exact ss tagging (named_fields b ms) = form_exact ss (named_fields b ms)
 variant_exact ss tagging (unnamed_fields ts) = both_clear (form_obstacle ss (unnamed_fields ts)) (content_obstacle ss tagging ts) (form_exact ss (unnamed_fields ts)) (tag_exact ss tagging ts)
 
 variants_exact : (ss : List DeclarationOf) (tagging : Tagging) (xs : List VariantOf) → IsClear (variants_obstacle ss tagging xs) ↔ ArePlainVariants ss tagging xs
@@ -127,4 +157,5 @@ kept_exact _ _ = nothing
 pub obstacles_exact : ObstaclesAreExact
 obstacles_exact ss (fields form) = form_exact ss form
 obstacles_exact ss (units tagging names) = kept_exact tagging names
+obstacles_exact ss (numbers tagging ns) = kept_exact tagging ns
 obstacles_exact ss (variants tagging xs) = both_clear (kept_obstacle tagging xs) (variants_obstacle ss tagging xs) (kept_exact tagging xs) (variants_exact ss tagging xs)

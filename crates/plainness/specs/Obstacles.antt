@@ -5,11 +5,11 @@ use Rattle.leaves.specs.Leaves.{kind_of}
 use Rattle.leaves.specs.declared.leaf.LeafKind.{LeafKind}
 use Rattle.leaves.specs.declared.leaf.LeafKind.TheVariants as kinds
 use Rattle.open_types.specs.Open.{Open, Opens, leaf, any_value, free_object, tuple, items, set, map_of, option, through, named, no_types, more_types}
-use Rattle.shapes.specs.Declarations.{FormOf, named_fields, unnamed_fields, no_fields, VariantOf, BodyOf, fields, units, variants, DeclarationOf, declaration_at, form_types}
+use Rattle.shapes.specs.Declarations.{FlattenedOf, FlattenedMapOf, FormOf, named_fields, unnamed_fields, no_fields, VariantOf, BodyOf, fields, units, numbers, variants, DeclarationOf, declaration_at, member_types}
 use Rattle.shapes.specs.declared.tagging.Tagging.{Tagging}
 use Rattle.shapes.specs.declared.tagging.Tagging.TheVariants.{External, Internal, Untagged}
 use Rattle.plainness.specs.declared.unplain.Obstacle.{Obstacle}
-use Rattle.plainness.specs.declared.unplain.Obstacle.TheVariants.{Float, MapKey, TaggedNewtype, Unit, NoVariant}
+use Rattle.plainness.specs.declared.unplain.Obstacle.TheVariants.{Float, MapKey, TaggedNewtype, Flattened, Unit, NoVariant}
 
 -- ---- types
 
@@ -61,20 +61,51 @@ all_obstacle ss (t ∷ ts) = option_or (type_obstacle ss t) (all_obstacle ss ts)
 
 -- ---- bodies
 
-abbrev pub form_obstacle : List DeclarationOf → FormOf → Option Obstacle
-form_obstacle ss no_fields = Some Unit
-form_obstacle ss form = all_obstacle ss (form_types form)
+-- other members may stand beside its own: none are denied, and no map is flattened into it
+abbrev pub is_open : Bool → Option FlattenedMapOf → Bool
+is_open false None = true
+is_open _ _ = false
 
--- a struct with named fields that denies no others
+-- a struct with named fields beside which others may stand
 abbrev pub is_open_struct : BodyOf → Bool
-is_open_struct (fields (named_fields false ms)) = true
+is_open_struct (fields (named_fields b ms)) = is_open b.denies b.map
 is_open_struct _ = false
 
--- such a struct, passed through perhaps: a tag may stand among its members
+-- such a struct, passed through perhaps: a tag or others' members may stand among its own
 abbrev pub is_content : List DeclarationOf → Open → Bool
 is_content ss (named d ts) = is_open_struct (declaration_at ss d).body
 is_content ss (through h t) = is_content ss t
 is_content ss _ = false
+
+-- any texts, passed through perhaps
+abbrev pub is_any_text : Open → Bool
+is_any_text (leaf x) = is_text (kind_of x)
+is_any_text (through h t) = is_any_text t
+is_any_text _ = false
+
+-- what is flattened is no such struct, or has something in the way
+abbrev pub field_obstacle : List DeclarationOf → Open → Option Obstacle
+field_obstacle ss t = option_or (cond (is_content ss t) None (Some Flattened)) (type_obstacle ss t)
+
+abbrev pub flattened_obstacle : List DeclarationOf → List FlattenedOf → Option Obstacle
+flattened_obstacle ss [] = None
+flattened_obstacle ss (f ∷ fs) = option_or (field_obstacle ss f.of) (flattened_obstacle ss fs)
+
+-- the names of the map are no texts, or something is in the way in its values
+abbrev pub map_obstacle : List DeclarationOf → FlattenedMapOf → Option Obstacle
+map_obstacle ss m = option_or (cond (is_any_text m.key) None (Some Flattened)) (type_obstacle ss m.value)
+
+-- a map beside something else that is flattened, and denial beside either, are in the way themselves
+abbrev pub beside_obstacle : List DeclarationOf → Bool → List FlattenedOf → Option FlattenedMapOf → Option Obstacle
+beside_obstacle ss denies [] None = None
+beside_obstacle ss false [] (Some m) = map_obstacle ss m
+beside_obstacle ss false (f ∷ fs) None = flattened_obstacle ss (f ∷ fs)
+beside_obstacle ss _ _ _ = Some Flattened
+
+abbrev pub form_obstacle : List DeclarationOf → FormOf → Option Obstacle
+form_obstacle ss (named_fields b ms) = option_or (beside_obstacle ss b.denies b.flattened b.map) (all_obstacle ss (member_types ms))
+form_obstacle ss (unnamed_fields ts) = all_obstacle ss ts
+form_obstacle ss no_fields = Some Unit
 
 abbrev pub are_content : List DeclarationOf → List Open → Bool
 are_content ss (t ∷ []) = is_content ss t
@@ -87,7 +118,7 @@ content_obstacle ss _ ts = None
 -- as of a struct, but a variant may have no fields, and its tag has to find a place
 abbrev pub variant_obstacle : List DeclarationOf → Tagging → FormOf → Option Obstacle
 variant_obstacle ss tagging no_fields = None
-variant_obstacle ss tagging (named_fields denies ms) = form_obstacle ss (named_fields denies ms)
+variant_obstacle ss tagging (named_fields b ms) = form_obstacle ss (named_fields b ms)
 variant_obstacle ss tagging (unnamed_fields ts) = option_or (form_obstacle ss (unnamed_fields ts)) (content_obstacle ss tagging ts)
 
 abbrev pub variants_obstacle : List DeclarationOf → Tagging → List VariantOf → Option Obstacle
@@ -102,4 +133,5 @@ kept_obstacle _ _ = None
 abbrev pub body_obstacle : List DeclarationOf → BodyOf → Option Obstacle
 body_obstacle ss (fields form) = form_obstacle ss form
 body_obstacle ss (units tagging names) = kept_obstacle tagging names
+body_obstacle ss (numbers tagging ns) = kept_obstacle tagging ns
 body_obstacle ss (variants tagging xs) = option_or (kept_obstacle tagging xs) (variants_obstacle ss tagging xs)

@@ -1,16 +1,19 @@
 //! What in the body of an instance its schema cannot say whole.
 
 ghost use Rattle.std.specs.Prelude.{◌≡◌, map, IfOk};
+ghost use Rattle.leaves.specs.Leaves.{kind_of};
 ghost use Rattle.open_types.specs.Open.{open_view, opens_of, opens_view, substituted};
 ghost use Rattle.shapes.specs.Declarations.{declaration_at, member_types};
-ghost use Rattle.shapes.specs.Instances.{member_over, form_over, variant_over, body_over};
-ghost use Rattle.shapes.specs.Views.{member_view, form_view, variant_view, body_view, declaration_view};
-ghost use Rattle.plainness.specs.Obstacles.{is_names, is_open_struct, is_key, leaf_obstacle, type_obstacle, types_obstacle, all_obstacle, form_obstacle, is_content, are_content, content_obstacle, variant_obstacle, variants_obstacle, kept_obstacle, body_obstacle};
+ghost use Rattle.shapes.specs.Instances.{member_over, flattened_over, flattened_map_over, beside_over, form_over, variant_over, body_over};
+ghost use Rattle.shapes.specs.Views.{member_view, flattened_view, flattened_map_view, beside_view, form_view, variant_view, body_view, declaration_view};
+ghost use Rattle.plainness.specs.Obstacles.{is_names, is_text, is_open_struct, is_key, leaf_obstacle, type_obstacle, types_obstacle, all_obstacle, is_any_text, field_obstacle, flattened_obstacle, map_obstacle, beside_obstacle, form_obstacle, is_content, are_content, content_obstacle, variant_obstacle, variants_obstacle, kept_obstacle, body_obstacle};
 
 use crate::unplain::Obstacle;
-use leaves::LeafKind;
+use leaves::{Leaf, LeafKind};
 use open_types::{ClosedType, OpenType, substitute_first};
-use shapes::{Body, Declaration, Form, Member, Tagging, Variant};
+use shapes::{
+    Beside, Body, Declaration, Flattened, FlattenedMap, Form, Member, Tagging, Variant, has_map,
+};
 use std::alloc::{AllocError, Global};
 
 /// Whether each value is the name of a variant.
@@ -36,12 +39,19 @@ fn declares_names(declared: &[Declaration], place: usize) -> bool
     }
 }
 
+/// Whether the values of the built-in name are texts.
+fn is_text(leaf: Leaf) -> bool
+    ensures { result ≡ is_text (kind_of leaf) }
+{
+    leaf.kind() == LeafKind::Text
+}
+
 /// Whether serde reads a text for the type as a map's key.
 fn is_key(declared: &[Declaration], ty: &OpenType) -> bool
     ensures { result ≡ is_key (map declaration_view declared.now) (open_view ty.now) }
 {
     match ty {
-        OpenType::Leaf(leaf) => leaf.kind() == LeafKind::Text,
+        OpenType::Leaf(leaf) => is_text(*leaf),
         OpenType::Through(_, of) => is_key(declared, of),
         OpenType::Named(place, _) => declares_names(declared, *place),
         _ => false,
@@ -153,6 +163,94 @@ fn places_obstacle(
     Ok(None)
 }
 
+/// What is in the way in a flattened field of the type, with the arguments in the places of its parameters.
+fn field_obstacle(
+    alloc: Global,
+    declared: &[Declaration],
+    arguments: &[ClosedType],
+    ty: &OpenType,
+) -> Result<Option<Obstacle>, AllocError>
+    ensures { IfOk result (λ obstacle. obstacle ≡ field_obstacle (map declaration_view declared.now)
+        (substituted (opens_view arguments.now) (open_view ty.now))) }
+{
+    let put = substitute_first(alloc, ty, arguments)?;
+    if !is_content(declared, &put) {
+        return Ok(Some(Obstacle::Flattened));
+    }
+    Ok(type_obstacle(declared, &put))
+}
+
+/// What is in the way in the first of the flattened fields in which something is.
+fn flattened_obstacle(
+    alloc: Global,
+    declared: &[Declaration],
+    arguments: &[ClosedType],
+    flattened: &[Flattened],
+) -> Result<Option<Obstacle>, AllocError>
+    ensures { IfOk result
+        (λ obstacle. obstacle ≡ flattened_obstacle (map declaration_view declared.now)
+        (map (flattened_over (opens_view arguments.now)) (map flattened_view flattened.now))) }
+{
+    let mut rest = flattened;
+    'fields: while let [first, after @ ..] = rest {
+        if let Some(obstacle) = field_obstacle(alloc, declared, arguments, &first.ty)? {
+            return Ok(Some(obstacle));
+        }
+        rest = after;
+    }
+    Ok(None)
+}
+
+/// Whether the type is that of any texts, passed through perhaps.
+fn is_any_text(ty: &OpenType) -> bool
+    ensures { result ≡ is_any_text (open_view ty.now) }
+{
+    match ty {
+        OpenType::Leaf(leaf) => is_text(*leaf),
+        OpenType::Through(_, of) => is_any_text(of),
+        _ => false,
+    }
+}
+
+/// What is in the way in a map that is all that is flattened.
+fn map_obstacle(
+    alloc: Global,
+    declared: &[Declaration],
+    arguments: &[ClosedType],
+    flattened: &FlattenedMap,
+) -> Result<Option<Obstacle>, AllocError>
+    ensures { IfOk result (λ obstacle. obstacle ≡ map_obstacle (map declaration_view declared.now)
+        (flattened_map_over (opens_view arguments.now) (flattened_map_view flattened.now))) }
+{
+    if !is_any_text(&substitute_first(alloc, &flattened.key, arguments)?) {
+        return Ok(Some(Obstacle::Flattened));
+    }
+    place_obstacle(alloc, declared, arguments, &flattened.value)
+}
+
+/// What is in the way in what is flattened into the members of a struct that denies others or does not.
+fn beside_obstacle(
+    alloc: Global,
+    declared: &[Declaration],
+    arguments: &[ClosedType],
+    denies: bool,
+    beside: &Option<Box<Beside>>,
+) -> Result<Option<Obstacle>, AllocError>
+    ensures { let b = beside_over (opens_view arguments.now) (beside_view denies beside.now) in
+        IfOk result (λ obstacle. obstacle ≡ beside_obstacle (map declaration_view declared.now)
+        b.denies b.flattened b.map) }
+{
+    let Some(beside) = beside else {
+        return Ok(None);
+    };
+    match (denies, beside.flattened.as_slice(), &beside.map) {
+        (_, [], None) => Ok(None),
+        (false, [], Some(map)) => map_obstacle(alloc, declared, arguments, map),
+        (false, flattened, None) => flattened_obstacle(alloc, declared, arguments, flattened),
+        _ => Ok(Some(Obstacle::Flattened)),
+    }
+}
+
 /// What is in the way in the fields of a struct.
 fn form_obstacle(
     alloc: Global,
@@ -164,28 +262,39 @@ fn form_obstacle(
         (form_over (opens_view arguments.now) (form_view form.now))) }
 {
     match form {
-        Form::Named { members, .. } => {
-            members_obstacle(alloc, declared, arguments, members.as_slice())
+        Form::Named {
+            denies_others,
+            beside,
+            members,
+        } => {
+            let denies = *denies_others;
+            match beside_obstacle(alloc, declared, arguments, denies, beside)? {
+                Some(obstacle) => Ok(Some(obstacle)),
+                None => members_obstacle(alloc, declared, arguments, members.as_slice()),
+            }
         }
         Form::Unnamed(types) => places_obstacle(alloc, declared, arguments, types.as_slice()),
         Form::Unit => Ok(Some(Obstacle::Unit)),
     }
 }
 
-/// Whether it is a struct with named fields that denies no others.
+/// Whether it is a struct with named fields beside which others may stand.
 fn is_open_struct(body: &Body) -> bool
     ensures { result ≡ is_open_struct (body_view body.now) }
 {
-    matches!(
-        body,
-        Body::Fields(Form::Named {
-            denies_others: false,
-            ..
-        })
-    )
+    match body {
+        Body::Fields(
+            Form::Named {
+                denies_others: false,
+                beside,
+                ..
+            },
+        ) => !has_map(beside),
+        _ => false,
+    }
 }
 
-/// Whether the declaration at the place is a struct with named fields that denies no others.
+/// Whether the declaration at the place is a struct with named fields beside which others may stand.
 fn declares_open_struct(declared: &[Declaration], place: usize) -> bool
     ensures { result
         ≡ is_open_struct (declaration_at (map declaration_view declared.now) place).body }
@@ -318,6 +427,7 @@ pub(crate) fn body_obstacle(
     match body {
         Body::Fields(form) => form_obstacle(alloc, declared, arguments, form),
         Body::Units { tagging, names } => Ok(kept_obstacle(tagging, names.as_slice())),
+        Body::Numbers { tagging, numbers } => Ok(kept_obstacle(tagging, numbers.as_slice())),
         Body::Variants { tagging, variants } => {
             let variants = variants.as_slice();
             match kept_obstacle(tagging, variants) {

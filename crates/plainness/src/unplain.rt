@@ -9,6 +9,9 @@ pub enum Obstacle {
     MapKey,
     /// An internally tagged newtype variant that holds no struct with named fields that lets others stand beside them.
     TaggedNewtype,
+    /// A flattened field that holds no struct with named fields that lets others stand beside them, or a flattened map
+    /// whose keys are no texts or beside which something else is flattened or others are denied.
+    Flattened,
     /// The unit, or no fields where it is a struct.
     Unit,
     /// An untagged enum that keeps no variant.

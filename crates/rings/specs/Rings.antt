@@ -9,7 +9,7 @@ use Rattle.open_types.specs.declared.open_type.ThroughHead.TheVariants.{Box}
 use Rattle.open_types.specs.Open.{Open, Opens, leaf, items, option, through, param, named, no_types, more_types}
 use Rattle.open_types.specs.Instances.{type_size}
 use Rattle.shapes.specs.declared.tagging.Tagging.TheVariants.{Internal}
-use Rattle.shapes.specs.Declarations.{MemberOf, named_fields, no_fields, VariantOf, BodyOf, fields, variants, DeclarationOf, unannotated}
+use Rattle.shapes.specs.Declarations.{MemberOf, alone, named_fields, no_fields, VariantOf, BodyOf, fields, variants, DeclarationOf, unannotated}
 use Rattle.shapes.specs.InstanceShape.{IsReachable}
 use Rattle.instances.specs.Lists.{AreInstances}
 use Rattle.instances.specs.Names.{NamesDiffer}
@@ -64,7 +64,7 @@ abbrev pub member : List ℕ → Bool → Open → MemberOf
 member name required of = record { name = name; required = required; annotations = unannotated; of = of }
 
 abbrev pub variant : List ℕ → List MemberOf → VariantOf
-variant name ms = record { name = name; annotations = unannotated; form = named_fields false ms }
+variant name ms = record { name = name; annotations = unannotated; form = named_fields (alone false) ms }
 
 abbrev pub unit_variant : List ℕ → VariantOf
 unit_variant name = record { name = name; annotations = unannotated; form = no_fields }
@@ -80,8 +80,8 @@ members tagged_enum t = member (codes "next") true (items Vec t) ∷ []
 
 -- a struct with the members, or an enum { A, B { .. } } with them in `B`
 abbrev pub body : Turn → Open → BodyOf
-body plain_struct t = fields (named_fields false (members plain_struct t))
-body generic_struct t = fields (named_fields false (members generic_struct t))
+body plain_struct t = fields (named_fields (alone false) (members plain_struct t))
+body generic_struct t = fields (named_fields (alone false) (members generic_struct t))
 body tagged_enum t = variants (Internal (codes "t")) (unit_variant (codes "A") ∷ variant (codes "B") (members tagged_enum t) ∷ [])
 
 -- the declaration of the number in a ring of so many

@@ -13,7 +13,7 @@ use Rattle.configuration.specs.Configuration.{empty_configuration}
 use Rattle.syntax.specs.Items.{FieldItem, named, DeclaredItem}
 use Rattle.syntax.specs.ItemReading.{named_field_at, after_visibility}
 use Rattle.open_types.specs.Open as types
-use Rattle.shapes.specs.Declarations.{named_fields}
+use Rattle.shapes.specs.Declarations.{alone, named_fields}
 use Rattle.scopes.specs.Names.{place_among}
 use Rattle.scopes.specs.Parameters.{parameter_counts}
 use Rattle.derive_decl.specs.Resolved.{around_of, form_of}
@@ -44,7 +44,7 @@ pub record AreSampleFields (t of : Turn) (type : List ℕ) (ws : List Word) (fs 
   pub read : read_fields ws ≡ Ok fs
   pub bare : flat_map (λ f. f.attrs) fs ≡ []
   pub form : (ds : List DeclaredItem) (owner : List ℕ) (s : Span) (j : ℕ) → IsPlaced ds of type j
-      → form_of (around_of empty_configuration ds owner (generics t s)) [] (named fs) ≡ Some (named_fields false (members t (types.named j (arguments of))))
+      → form_of (around_of empty_configuration ds owner (generics t s)) [] (named fs) ≡ Some (named_fields (alone false) (members t (types.named j (arguments of))))
 
 -- the words of each are read so
 pub fields_read : (t of : Turn) (type : List ℕ) → IsKnown of type → (at behind : ℕ) (l a g s : Span)

@@ -5,7 +5,7 @@ use Rattle.leaves.specs.declared.leaf.Leaf.TheVariants.{I32, Bool as BoolLeaf}
 use Rattle.open_types.specs.declared.open_type.ListHead.TheVariants.{Vec}
 use Rattle.open_types.specs.Open.{Open, Opens, leaf, items, option, param, named, no_types, more_types}
 use Rattle.shapes.specs.declared.tagging.Tagging.TheVariants.{Internal}
-use Rattle.shapes.specs.Declarations.{MemberOf, named_fields, unnamed_fields, no_fields, fields, variants, DeclarationOf, parameters_in, unannotated}
+use Rattle.shapes.specs.Declarations.{MemberOf, alone, named_fields, unnamed_fields, no_fields, fields, variants, DeclarationOf, parameters_in, unannotated}
 use Rattle.shapes.specs.Instances.{places_at}
 use Rattle.shapes.specs.InstanceNames.{instance_name}
 use Rattle.shapes.specs.InstanceShape.{shape}
@@ -14,7 +14,7 @@ abbrev pub a_member : List ℕ → Bool → Open → MemberOf
 a_member name required t = record { name = name; required = required; annotations = unannotated; of = t }
 
 abbrev pub a_struct : List ℕ → ℕ → List MemberOf → DeclarationOf
-a_struct name parameters ms = record { name = name; parameters = parameters; annotations = unannotated; body = fields (named_fields false ms) }
+a_struct name parameters ms = record { name = name; parameters = parameters; annotations = unannotated; body = fields (named_fields (alone false) ms) }
 
 abbrev pub one : Open → Opens
 one t = more_types t no_types

@@ -47,7 +47,7 @@ ph_places : places_at phantoms ph_f32 ≡ leaf BoolLeaf ∷ []
 ph_places = refl
 
 ph_plain : IsPlain phantoms ph_f32
-ph_plain u (itself t) = ((λ e. cc), tt)
+ph_plain u (itself t) = (((λ e. cc), tt), tt)
 ph_plain u (through_place t w v (inl s) r) = absurd s
 ph_plain u (through_place t w v (inr s) r) = absurd s
 

@@ -1,9 +1,9 @@
 -- Declarations whose schema can say their whole shape: what stands in the places that they reach, and which variants their enums have.
-use Rattle.std.specs.Prelude.{◌≡◌, ◌≢◌, List, [], ◌∷◌, false}
+use Rattle.std.specs.Prelude.{◌≡◌, ◌≢◌, List, [], ◌∷◌, Bool, false, Option, None, Some}
 use Rattle.leaves.specs.Leaves.{kind_of}
 use Rattle.leaves.specs.declared.leaf.LeafKind.TheVariants as kinds
 use Rattle.open_types.specs.Open.{Open, Opens, leaf, any_value, free_object, tuple, items, set, map_of, option, through, named, no_types, more_types}
-use Rattle.shapes.specs.Declarations.{FormOf, named_fields, unnamed_fields, no_fields, VariantOf, BodyOf, fields, units, variants, DeclarationOf, declaration_at, form_types}
+use Rattle.shapes.specs.Declarations.{FlattenedOf, FlattenedMapOf, FormOf, named_fields, unnamed_fields, no_fields, VariantOf, BodyOf, fields, units, numbers, variants, DeclarationOf, declaration_at, member_types}
 use Rattle.shapes.specs.declared.tagging.Tagging.{Tagging}
 use Rattle.shapes.specs.declared.tagging.Tagging.TheVariants.{External, Internal, Untagged}
 
@@ -42,20 +42,43 @@ abbrev pub AreAllPlain : List DeclarationOf → List Open → Type 0
 AreAllPlain ss [] = Unit {0}
 AreAllPlain ss (t ∷ ts) = IsPlainType ss t × AreAllPlain ss ts
 
-abbrev pub IsPlainForm : List DeclarationOf → FormOf → Type 0
-IsPlainForm ss no_fields = ⊥
-IsPlainForm ss form = AreAllPlain ss (form_types form)
+-- other members may stand beside its own: none are denied, and no map is flattened into it
+abbrev pub IsOpen : Bool → Option FlattenedMapOf → Type 0
+IsOpen false None = Unit {0}
+IsOpen _ _ = ⊥
 
--- a struct with named fields that denies no others
+-- a struct with named fields beside which others may stand
 abbrev pub IsOpenStruct : BodyOf → Type 0
-IsOpenStruct (fields (named_fields false ms)) = Unit {0}
+IsOpenStruct (fields (named_fields b ms)) = IsOpen b.denies b.map
 IsOpenStruct _ = ⊥
 
--- a map that lets a tag stand among its members: such a struct, passed through perhaps
+-- a map that lets a tag or others' members stand among its own: such a struct, passed through perhaps
 abbrev pub IsContent : List DeclarationOf → Open → Type 0
 IsContent ss (named d ts) = IsOpenStruct (declaration_at ss d).body
 IsContent ss (through h t) = IsContent ss t
 IsContent ss _ = ⊥
+
+-- any texts, passed through perhaps: the names of a flattened map
+abbrev pub IsText : Open → Type 0
+IsText (leaf x) = kind_of x ≡ kinds.Text
+IsText (through h t) = IsText t
+IsText _ = ⊥
+
+abbrev pub AreFlattened : List DeclarationOf → List FlattenedOf → Type 0
+AreFlattened ss [] = Unit {0}
+AreFlattened ss (f ∷ fs) = (IsContent ss f.of × IsPlainType ss f.of) × AreFlattened ss fs
+
+-- what is flattened is a map alone or structs alone, and nothing is denied beside it
+abbrev pub IsPlainBeside : List DeclarationOf → Bool → List FlattenedOf → Option FlattenedMapOf → Type 0
+IsPlainBeside ss denies [] None = Unit {0}
+IsPlainBeside ss false [] (Some m) = IsText m.key × IsPlainType ss m.value
+IsPlainBeside ss false (f ∷ fs) None = AreFlattened ss (f ∷ fs)
+IsPlainBeside ss _ _ _ = ⊥
+
+abbrev pub IsPlainForm : List DeclarationOf → FormOf → Type 0
+IsPlainForm ss (named_fields b ms) = AreAllPlain ss (member_types ms) × IsPlainBeside ss b.denies b.flattened b.map
+IsPlainForm ss (unnamed_fields ts) = AreAllPlain ss ts
+IsPlainForm ss no_fields = ⊥
 
 abbrev pub AreContent : List DeclarationOf → List Open → Type 0
 AreContent ss (t ∷ []) = IsContent ss t
@@ -69,7 +92,7 @@ CanBeTagged ss _ _ = Unit {0}
 -- as of a struct, but a variant may have no fields
 abbrev pub IsPlainVariant : List DeclarationOf → Tagging → FormOf → Type 0
 IsPlainVariant ss tagging no_fields = Unit {0}
-IsPlainVariant ss tagging (named_fields denies ms) = IsPlainForm ss (named_fields denies ms)
+IsPlainVariant ss tagging (named_fields b ms) = IsPlainForm ss (named_fields b ms)
 IsPlainVariant ss tagging (unnamed_fields ts) = IsPlainForm ss (unnamed_fields ts) × CanBeTagged ss tagging (unnamed_fields ts)
 
 abbrev pub ArePlainVariants : List DeclarationOf → Tagging → List VariantOf → Type 0
@@ -85,4 +108,5 @@ KeepsVariant _ _ = Unit {0}
 abbrev pub IsPlainBody : List DeclarationOf → BodyOf → Type 0
 IsPlainBody ss (fields form) = IsPlainForm ss form
 IsPlainBody ss (units tagging names) = KeepsVariant tagging names
+IsPlainBody ss (numbers tagging ns) = KeepsVariant tagging ns
 IsPlainBody ss (variants tagging xs) = KeepsVariant tagging xs × ArePlainVariants ss tagging xs

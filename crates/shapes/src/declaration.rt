@@ -1,13 +1,14 @@
 //! Declarations with resolved types.
 
-ghost use Rattle.std.specs.Prelude.{◌≡◌, map, IfOk};
+ghost use Rattle.std.specs.Prelude.{◌≡◌, false, map, option_map, is_some, IfOk};
 ghost use Rattle.open_types.specs.Open.{open_view};
-ghost use Rattle.shapes.specs.Declarations.{member_types, form_types, variant_types, body_types};
-ghost use Rattle.shapes.specs.Views.{member_view, form_view, variant_view, body_view, declaration_view};
+ghost use Rattle.shapes.specs.Declarations.{member_types, flattened_types, map_types, types_beside, form_types, variant_types, body_types};
+ghost use Rattle.shapes.specs.Views.{member_view, flattened_view, flattened_map_view, beside_view, form_view, variant_view, body_view, declaration_view};
 
 use crate::annotations::Annotations;
 use crate::tagging::Tagging;
 use open_types::OpenType;
+use schema_trees::Bound;
 use std::alloc::{AllocError, Global};
 use texts::{List, Text};
 
@@ -22,12 +23,41 @@ pub struct Member {
     pub ty: OpenType,
 }
 
+/// A flattened field that is no map.
+#[derive(Debug, Drop)]
+pub struct Flattened {
+    pub annotations: Annotations,
+    pub ty: OpenType,
+}
+
+/// A flattened map: the members that have no name of their own are its entries.
+#[derive(Debug, Drop)]
+pub struct FlattenedMap {
+    pub annotations: Annotations,
+    /// The type of its keys.
+    pub key: OpenType,
+    /// The type of its values.
+    pub value: OpenType,
+}
+
+/// What is flattened into named fields.
+#[derive(Debug, Drop)]
+pub struct Beside {
+    /// The flattened fields that are no maps, in order.
+    pub flattened: List<Flattened>,
+    pub map: Option<FlattenedMap>,
+}
+
 /// The fields of a struct or of a variant.
 #[derive(Debug, Drop)]
 pub enum Form {
-    /// Named fields, and whether members that none of them has are refused.
+    /// Named fields.
     Named {
+        /// Whether members that none of them has are refused.
         denies_others: bool,
+        /// What is flattened, where something is.
+        beside: Option<Box<Beside>>,
+        /// The fields that have a name of their own.
         members: List<Member>,
     },
     /// Unnamed fields by their types.
@@ -55,6 +85,11 @@ pub enum Body {
         tagging: Tagging,
         names: List<Text>,
     },
+    /// An enum whose variants have no fields, by the numbers that stand for them.
+    Numbers {
+        tagging: Tagging,
+        numbers: List<Bound>,
+    },
     /// An enum of which a variant has fields.
     Variants {
         tagging: Tagging,
@@ -72,6 +107,26 @@ pub struct Declaration {
     pub body: Body,
 }
 
+/// The flattened fields that are no maps.
+pub fn flattened_of(beside: &Option<Box<Beside>>) -> &[Flattened]
+    ensures { map flattened_view result.now ≡ (beside_view false beside.now).flattened }
+{
+    match beside {
+        Some(beside) => beside.flattened.as_slice(),
+        None => &[],
+    }
+}
+
+/// Whether a map is flattened.
+pub fn has_map(beside: &Option<Box<Beside>>) -> bool
+    ensures { result ≡ is_some (beside_view false beside.now).map }
+{
+    match beside {
+        Some(beside) => beside.map.is_some(),
+        None => false,
+    }
+}
+
 /// The types of the members.
 fn member_types(alloc: Global, members: &[Member]) -> Result<Vec<&OpenType>, AllocError>
     ensures { IfOk result (λ ts. map (λ ty. open_view ty.now) ts.items
@@ -81,6 +136,51 @@ fn member_types(alloc: Global, members: &[Member]) -> Result<Vec<&OpenType>, All
     for member in members {
         types.push(&member.ty)?;
     }
+    Ok(types)
+}
+
+/// The types of flattened fields.
+fn flattened_types(alloc: Global, flattened: &[Flattened]) -> Result<Vec<&OpenType>, AllocError>
+    ensures { IfOk result (λ ts. map (λ ty. open_view ty.now) ts.items
+        ≡ flattened_types (map flattened_view flattened.now)) }
+{
+    let mut types = Vec::new(alloc);
+    for field in flattened {
+        types.push(&field.ty)?;
+    }
+    Ok(types)
+}
+
+/// The types of a flattened map's names and of its values.
+fn map_types(alloc: Global, entries: &Option<FlattenedMap>) -> Result<Vec<&OpenType>, AllocError>
+    ensures { IfOk result (λ ts. map (λ ty. open_view ty.now) ts.items
+        ≡ map_types (option_map flattened_map_view entries.now)) }
+{
+    let mut types = Vec::new(alloc);
+    if let Some(map) = entries {
+        types.push(&map.key)?;
+        types.push(&map.value)?;
+    }
+    Ok(types)
+}
+
+/// The types of what is flattened, in front of those of the members.
+fn types_beside<'a>(
+    alloc: Global,
+    beside: &'a Option<Box<Beside>>,
+    members: &'a [Member],
+) -> Result<Vec<&'a OpenType>, AllocError>
+    ensures { IfOk result (λ ts. map (λ ty. open_view ty.now) ts.items
+        ≡ types_beside (beside_view false beside.now) (member_types (map member_view members.now))) }
+{
+    let Some(beside) = beside else {
+        return member_types(alloc, members);
+    };
+    let mut types = flattened_types(alloc, beside.flattened.as_slice())?;
+    let mut of_map = map_types(alloc, &beside.map)?;
+    let mut of_members = member_types(alloc, members)?;
+    types.append(&mut of_map)?;
+    types.append(&mut of_members)?;
     Ok(types)
 }
 
@@ -101,7 +201,11 @@ fn form_types(alloc: Global, form: &Form) -> Result<Vec<&OpenType>, AllocError>
         (λ ts. map (λ ty. open_view ty.now) ts.items ≡ form_types (form_view form.now)) }
 {
     match form {
-        Form::Named { members, .. } => member_types(alloc, members.as_slice()),
+        Form::Named {
+            beside,
+            members,
+            ..
+        } => types_beside(alloc, beside, members.as_slice()),
         Form::Unnamed(types) => each_type(alloc, types.as_slice()),
         Form::Unit => Ok(Vec::new(alloc)),
     }
@@ -120,21 +224,22 @@ fn variant_types(alloc: Global, variants: &[Variant]) -> Result<Vec<&OpenType>, 
 }
 
 impl Body {
-    /// The types of the places, in order.
+    /// The types of the places, in order; of a form with flattened fields those of these in front, of a flattened map its key and
+    /// its value.
     pub fn types(&self, alloc: Global) -> Result<Vec<&OpenType>, AllocError>
         ensures { IfOk result
             (λ types. map (λ ty. open_view ty.now) types.items ≡ body_types (body_view self.now)) }
     {
         match self {
             Body::Fields(form) => form_types(alloc, form),
-            Body::Units { .. } => Ok(Vec::new(alloc)),
+            Body::Units { .. } | Body::Numbers { .. } => Ok(Vec::new(alloc)),
             Body::Variants { variants, .. } => variant_types(alloc, variants.as_slice()),
         }
     }
 }
 
 impl Declaration {
-    /// The types of its places, in order.
+    /// The types of the places of its body.
     pub fn types(&self, alloc: Global) -> Result<Vec<&OpenType>, AllocError>
         ensures { IfOk result (λ types. map (λ ty. open_view ty.now) types.items
             ≡ body_types (declaration_view self.now).body) }

@@ -1,5 +1,5 @@
 -- What the schemas of places and of fields accept: a place what has the shape of its type, fields what has the shape of their form.
-use Rattle.std.proofs.Common.{ℕ, suc, drop, length, None, Option, pos, int_le, List, [], ◌∷◌, Bool, true, false, not, ◌&&◌, ◌||◌, cond, Some, IsTrue, ◌≡◌, ◌≢◌, refl, ap, sym, subst, ◌∙◌, map as map_over}
+use Rattle.std.proofs.Common.{ℕ, suc, drop, length, None, Option, option_map, pos, int_le, List, [], ◌∷◌, Bool, true, false, not, ◌&&◌, ◌||◌, cond, Some, IsTrue, ◌≡◌, ◌≢◌, refl, ap, sym, subst, ◌∙◌, map as map_over}
 use Rattle.std.specs.List.{list_all}
 use Rattle.std.proofs.Math.Dec.{leb-zero, leb-suc-zero, leb-suc-suc}
 use Rattle.std.proofs.lemmas.Bool.{and_parts}
@@ -11,10 +11,10 @@ use Rattle.schema_trees.specs.declared.tree.SchemaTypeInner.TheVariants as word
 use Rattle.schema_trees.specs.declared.tree.TypeWord.TheVariants.{Any, One}
 use Rattle.schema_trees.specs.declared.annotations.AnnotationKeywords.{AnnotationKeywords}
 use Rattle.schema_trees.specs.Annotations.{no_annotations, described}
-use Rattle.schema_trees.specs.Schema.{SchemaOf, schema_count, property_names}
+use Rattle.schema_trees.specs.Schema.{SchemaOf, SchemasOf, no_schemas, schema_count, property_names}
 use Rattle.schema_trees.specs.Schema as tree
 use Rattle.schema_core.specs.Form.{array_word}
-use Rattle.schema_core.specs.Meaning.{each_in_order, word_accepts, minimum_accepts, required_accepts, tree_accepts, properties_accept}
+use Rattle.schema_core.specs.Meaning.{each_in_order, word_accepts, minimum_accepts, required_accepts, tree_accepts, properties_accept, all_accept, where_given}
 use Rattle.leaves.specs.declared.leaf.LeafKind.{LeafKind}
 use Rattle.leaves.specs.declared.leaf.LeafKind.TheVariants as kinds
 use Rattle.leaves.specs.Leaves.{kind_of}
@@ -26,12 +26,12 @@ use Rattle.component.specs.Leaves as named_leaf
 use Rattle.schema_trees.specs.Objects.{only_word}
 use Rattle.component.specs.Places.{word_of, minimum_of, type_word, one_of_null, or_null, beside, in_place, PlaceOf, inside, with_null, annotations_at, leaf_at, declared, argument, place, inline_places}
 use Rattle.shapes.specs.declared.annotations.Annotations.{Annotations}
-use Rattle.shapes.specs.Declarations.{MemberOf, FormOf, named_fields, unnamed_fields, no_fields, DeclarationOf, member_types, member_names, unannotated}
-use Rattle.shapes.specs.Instances.{member_over, form_over}
-use Rattle.shapes.specs.Shape.{is_null, is_text, is_boolean, is_number, is_list, is_map, reads, type_shape, items_fit, member_fits, only_named, elements_fit, unnamed_shape, form_shape}
-use Rattle.shapes.specs.Plain.{IsPlainType, ArePlainTypes, AreAllPlain, IsPlainForm}
-use Rattle.terms.specs.Terms.{field_place, properties_of, required_names, object_of, are_all, alike_term, field_terms, mixed_term, unnamed_term, form_term, keywords_of}
-use Rattle.terms.specs.Meaning.{leaf_shape}
+use Rattle.shapes.specs.Declarations.{MemberOf, FlattenedOf, FlattenedMapOf, Others, any, none, each, others_beside, FormOf, named_fields, unnamed_fields, no_fields, DeclarationOf, member_types, member_names, unannotated}
+use Rattle.shapes.specs.Instances.{member_over, flattened_over, flattened_map_over, form_over}
+use Rattle.shapes.specs.Shape.{is_null, is_text, is_boolean, is_number, is_list, is_map, reads, type_shape, items_fit, member_fits, others_fit, flattened_fits, elements_fit, unnamed_shape, form_shape}
+use Rattle.shapes.specs.Plain.{IsPlainType, ArePlainTypes, AreAllPlain, IsContent, AreFlattened, IsPlainBeside, IsPlainForm}
+use Rattle.terms.specs.Terms.{field_place, properties_of, required_names, value_place, values_term, others_part, own_term, own_beside, flattened_terms, named_term, are_all, alike_term, field_terms, mixed_term, unnamed_term, form_term, keywords_of}
+use Rattle.terms.specs.Meaning.{leaf_shape, HoldMaps}
 
 -- ---- conditions
 
@@ -312,15 +312,117 @@ module _ (ss : List DeclarationOf) (instance : Open → Json → Bool) (args : O
       ∙ member-accepts m.required (if_there (look m.name es) (has m.of)) (properties_accept says (properties_of ms) es) (λ k. is_in k (names es)) m.name (required_names ms)
       ∙ ap (λ b. member_fits instance es (member_over args m) && b) (members-accept ms h.1 es)
 
-  -- what members ask of entries, and where others are denied that there are none
-  fields-accept : (denies : Bool) (keywords : AnnotationKeywords) (ms : List MemberOf) → AreAllPlain ss (member_types (members_over ms)) → (es : Members) →
-      tree_accepts says (object_of keywords denies (required_names ms) (properties_of ms)) (map es)
-      ≡ (list_all (member_fits instance (entries es)) (members_over ms) && (not denies || only_named (member_names (members_over ms)) (entries es)))
-  fields-accept false keywords ms h es = members-accept ms h (entries es) ∙ sym (and-true (list_all (member_fits instance (entries es)) (members_over ms)))
-  fields-accept true keywords ms h es =
-      and-last (properties_accept says (properties_of ms) (entries es)) (others_pass (property_names (properties_of ms)) (λ w. false) (entries es))
+  -- what is said of a flattened map asks nothing of its values
+  values-accept : (r : Annotations) (nullable : Bool) (t : Open) → IsPlainType ss (substituted args t) → (v : Json) →
+      tree_accepts says (values_term r nullable t) v ≡ ((nullable && is_null v) || has t v)
+  values-accept r n (leaf x) h v = place-accepts (value_place n r) (leaf x) h v
+  values-accept r n any_value h v = place-accepts (value_place n r) any_value h v
+  values-accept r n free_object h v = place-accepts (value_place n r) free_object h v
+  values-accept r n unit h v = absurd h
+  values-accept r n (tuple ts) h v = place-accepts (value_place n r) (tuple ts) h v
+  values-accept r n (items x t) h v = place-accepts (value_place n r) (items x t) h v
+  values-accept r n (set x t) h v = place-accepts (value_place n r) (set x t) h v
+  values-accept r n (map_of x k t) h v = place-accepts (value_place n r) (map_of x k t) h v
+  values-accept r n (option t) h v = values-accept r true t h v ∙ or-twice n (is_null v) (has t v)
+  values-accept r n (through x t) h v = values-accept r n t h v
+  values-accept r n (param i) h v = place-accepts (value_place n r) (param i) h v
+  values-accept r false (named d ts) h v = place-accepts (value_place false r) (named d ts) h v
+  values-accept r true (named d ts) h v = or-null-accepts says (keywords_of r) (place (inside false) (named d ts)) v ∙ ap (λ b. is_null v || b) (place-accepts (inside false) (named d ts) h v)
+
+  abbrev pub ArePlainOthers : Others → Type 0
+  ArePlainOthers (each m) = IsPlainType ss (substituted args m.value)
+  ArePlainOthers _ = Unit {0}
+
+  -- with the arguments put in
+  abbrev pub others_over : Others → Others
+  others_over any = any
+  others_over none = none
+  others_over (each m) = each (flattened_map_over args m)
+
+  -- what is said of others asks of entries what the others do
+  pub others-accept : (o : Others) → ArePlainOthers o → (ks : List (List ℕ)) (es : List (List ℕ × Json)) →
+      where_given says (others_part o) (λ accepts. others_pass ks accepts es) ≡ others_fit instance ks (others_over o) es
+  others-accept any h ks es = refl
+  others-accept none h ks es = others-denied ks es
+  others-accept (each m) h ks es = λ i. others_pass ks (λ w. values-accept m.annotations false m.value h w i) es
+
+  -- what members ask of entries, and what is asked of others
+  fields-accept : (o : Others) → ArePlainOthers o → (keywords : AnnotationKeywords) (ms : List MemberOf) → AreAllPlain ss (member_types (members_over ms)) → (es : Members) →
+      tree_accepts says (own_term keywords o ms) (map es)
+      ≡ (list_all (member_fits instance (entries es)) (members_over ms) && others_fit instance (member_names (members_over ms)) (others_over o) (entries es))
+  fields-accept o ho keywords ms h es =
+      and-last (properties_accept says (properties_of ms) (entries es))
+      (where_given says (others_part o) (λ accepts. others_pass (property_names (properties_of ms)) accepts (entries es)))
       (list_all (λ k. is_in k (names (entries es))) (required_names ms) && true)
-      ∙ (λ i. members-accept ms h (entries es) i && others-denied (property_names-are args ms i) (entries es) i)
+      ∙ (λ i. members-accept ms h (entries es) i && others-accept o ho (property_names-are args ms i) (entries es) i)
+
+  pub own-accepts : (o : Others) → ArePlainOthers o → (keywords : AnnotationKeywords) (ms : List MemberOf) → AreAllPlain ss (member_types (members_over ms)) → (v : Json) →
+      tree_accepts says (own_term keywords o ms) v
+      ≡ is_map v (λ es. list_all (member_fits instance es) (members_over ms) && others_fit instance (member_names (members_over ms)) (others_over o) es)
+  own-accepts o ho keywords ms h (map es) = fields-accept o ho keywords ms h es
+  own-accepts o ho keywords ms h null = refl
+  own-accepts o ho keywords ms h (boolean b) = refl
+  own-accepts o ho keywords ms h (number m) = refl
+  own-accepts o ho keywords ms h (text t) = refl
+  own-accepts o ho keywords ms h (list xs) = refl
+
+  -- ---- what is flattened
+
+  abbrev pub all_flattened_over : List FlattenedOf → List FlattenedOf
+  all_flattened_over fs = map_over (flattened_over args) fs
+
+  -- each that is flattened accepts what has its shape
+  pub flattened-accept : (fs : List FlattenedOf) → AreFlattened ss (all_flattened_over fs) → (more : SchemasOf LeafOf) (v : Json) →
+      all_accept says (flattened_terms fs more) v ≡ (list_all (flattened_fits instance v) (all_flattened_over fs) && all_accept says more v)
+  flattened-accept [] h more v = refl
+  flattened-accept (f ∷ fs) h more v =
+      (λ i. place-accepts (field_place f.annotations) f.of h.0.1 v i && flattened-accept fs h.1 more v i)
+      ∙ sym (and-assoc (has f.of v) (list_all (flattened_fits instance v) (all_flattened_over fs)) (all_accept says more v))
+
+  -- beside what is flattened the own object is left out where it says nothing: that a map stands there follows
+  beside-own-accepts : HoldMaps ss instance → (f : FlattenedOf) (fs : List FlattenedOf) → AreFlattened ss (all_flattened_over (f ∷ fs)) → (ms : List MemberOf) →
+      AreAllPlain ss (member_types (members_over ms)) → (v : Json) →
+      (list_all (flattened_fits instance v) (all_flattened_over (f ∷ fs)) && all_accept says (own_beside None any ms no_schemas) v)
+      ≡ (list_all (flattened_fits instance v) (all_flattened_over (f ∷ fs)) && is_map v (λ es. list_all (member_fits instance es) (members_over ms) && true))
+  beside-own-accepts maps f fs hf [] h v =
+      implied (list_all (flattened_fits instance v) (all_flattened_over (f ∷ fs))) (is_map v (λ es. true))
+      (λ g. content-map maps (substituted args f.of) hf.0.0 v (and_parts (has f.of v) (list_all (flattened_fits instance v) (all_flattened_over fs)) g).0)
+    where
+      implied : (a b : Bool) → (IsTrue a → IsTrue b) → (a && true) ≡ (a && b)
+      implied true b g = sym (g refl)
+      implied false b g = refl
+
+      content-map : HoldMaps ss instance → (t : Open) → IsContent ss t → (w : Json) → IsTrue (type_shape instance t w) → IsTrue (is_map w (λ es. true))
+      content-map maps (named d ts) c w g = maps d ts c w g
+      content-map maps (through k t) c w g = content-map maps t c w g
+      content-map maps (leaf l) c w g = absurd c
+      content-map maps any_value c w g = absurd c
+      content-map maps free_object c w g = absurd c
+      content-map maps unit c w g = absurd c
+      content-map maps (tuple ts) c w g = absurd c
+      content-map maps (items k t) c w g = absurd c
+      content-map maps (set k t) c w g = absurd c
+      content-map maps (map_of k s t) c w g = absurd c
+      content-map maps (option t) c w g = absurd c
+      content-map maps (param i) c w g = absurd c
+  beside-own-accepts maps f fs hf (m ∷ ms) h v =
+      λ i. list_all (flattened_fits instance v) (all_flattened_over (f ∷ fs)) && (and-true (tree_accepts says (own_term no_annotations any (m ∷ ms)) v) ∙ own-accepts any tt no_annotations (m ∷ ms) h v) i
+
+  pub named-accepts : HoldMaps ss instance → (denies : Bool) (fs : List FlattenedOf) (x : Option FlattenedMapOf) →
+      IsPlainBeside ss denies (all_flattened_over fs) (option_map (flattened_map_over args) x) → (r : Annotations) (ms : List MemberOf) → AreAllPlain ss (member_types (members_over ms)) → (v : Json) →
+      tree_accepts says (named_term r fs x (others_beside denies fs x) ms) v
+      ≡ (list_all (flattened_fits instance v) (all_flattened_over fs)
+      && is_map v (λ es. list_all (member_fits instance es) (members_over ms)
+      && others_fit instance (member_names (members_over ms)) (others_beside denies (all_flattened_over fs) (option_map (flattened_map_over args) x)) es))
+  named-accepts maps false [] None hb r ms h v = own-accepts any tt (keywords_of r) ms h v
+  named-accepts maps true [] None hb r ms h v = own-accepts none tt (keywords_of r) ms h v
+  named-accepts maps false [] (Some x) hb r ms h v = own-accepts (each x) hb.1 (keywords_of r) ms h v
+  named-accepts maps true [] (Some x) hb r ms h v = absurd hb
+  named-accepts maps false (f ∷ fs) None hb r ms h v =
+      flattened-accept (f ∷ fs) hb (own_beside None any ms no_schemas) v ∙ beside-own-accepts maps f fs hb ms h v
+  named-accepts maps false (f ∷ fs) (Some x) hb r ms h v = absurd hb
+  named-accepts maps true (f ∷ fs) None hb r ms h v = absurd hb
+  named-accepts maps true (f ∷ fs) (Some x) hb r ms h v = absurd hb
 
   -- ---- unnamed fields
 
@@ -380,16 +482,11 @@ module _ (ss : List DeclarationOf) (instance : Open → Json → Bool) (args : O
 
   -- ---- forms
 
-  pub form-accepts : SameIsEqual → (r : Annotations) (form : FormOf) → IsPlainForm ss (form_over args form) → (v : Json) →
+  pub form-accepts : SameIsEqual → HoldMaps ss instance → (r : Annotations) (form : FormOf) → IsPlainForm ss (form_over args form) → (v : Json) →
       tree_accepts says (form_term r form) v ≡ form_shape instance (form_over args form) v
-  form-accepts same r (named_fields denies ms) h (map es) = fields-accept denies (keywords_of r) ms h es
-  form-accepts same r (named_fields denies ms) h null = refl
-  form-accepts same r (named_fields denies ms) h (boolean b) = refl
-  form-accepts same r (named_fields denies ms) h (number m) = refl
-  form-accepts same r (named_fields denies ms) h (text t) = refl
-  form-accepts same r (named_fields denies ms) h (list xs) = refl
-  form-accepts same r (unnamed_fields ts) h v = unnamed-accepts same r ts h v
-  form-accepts same r no_fields h v = absurd h
+  form-accepts same maps r (named_fields b ms) h v = named-accepts maps b.denies b.flattened b.map h.1 r ms h.0 v
+  form-accepts same maps r (unnamed_fields ts) h v = unnamed-accepts same r ts h v
+  form-accepts same maps r no_fields h v = absurd h
 
 -- ---- closed types
 

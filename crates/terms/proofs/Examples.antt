@@ -1,9 +1,9 @@
 -- Small sources, computed: null, what is required, what is alike, an enum with a tag, and what stands at leaves.
 use Rattle.std.proofs.Common.{List, [], ◌∷◌, Bool, true, false, codes, ◌≡◌, refl}
-use Rattle.acceptance.specs.Json.{Json, null, member}
+use Rattle.acceptance.specs.Json.{Json, null}
 use Rattle.leaves.specs.declared.leaf.Leaf.TheVariants.{I32, Bool as BoolLeaf}
 use Rattle.schema_trees.specs.Annotations.{no_annotations}
-use Rattle.schema_trees.specs.Schema.{SchemaOf, no_schemas, schema, no_properties, property, truth, part}
+use Rattle.schema_trees.specs.Schema.{SchemaOf, no_schemas, schema, no_properties, property, no_part, truth, part}
 use Rattle.schema_trees.specs.Schema as tree
 use Rattle.schema_core.specs.Meaning.{tree_accepts}
 use Rattle.open_types.specs.Open.{Open, leaf, param, named, no_types}
@@ -22,7 +22,7 @@ abbrev an_i32 : SchemaOf LeafOf
 an_i32 = leaf_object false no_annotations I32
 
 -- struct N<T> { v: Option<T> }: at Option<i32> both schemas accept null
-n_term : instance_term n_source at_option ≡ object_of no_annotations false [] (property (codes "v") (one_of_null no_annotations (leaf_object true no_annotations I32)) no_properties)
+n_term : instance_term n_source at_option ≡ object_of no_annotations no_part [] (property (codes "v") (one_of_null no_annotations (leaf_object true no_annotations I32)) no_properties)
 n_term = refl
 
 null_twice : (says : LeafOf → Json → Bool) → (tree_accepts says (leaf_object true no_annotations I32) null ≡ true) × (tree_accepts says null_alone null ≡ true)

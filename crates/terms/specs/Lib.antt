@@ -1,3 +1,4 @@
 pub mod InstanceTerms
 pub mod Meaning
+pub mod Telling
 pub mod Terms

@@ -1,6 +1,6 @@
 -- The schemas of declarations, over the declarations that their types name.
-use Rattle.std.specs.Prelude.{ℕ, List, [], ◌∷◌, ◌++◌, Bool, true, false, ◌&&◌, cond, pos, length, map, Some, None}
-use Rattle.acceptance.specs.Json.{Json, null, text}
+use Rattle.std.specs.Prelude.{ℕ, ℤ, Option, List, [], ◌∷◌, ◌++◌, Bool, true, false, ◌&&◌, cond, pos, length, map, Some, None}
+use Rattle.acceptance.specs.Json.{Json, null, text, number}
 use Rattle.schema_trees.specs.declared.tree.SchemaTypeInner.TheVariants as word
 use Rattle.schema_trees.specs.declared.tree.TypeWord.TheVariants.{Any, One}
 use Rattle.schema_trees.specs.declared.annotations.AnnotationKeywords.{AnnotationKeywords}
@@ -14,11 +14,11 @@ use Rattle.component.specs.Leaves.{LeafOf}
 use Rattle.schema_trees.specs.Bounds.{no_bounds}
 use Rattle.schema_trees.specs.Annotations.{annotations_of, no_annotations, where_true, annotated, described, null_default}
 use Rattle.schema_trees.specs.Objects.{word_facts, with_format, with_required, with_bounds, only_word}
-use Rattle.component.specs.Places.{bounds_of, PlaceOf, inside, place}
+use Rattle.component.specs.Places.{bounds_of, PlaceOf, inside, one_of_null, place}
 use Rattle.shapes.specs.declared.annotations.Annotations.{Annotations}
 use Rattle.shapes.specs.declared.tagging.Tagging.{Tagging}
 use Rattle.shapes.specs.declared.tagging.Tagging.TheVariants.{External, Internal, Adjacent, Untagged}
-use Rattle.shapes.specs.Declarations.{MemberOf, FormOf, named_fields, unnamed_fields, no_fields, VariantOf, BodyOf, fields, units, variants, DeclarationOf, unannotated}
+use Rattle.shapes.specs.Declarations.{MemberOf, FlattenedOf, FlattenedMapOf, Others, any, none, each, others_of, FormOf, named_fields, unnamed_fields, no_fields, VariantOf, BodyOf, fields, units, numbers, variants, DeclarationOf, unannotated}
 
 -- what is said, as keywords of a schema
 abbrev pub keywords_of : Annotations → AnnotationKeywords
@@ -39,15 +39,48 @@ abbrev pub required_names : List MemberOf → List (List ℕ)
 required_names [] = []
 required_names (m ∷ ms) = cond m.required (m.name ∷ required_names ms) (required_names ms)
 
--- what members other than the properties may be: where they are denied, nothing
-abbrev pub others_of : {X : Type 0} → Bool → PartOf X
-others_of false = no_part
-others_of true = truth false
+-- the place of a flattened map's values, where null may be
+abbrev pub value_place : Bool → Annotations → PlaceOf
+value_place nullable annotations = record (field_place annotations) { nullable = nullable }
 
--- an object with these properties, which denies others or does not
-abbrev pub object_of : {X : Type 0} → AnnotationKeywords → Bool → List (List ℕ) → PropertiesOf X → SchemaOf X
-object_of keywords denies required ps =
-    object (with_required required (word_facts (One word.Object) keywords)) ps (others_of denies) no_part
+-- The schema of the values of a flattened map, where null may be. What is said of the map is said of them: nothing of an argument, with null or not; of a reference the description alone, but beside null all, on the whole; of anything else all.
+abbrev pub values_term : Annotations → Bool → Open → SchemaOf LeafOf
+values_term annotations nullable (types.option t) = values_term annotations true t
+values_term annotations nullable (types.through h t) = values_term annotations nullable t
+values_term annotations nullable types.unit = only_word Any (annotations_of annotations.description (Some null) (where_true annotations.deprecated))
+values_term annotations true (types.named d ts) = one_of_null (keywords_of annotations) (place (inside false) (types.named d ts))
+values_term annotations nullable t = place (value_place nullable annotations) t
+
+-- what members other than the properties may be: where they are denied, nothing
+abbrev pub others_part : Others → PartOf LeafOf
+others_part any = no_part
+others_part none = truth false
+others_part (each m) = part (values_term m.annotations false m.value)
+
+-- an object with these properties, beside which others may be so
+abbrev pub object_of : {X : Type 0} → AnnotationKeywords → PartOf X → List (List ℕ) → PropertiesOf X → SchemaOf X
+object_of keywords others required ps =
+    object (with_required required (word_facts (One word.Object) keywords)) ps others no_part
+
+-- the object of a form's own members
+abbrev pub own_term : AnnotationKeywords → Others → List MemberOf → SchemaOf LeafOf
+own_term keywords o ms = object_of keywords (others_part o) (required_names ms) (properties_of ms)
+
+-- beside what is flattened it stands where it has a property or a map, whose values the others then are
+abbrev pub own_beside : Option FlattenedMapOf → Others → List MemberOf → SchemasOf LeafOf → SchemasOf LeafOf
+own_beside None o [] more = more
+own_beside None o (m ∷ ms) more = schema (own_term no_annotations o (m ∷ ms)) more
+own_beside (Some x) o ms more = schema (own_term no_annotations o ms) more
+
+-- the schemas of what is flattened, in front of others
+abbrev pub flattened_terms : List FlattenedOf → SchemasOf LeafOf → SchemasOf LeafOf
+flattened_terms [] more = more
+flattened_terms (f ∷ fs) more = schema (field_term f.annotations f.of) (flattened_terms fs more)
+
+-- the own object alone, or all of what is flattened and it
+abbrev pub named_term : Annotations → List FlattenedOf → Option FlattenedMapOf → Others → List MemberOf → SchemaOf LeafOf
+named_term annotations [] x o ms = own_term (keywords_of annotations) o ms
+named_term annotations (f ∷ fs) x o ms = all_of (keywords_of annotations) (flattened_terms (f ∷ fs) (own_beside x o ms no_schemas))
 
 -- a list of so many elements; the schemas in front accept the first of them by position, the rest accepts the others
 abbrev pub list_of_length : {X : Type 0} → ℕ → AnnotationKeywords → SchemasOf X → PartOf X → SchemaOf X
@@ -78,7 +111,7 @@ unnamed_term annotations (t ∷ u ∷ us) = cond (are_all t (u ∷ us)) (alike_t
 
 -- null as the default is not deprecated
 abbrev pub form_term : Annotations → FormOf → SchemaOf LeafOf
-form_term annotations (named_fields denies ms) = object_of (keywords_of annotations) denies (required_names ms) (properties_of ms)
+form_term annotations (named_fields b ms) = named_term annotations b.flattened b.map (others_of b) ms
 form_term annotations (unnamed_fields ts) = unnamed_term annotations ts
 form_term annotations no_fields = only_word Any (null_default annotations.description)
 
@@ -100,7 +133,7 @@ texts_schema keywords names = object (texts_facts keywords (map text names)) no_
 
 -- an object that has this member, and perhaps others
 abbrev pub requiring : {X : Type 0} → AnnotationKeywords → List ℕ → SchemaOf X → SchemaOf X
-requiring keywords k s = object_of keywords false (k ∷ []) (property k s no_properties)
+requiring keywords k s = object_of keywords no_part (k ∷ []) (property k s no_properties)
 
 -- the name of a variant as a text
 abbrev pub tag_schema : {X : Type 0} → List ℕ → SchemaOf X
@@ -124,6 +157,24 @@ units_term annotations External names = texts_schema (keywords_of annotations) n
 units_term annotations (Internal tag) names = tags_term annotations tag names
 units_term annotations (Adjacent tag content) names = tags_term annotations tag names
 units_term annotations Untagged names = null_term annotations
+
+-- one of the whole numbers
+abbrev pub numbers_schema : {X : Type 0} → AnnotationKeywords → List ℤ → SchemaOf X
+numbers_schema keywords ns = object (record (word_facts (One word.Integer) keywords) { enum_values = Some (map number ns) }) no_properties no_part no_part
+
+-- an object that has a tag with the number, and perhaps other members
+abbrev pub number_alone : {X : Type 0} → (tag : List ℕ) → ℤ → SchemaOf X
+number_alone tag n = requiring no_annotations tag (numbers_schema no_annotations (n ∷ []))
+
+abbrev pub number_tags : Annotations → (tag : List ℕ) → List ℤ → SchemaOf LeafOf
+number_tags annotations tag ns = one_of (keywords_of annotations) (schemas_of (map (number_alone tag) ns))
+
+-- variants without fields, by the numbers that stand for them
+abbrev pub numbers_term : Annotations → Tagging → List ℤ → SchemaOf LeafOf
+numbers_term annotations External ns = numbers_schema (keywords_of annotations) ns
+numbers_term annotations (Internal tag) ns = number_tags annotations tag ns
+numbers_term annotations (Adjacent tag content) ns = number_tags annotations tag ns
+numbers_term annotations Untagged ns = null_term annotations
 
 -- ---- enums of which a variant has fields
 
@@ -154,19 +205,25 @@ tagged_content keywords tag name (types.leaf x) s = object (tagged_leaf keywords
 tagged_content keywords tag name types.any_value s = tag_alone keywords tag name
 tagged_content keywords tag name _ s = beside_tag keywords tag name s
 
+-- the tag as a last member, or beside what is flattened in a last object, of which the same is said
+abbrev pub tagged_term : Annotations → (tag name : List ℕ) → List FlattenedOf → Option FlattenedMapOf → Others → List MemberOf → SchemaOf LeafOf
+tagged_term annotations tag name [] x o ms =
+    object_of (keywords_of annotations) (others_part o) (required_names ms ++ tag ∷ []) (with_property (properties_of ms) tag (tag_schema name))
+tagged_term annotations tag name (f ∷ fs) x o ms =
+    all_of (keywords_of annotations) (flattened_terms (f ∷ fs) (own_beside x o ms (schema (tag_alone (keywords_of annotations) tag name) no_schemas)))
+
 -- the tag among the members, or beside a content
 abbrev pub internal_term : Annotations → (tag name : List ℕ) → FormOf → SchemaOf LeafOf
-internal_term annotations tag name (named_fields denies ms) =
-    object_of (keywords_of annotations) denies (required_names ms ++ tag ∷ []) (with_property (properties_of ms) tag (tag_schema name))
+internal_term annotations tag name (named_fields b ms) = tagged_term annotations tag name b.flattened b.map (others_of b) ms
 internal_term annotations tag name (unnamed_fields (t ∷ [])) = tagged_content (keywords_of annotations) tag name t (unnamed_term annotations (t ∷ []))
 internal_term annotations tag name (unnamed_fields ts) = beside_tag (keywords_of annotations) tag name (unnamed_term annotations ts)
 internal_term annotations tag name no_fields = tag_alone (keywords_of annotations) tag name
 
 -- a content and a tag
 abbrev pub adjacent_term : {X : Type 0} → AnnotationKeywords → (tag content name : List ℕ) → SchemaOf X → SchemaOf X
-adjacent_term keywords tag content name s = object_of keywords false (content ∷ tag ∷ []) (property content s (property tag (tag_schema name) no_properties))
+adjacent_term keywords tag content name s = object_of keywords no_part (content ∷ tag ∷ []) (property content s (property tag (tag_schema name) no_properties))
 
--- a variant with fields: under its name, with a tag, or as it is. What is said of it stands on the whole, and where the fields stand in it on these too.
+-- a variant with fields: under its name, with a tag, or as it is. What is said of it stands on the whole, and on the fields where they stand in it; beside what is flattened on the object of the tag instead.
 abbrev pub told_term : Annotations → Tagging → (name : List ℕ) → FormOf → SchemaOf LeafOf
 told_term annotations External name form = requiring (keywords_of annotations) name (form_term annotations form)
 told_term annotations (Internal tag) name form = internal_term annotations tag name form
@@ -175,7 +232,7 @@ told_term annotations Untagged name form = form_term annotations form
 
 abbrev pub variant_form : Annotations → Tagging → (name : List ℕ) → FormOf → SchemaOf LeafOf
 variant_form annotations tagging name no_fields = unit_term annotations tagging name
-variant_form annotations tagging name (named_fields denies ms) = told_term annotations tagging name (named_fields denies ms)
+variant_form annotations tagging name (named_fields b ms) = told_term annotations tagging name (named_fields b ms)
 variant_form annotations tagging name (unnamed_fields ts) = told_term annotations tagging name (unnamed_fields ts)
 
 abbrev pub variant_term : Tagging → VariantOf → SchemaOf LeafOf
@@ -186,6 +243,7 @@ variant_term tagging x = variant_form x.annotations tagging x.name x.form
 abbrev pub body_term : Annotations → BodyOf → SchemaOf LeafOf
 body_term annotations (fields form) = form_term annotations form
 body_term annotations (units tagging names) = units_term annotations tagging names
+body_term annotations (numbers tagging ns) = numbers_term annotations tagging ns
 body_term annotations (variants tagging xs) = one_of (keywords_of annotations) (schemas_of (map (variant_term tagging) xs))
 
 -- The schema of a declaration: of a struct an object with a property for each member, a list or its content, or null as the default; of an enum its variants.

@@ -8,11 +8,14 @@ ghost use Rattle.shapes.specs.Declarations.{variants as told_variants};
 ghost use Rattle.shapes.specs.Views.{variant_view, body_view, declaration_view};
 ghost use Rattle.terms.specs.Terms.{tag_alone, tags_term, units_term, body_term, term};
 
+use crate::field::keywords_of;
 use crate::form::form_term;
+use crate::numbers::numbers_term;
+use crate::object::one_of;
 use crate::tagged::{null_term, tag_alone, texts_schema};
 use crate::variants::variant_terms;
-use component::{Term, annotated};
-use schema_trees::{Annotations as SchemaAnnotations, OneOfSchema, Tree};
+use component::Term;
+use schema_trees::Annotations as SchemaAnnotations;
 use shapes::{Annotations, Body, Declaration, Tagging, Variant};
 use std::alloc::{AllocError, Global};
 use texts::{List, Text};
@@ -37,15 +40,9 @@ fn tags_term(
 ) -> Result<Term, AllocError>
     ensures { IfOk result (λ t. term_view t ≡ tags_term annotations.now tag.now names.now) }
 {
-    let keywords = annotated(alloc, annotations.deprecated, &annotations.description)?;
+    let keywords = keywords_of(alloc, annotations)?;
     let items = tags(alloc, tag, names)?;
-    Ok(Tree::OneOf(Box::new(
-        alloc,
-        OneOfSchema {
-            items,
-            annotations: keywords,
-        },
-    )?))
+    one_of(alloc, items, keywords)
 }
 
 /// The schema of an enum whose variants have no fields.
@@ -59,7 +56,7 @@ fn units_term(
 {
     match tagging {
         Tagging::External => {
-            let keywords = annotated(alloc, annotations.deprecated, &annotations.description)?;
+            let keywords = keywords_of(alloc, annotations)?;
             texts_schema(alloc, keywords, names)
         }
         Tagging::Internal { tag } | Tagging::Adjacent { tag, .. } => {
@@ -79,15 +76,9 @@ fn variants_term(
     ensures { IfOk result (λ t. term_view t
         ≡ body_term annotations.now (told_variants tagging.now (map variant_view variants.now))) }
 {
-    let keywords = annotated(alloc, annotations.deprecated, &annotations.description)?;
+    let keywords = keywords_of(alloc, annotations)?;
     let items = variant_terms(alloc, tagging, variants)?;
-    Ok(Tree::OneOf(Box::new(
-        alloc,
-        OneOfSchema {
-            items,
-            annotations: keywords,
-        },
-    )?))
+    one_of(alloc, items, keywords)
 }
 
 /// The schema of the body of a declaration of which this is said.
@@ -97,6 +88,9 @@ pub fn body_term(alloc: Global, annotations: &Annotations, body: &Body) -> Resul
     match body {
         Body::Fields(form) => form_term(alloc, annotations, form),
         Body::Units { tagging, names } => units_term(alloc, annotations, tagging, names.as_slice()),
+        Body::Numbers { tagging, numbers } => {
+            numbers_term(alloc, annotations, tagging, numbers.as_slice())
+        }
         Body::Variants { tagging, variants } => {
             variants_term(alloc, annotations, tagging, variants.as_slice())
         }

@@ -19,8 +19,15 @@ pub fn form_term(alloc: Global, annotations: &Annotations, form: &Form) -> Resul
     match form {
         Form::Named {
             denies_others,
+            beside,
             members,
-        } => named_term(alloc, annotations, *denies_others, members.as_slice()),
+        } => named_term(
+            alloc,
+            annotations,
+            *denies_others,
+            beside,
+            members.as_slice(),
+        ),
         Form::Unnamed(types) => unnamed_term(alloc, annotations, types.as_slice()),
         Form::Unit => null_default(alloc, &annotations.description),
     }

@@ -2,6 +2,7 @@
 
 ghost use Rattle.terms.specs.InstanceTerms.{RootTerms};
 ghost use Rattle.terms.specs.Meaning.{TermsAccept, InstanceTermsAccept, PlacesAccept};
+ghost use Rattle.terms.specs.Telling.{HasOneName, NumbersTell, SchemasTell, TagsTell};
 
 /// The term of a declaration with a plain body accepts a value exactly if the value has the body's shape, where each leaf
 /// accepts what has the shape of its instance.
@@ -27,6 +28,18 @@ pub fn places_accept()
     ensures { PlacesAccept }
 {
     open_types::types_stay_without_arguments();
+}
+
+/// What the schema of a variant accepts tells the variant, whatever its leaves accept; so does that of a tag with a name or a
+/// number. Of names whose variants it tells a value has one alone: with a tag any value, without one a text or a map of one
+/// member.
+pub fn schemas_tell()
+    ensures told { SchemasTell }
+    ensures tags { TagsTell }
+    ensures numbers { NumbersTell }
+    ensures names { HasOneName }
+{
+    shapes::variants_are_told();
 }
 
 /// The term of an instance without arguments is its declaration's.

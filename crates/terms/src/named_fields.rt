@@ -1,18 +1,20 @@
 //! The schemas of named fields.
 
 ghost use Rattle.std.specs.Prelude.{◌≡◌, ◌++◌, [], ◌∷◌, map, IfOk, OnOk};
-ghost use Rattle.schema_trees.specs.Schema.{named_views};
+ghost use Rattle.schema_trees.specs.Schema.{named_views, tree_views, schema, no_schemas};
 ghost use Rattle.component.specs.Leaves.{leaf_view, term_view};
-ghost use Rattle.shapes.specs.Declarations.{named_fields};
-ghost use Rattle.shapes.specs.Views.{member_view};
+ghost use Rattle.shapes.specs.Declarations.{named_fields, others_of};
+ghost use Rattle.shapes.specs.Views.{member_view, beside_view};
 ghost use Rattle.open_types.specs.Open.{open_view};
-ghost use Rattle.terms.specs.Terms.{field_term, properties_of, required_names, form_term, internal_term, tag_schema, with_property};
+ghost use Rattle.terms.specs.Terms.{keywords_of, field_term, properties_of, required_names, others_part, object_of, own_term, own_beside, flattened_terms, form_term, internal_term, tag_alone, tag_schema, with_property};
 
-use crate::field::field_term;
-use crate::object::object_term;
-use crate::tagged::{push_name, push_tag};
-use component::{Term, annotated};
-use shapes::{Annotations, Member};
+use crate::field::{field_term, keywords_of};
+use crate::flattened::{flattened_terms, others_of};
+use crate::object::{all_of, object_term};
+use crate::tagged::{push_name, push_tag, tag_alone};
+use component::Term;
+use schema_trees::Annotations as SchemaAnnotations;
+use shapes::{Annotations, Beside, Member, flattened_of, has_map};
 use std::alloc::{AllocError, Global};
 use texts::{List, Text};
 
@@ -65,20 +67,74 @@ fn required_of(alloc: Global, members: &[Member]) -> Result<List<Text>, AllocErr
     Ok(required)
 }
 
-/// The schema of fields with these members, which denies others or does not.
+/// The object of the members, beside which others may be so.
+fn own_term(
+    alloc: Global,
+    keywords: SchemaAnnotations,
+    denies: bool,
+    beside: &Option<Box<Beside>>,
+    members: &[Member],
+) -> Result<Term, AllocError>
+    ensures { IfOk result (λ t. term_view t ≡ own_term keywords
+        (others_of (beside_view denies beside.now)) (map member_view members.now)) }
+{
+    let required = required_of(alloc, members)?;
+    let properties = properties_of(alloc, members)?;
+    let others = others_of(alloc, denies, beside)?;
+    object_term(alloc, properties, others, required, keywords)
+}
+
+/// The object of the members beside what is flattened, where it has a property or a map.
+fn own_items(
+    alloc: Global,
+    denies: bool,
+    beside: &Option<Box<Beside>>,
+    members: &[Member],
+) -> Result<List<Term>, AllocError>
+    ensures { let b = beside_view denies beside.now in
+        IfOk result (λ items. tree_views leaf_view items
+        ≡ own_beside b.map (others_of b) (map member_view members.now) no_schemas) }
+{
+    let mut items = List::new(alloc);
+    if has_map(beside) || !members.is_empty() {
+        items.push(own_term(alloc, SchemaAnnotations::new(), denies, beside, members)?)?;
+    }
+    Ok(items)
+}
+
+/// The schemas of what is flattened, and the object of the members behind them.
+fn items_beside(
+    alloc: Global,
+    denies: bool,
+    beside: &Option<Box<Beside>>,
+    members: &[Member],
+) -> Result<List<Term>, AllocError>
+    ensures { let b = beside_view denies beside.now in
+        IfOk result (λ items. tree_views leaf_view items ≡ flattened_terms b.flattened
+        (own_beside b.map (others_of b) (map member_view members.now) no_schemas)) }
+{
+    let mut items = flattened_terms(alloc, flattened_of(beside))?;
+    items.append(own_items(alloc, denies, beside, members)?)?;
+    Ok(items)
+}
+
+/// The schema of named fields.
 pub(crate) fn named_term(
     alloc: Global,
     annotations: &Annotations,
     denies: bool,
+    beside: &Option<Box<Beside>>,
     members: &[Member],
 ) -> Result<Term, AllocError>
-    ensures { IfOk result (λ t. term_view t
-        ≡ form_term annotations.now (named_fields denies (map member_view members.now))) }
+    ensures { IfOk result (λ t. term_view t ≡ form_term annotations.now
+        (named_fields (beside_view denies beside.now) (map member_view members.now))) }
 {
-    let keywords = annotated(alloc, annotations.deprecated, &annotations.description)?;
-    let required = required_of(alloc, members)?;
-    let properties = properties_of(alloc, members)?;
-    object_term(alloc, properties, denies, required, keywords)
+    let keywords = keywords_of(alloc, annotations)?;
+    if flattened_of(beside).is_empty() {
+        return own_term(alloc, keywords, denies, beside, members);
+    }
+    let items = items_beside(alloc, denies, beside, members)?;
+    all_of(alloc, items, keywords)
 }
 
 /// The names of the members that must be there, and the tag behind them.
@@ -106,21 +162,66 @@ fn tagged_properties(
     Ok(properties)
 }
 
-/// The schema of such fields with a tag behind their members, whose text is the name.
-pub(crate) fn tagged_named_term(
+/// The object of the members with the tag behind them, whose text is the name, beside which others may be so.
+fn tagged_own_term(
     alloc: Global,
-    annotations: &Annotations,
+    keywords: SchemaAnnotations,
     denies: bool,
+    beside: &Option<Box<Beside>>,
     members: &[Member],
     tag: &Text,
     name: &Text,
 ) -> Result<Term, AllocError>
-    ensures { IfOk result (λ t. term_view t
-        ≡ internal_term annotations.now tag.now name.now
-        (named_fields denies (map member_view members.now))) }
+    ensures { let ms = map member_view members.now in
+        IfOk result (λ t. term_view t ≡ object_of keywords
+        (others_part (others_of (beside_view denies beside.now))) (required_names ms ++ tag.now ∷ [])
+        (with_property (properties_of ms) tag.now (tag_schema name.now))) }
 {
-    let keywords = annotated(alloc, annotations.deprecated, &annotations.description)?;
     let required = tagged_required(alloc, members, tag)?;
     let properties = tagged_properties(alloc, members, tag, name)?;
-    object_term(alloc, properties, denies, required, keywords)
+    let others = others_of(alloc, denies, beside)?;
+    object_term(alloc, properties, others, required, keywords)
+}
+
+/// The schemas of what is flattened and the object of the members, and behind them an object that has the tag.
+fn tagged_items(
+    alloc: Global,
+    annotations: &Annotations,
+    denies: bool,
+    beside: &Option<Box<Beside>>,
+    members: &[Member],
+    tag: &Text,
+    name: &Text,
+) -> Result<List<Term>, AllocError>
+    ensures { let b = beside_view denies beside.now in
+        IfOk result (λ items. tree_views leaf_view items ≡ flattened_terms b.flattened
+        (own_beside b.map (others_of b) (map member_view members.now)
+        (schema (tag_alone (keywords_of annotations.now) tag.now name.now) no_schemas))) }
+{
+    let keywords = keywords_of(alloc, annotations)?;
+    let last = tag_alone(alloc, keywords, tag, name)?;
+    let mut items = items_beside(alloc, denies, beside, members)?;
+    items.push(last)?;
+    Ok(items)
+}
+
+/// The schema of named fields with a tag, whose text is the name.
+pub(crate) fn tagged_named_term(
+    alloc: Global,
+    annotations: &Annotations,
+    denies: bool,
+    beside: &Option<Box<Beside>>,
+    members: &[Member],
+    tag: &Text,
+    name: &Text,
+) -> Result<Term, AllocError>
+    ensures { IfOk result (λ t. term_view t ≡ internal_term annotations.now tag.now name.now
+        (named_fields (beside_view denies beside.now) (map member_view members.now))) }
+{
+    let keywords = keywords_of(alloc, annotations)?;
+    if flattened_of(beside).is_empty() {
+        return tagged_own_term(alloc, keywords, denies, beside, members, tag, name);
+    }
+    let items = tagged_items(alloc, annotations, denies, beside, members, tag, name)?;
+    all_of(alloc, items, keywords)
 }

@@ -1,43 +1,33 @@
 //! Objects with properties.
 
 ghost use Rattle.std.specs.Prelude.{◌≡◌, IfOk};
-ghost use Rattle.schema_trees.specs.Schema.{object_view, named_views, additional_view};
+ghost use Rattle.schema_trees.specs.Schema.{one_of, all_of, object_view, named_views, tree_views, additional_view};
 ghost use Rattle.component.specs.Leaves.{leaf_view, term_view};
-ghost use Rattle.terms.specs.Terms.{others_of, object_of};
+ghost use Rattle.terms.specs.Terms.{object_of};
 
 use component::{Term, TermLeaf};
 use schema_trees::{
-    Additional, Annotations as SchemaAnnotations, Object, SchemaTypeInner, Tree, TypeWord,
+    Additional, AllOfSchema, Annotations as SchemaAnnotations, Object, OneOfSchema,
+    SchemaTypeInner, Tree, TypeWord,
 };
 use std::alloc::{AllocError, Global};
 use texts::{List, Text};
 
-/// What members other than the properties may be.
-fn others_of(denies: bool) -> Additional<TermLeaf>
-    ensures { additional_view leaf_view result ≡ others_of denies }
-{
-    if denies {
-        Additional::Truth(false)
-    } else {
-        Additional::Absent
-    }
-}
-
-/// An object with these properties, which denies others or does not.
+/// An object with these properties, beside which others may be so.
 fn object_of(
     alloc: Global,
     properties: List<(Text, Term)>,
-    denies: bool,
+    others: Additional<TermLeaf>,
     required: List<Text>,
     keywords: SchemaAnnotations,
 ) -> Object<TermLeaf>
-    ensures { object_view leaf_view result
-        ≡ object_of keywords denies required (named_views leaf_view properties) }
+    ensures { object_view leaf_view result ≡ object_of keywords
+        (additional_view leaf_view others) required (named_views leaf_view properties) }
 {
     Object {
         properties,
         required,
-        additional: others_of(denies),
+        additional: others,
         ..Object::new(alloc, TypeWord::One(SchemaTypeInner::Object), keywords)
     }
 }
@@ -49,19 +39,49 @@ pub(crate) fn boxed(alloc: Global, object: Object<TermLeaf>) -> Result<Term, All
     Ok(Tree::Object(Box::new(alloc, object)?))
 }
 
+/// One of the schemas.
+pub(crate) fn one_of(
+    alloc: Global,
+    items: List<Term>,
+    keywords: SchemaAnnotations,
+) -> Result<Term, AllocError>
+    ensures { IfOk result (λ t. term_view t ≡ one_of keywords (tree_views leaf_view items)) }
+{
+    let schema = OneOfSchema {
+        items,
+        annotations: keywords,
+    };
+    Ok(Tree::OneOf(Box::new(alloc, schema)?))
+}
+
+/// All of the schemas.
+pub(crate) fn all_of(
+    alloc: Global,
+    items: List<Term>,
+    keywords: SchemaAnnotations,
+) -> Result<Term, AllocError>
+    ensures { IfOk result (λ t. term_view t ≡ all_of keywords (tree_views leaf_view items)) }
+{
+    let schema = AllOfSchema {
+        items,
+        annotations: keywords,
+    };
+    Ok(Tree::AllOf(Box::new(alloc, schema)?))
+}
+
 /// The schema of such an object.
 pub(crate) fn object_term(
     alloc: Global,
     properties: List<(Text, Term)>,
-    denies: bool,
+    others: Additional<TermLeaf>,
     required: List<Text>,
     keywords: SchemaAnnotations,
 ) -> Result<Term, AllocError>
-    ensures { IfOk result (λ t. term_view t
-        ≡ object_of keywords denies required (named_views leaf_view properties)) }
+    ensures { IfOk result (λ t. term_view t ≡ object_of keywords
+        (additional_view leaf_view others) required (named_views leaf_view properties)) }
 {
     boxed(
         alloc,
-        object_of(alloc, properties, denies, required, keywords),
+        object_of(alloc, properties, others, required, keywords),
     )
 }

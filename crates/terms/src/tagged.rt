@@ -8,11 +8,11 @@ ghost use Rattle.leaves.specs.Leaves.{format_of};
 ghost use Rattle.component.specs.Leaves.{leaf_view, term_view};
 ghost use Rattle.terms.specs.Terms.{texts_facts, texts_schema, requiring, tag_schema, tag_alone, null_term, with_property, beside_tag, tagged_leaf, adjacent_term};
 
-use crate::object::{boxed, object_term};
+use crate::object::{all_of, boxed, object_term};
 use component::{Term, TermLeaf, annotated_null, bounds_of};
 use leaves::Leaf;
 use schema_trees::{
-    AllOfSchema, Annotations as SchemaAnnotations, Json, Object, SchemaTypeInner, Tree, TypeWord,
+    Additional, Annotations as SchemaAnnotations, Json, Object, SchemaTypeInner, TypeWord,
 };
 use shapes::Annotations;
 use std::alloc::{AllocError, Global};
@@ -135,7 +135,7 @@ pub fn requiring(
 {
     let properties = one_property(alloc, name, schema)?;
     let required = one_name(alloc, name)?;
-    object_term(alloc, properties, false, required, keywords)
+    object_term(alloc, properties, Additional::Absent, required, keywords)
 }
 
 /// An object that has a tag with the name as its text, and perhaps other members.
@@ -180,7 +180,7 @@ pub(crate) fn adjacent_term(
     let mut properties = one_property(alloc, content, schema)?;
     push_tag(alloc, &mut properties, tag, name)?;
     let required = two_names(alloc, content, tag)?;
-    object_term(alloc, properties, false, required, keywords)
+    object_term(alloc, properties, Additional::Absent, required, keywords)
 }
 
 /// The content, and an object that has the tag.
@@ -208,13 +208,7 @@ pub(crate) fn beside_tag(
         (λ t. term_view t ≡ beside_tag keywords tag.now name.now (term_view schema)) }
 {
     let items = with_tag(alloc, tag, name, schema)?;
-    Ok(Tree::AllOf(Box::new(
-        alloc,
-        AllOfSchema {
-            items,
-            annotations: keywords,
-        },
-    )?))
+    all_of(alloc, items, keywords)
 }
 
 /// The printed name of the format of the built-in name.

@@ -6,8 +6,9 @@ ghost use Rattle.component.specs.Leaves.{leaf_view, term_view};
 ghost use Rattle.open_types.specs.Open.{open_view};
 ghost use Rattle.shapes.specs.Declarations.{unnamed_fields};
 ghost use Rattle.shapes.specs.Views.{variant_view};
-ghost use Rattle.terms.specs.Terms.{keywords_of, variant_term, tagged_content, internal_term};
+ghost use Rattle.terms.specs.Terms.{variant_term, tagged_content, internal_term};
 
+use crate::field::keywords_of;
 use crate::form::form_term;
 use crate::named_fields::tagged_named_term;
 use crate::tagged::{
@@ -15,19 +16,12 @@ use crate::tagged::{
     tagged_leaf,
 };
 use crate::unnamed_fields::unnamed_term;
-use component::{Term, annotated};
+use component::Term;
 use open_types::OpenType;
 use schema_trees::Annotations as SchemaAnnotations;
 use shapes::{Annotations, Form, Tagging, Variant};
 use std::alloc::{AllocError, Global};
 use texts::{List, Text};
-
-/// What is said, as keywords of a schema.
-fn keywords_of(alloc: Global, annotations: &Annotations) -> Result<SchemaAnnotations, AllocError>
-    ensures { IfOk result (λ keywords. keywords ≡ keywords_of annotations.now) }
-{
-    annotated(alloc, annotations.deprecated, &annotations.description)
-}
 
 /// The schema of a variant that nothing tells.
 fn untagged_term(alloc: Global, variant: &Variant) -> Result<Term, AllocError>
@@ -111,11 +105,13 @@ fn internal_term(alloc: Global, tag: &Text, variant: &Variant) -> Result<Term, A
         Form::Unit => tag_alone(alloc, keywords_of(alloc, annotations)?, tag, name),
         Form::Named {
             denies_others,
+            beside,
             members,
         } => tagged_named_term(
             alloc,
             annotations,
             *denies_others,
+            beside,
             members.as_slice(),
             tag,
             name,

@@ -1,11 +1,8 @@
-use Rattle.std.proofs.Common.{◌≡◌, ◌∙◌, List, length, map, ap, sym, subst, inl, inr}
+use Rattle.std.proofs.Common.{List, map, subst, inl, inr}
 use Rattle.std.proofs.lemmas.Result.{err_from_is_err_and}
 use Rattle.syntax.specs.Items.{declarations_view}
-use Rattle.shapes.specs.Declarations.{DeclarationOf, AreFitting}
 use Rattle.shapes.specs.declared.declaration.Declaration.{Declaration}
 use Rattle.shapes.specs.Views.{declaration_view}
-use Rattle.instances.specs.Lists.{AreInstances}
-use Rattle.instances.specs.Names.{instance_names}
 use Rattle.plainness.specs.Unplain.{AreUnplain}
 use Rattle.compose.specs.Sets.{declarations_of}
 use Rattle.compose.specs.Unplain.{AreDeclaredIn}

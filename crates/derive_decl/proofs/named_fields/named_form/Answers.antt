@@ -2,7 +2,7 @@ use Rattle.std.proofs.Common.{map, None, cond, option_map, ap, sym, ◌∙◌, s
 use Rattle.std.proofs.lemmas.Result.{err_from_is_err_and}
 use Rattle.attributes.specs.Attributes.{attribute_view, serde_items}
 use Rattle.syntax.specs.Items.{field_view}
-use Rattle.shapes.specs.Declarations.{named_fields}
+use Rattle.shapes.specs.Declarations.{alone, named_fields}
 use Rattle.derive_decl.specs.Fields.{field_rules}
 use Rattle.derive_decl.specs.Resolved.{named_form}
 use Rattle.derive_decl.specs.Faults.{AreFaultyMembers}
@@ -39,4 +39,4 @@ returns-clause-form c =
     let rules = c.in_ok-rules.rules in
     ap (λ b. cond b (named_form around (field_rules items) fs) None) (rules_allowed items rules c.in_ok-rules.ensures.read)
     ∙ ap (λ r. named_form around r fs) (sym (rules_are items rules c.in_ok-rules.ensures.read))
-    ∙ ap (option_map (named_fields rules.deny_unknown_fields)) c.in_ok-members.ensures.members
+    ∙ ap (option_map (named_fields (alone rules.deny_unknown_fields))) c.in_ok-members.ensures.members

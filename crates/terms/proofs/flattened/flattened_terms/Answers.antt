@@ -1,0 +1,10 @@
+use Rattle.std.proofs.Common.{◌≡◌, map, take, ap, ◌∙◌, arith}
+use Rattle.std.proofs.lemmas.Grind.{common_steps}
+use Rattle.schema_trees.specs.Schema.{schemas_of}
+use Rattle.terms.proofs.Joined.{flattened_in, flattened_are}
+use Rattle.terms.proofs.flattened.flattened_terms.Goals as goal
+
+pub returns : goal.returns
+returns c =
+    let whole : take c.loop-field.field-index c.args.flattened.now ≡ c.args.flattened.now = grind (arith, common_steps) in
+    ap schemas_of (c.loop-field.invariant ∙ ap (map flattened_in) whole) ∙ flattened_are c.args.flattened.now
