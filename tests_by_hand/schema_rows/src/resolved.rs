@@ -33,9 +33,14 @@ fn push_form(text: &mut String, form: &Form) -> Result<(), AllocError> {
     match form {
         Form::Named {
             denies_others,
+            beside,
             members,
         } => {
-            text.push_str(" named:")?;
+            text.push_str(if beside.is_some() {
+                " named beside what is flattened:"
+            } else {
+                " named:"
+            })?;
             push_members(text, members.as_slice())?;
             text.push_str(if *denies_others {
                 " and no others"
@@ -118,6 +123,10 @@ fn push_declaration(text: &mut String, of: &Declaration) -> Result<(), AllocErro
     match &of.body {
         Body::Fields(form) => push_form(text, form)?,
         Body::Units { tagging, names } => push_units(text, tagging, names.as_slice())?,
+        Body::Numbers { tagging, .. } => {
+            push_tagging(text, tagging)?;
+            text.push_str(" by numbers")?;
+        }
         Body::Variants { tagging, variants } => push_mixed(text, tagging, variants.as_slice())?,
     }
     push_annotations(text, &of.annotations)
