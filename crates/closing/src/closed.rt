@@ -21,13 +21,14 @@ use open_types::OpenType;
 use schema_trees::{Annotations, Object, RefLeaf, Schema, Tree, TypeWord};
 use shapes::Declaration;
 use std::alloc::{AllocError, Global};
+use texts::Text;
 
 /// What stands at the leaves of a term: the schemas of instances, as far as they are made, and references to components.
 #[derive(Drop)]
 struct Closing<'s> {
     declared: &'s [Declaration],
     reach: &'s Reach,
-    /// The schema of each instance; of one that is not made yet, one that says nothing.
+    /// The schema of each instance; of one that is not made yet, what stands in its place.
     made: &'s [Schema],
 }
 
@@ -37,6 +38,14 @@ pub(crate) fn any_value(alloc: Global) -> Result<Schema, AllocError>
 {
     let object = Object::new(alloc, TypeWord::Any, Annotations::new());
     Ok(Tree::Object(Box::new(alloc, object)?))
+}
+
+/// What stands in the place of a schema that is not made yet, or that was taken: a reference to nothing. It takes no memory.
+pub(crate) fn in_its_place(alloc: Global) -> Schema {
+    Tree::Leaf(RefLeaf {
+        name: Text::from(String::new(alloc)),
+        annotations: Annotations::new(),
+    })
 }
 
 /// The schema of the instance of a number; past the end, one that says nothing.
@@ -127,13 +136,13 @@ impl Fill for Closing<'_> {
     }
 }
 
-/// So many schemas that say nothing.
+/// So many places of schemas that are not made yet.
 fn none_made(alloc: Global, count: usize) -> Result<Vec<Schema>, AllocError>
     ensures { IfOk result (λ made. length made.items ≡ count) }
 {
     let mut made = Vec::new(alloc);
     for _ in 0..count {
-        made.push(any_value(alloc)?)?;
+        made.push(in_its_place(alloc))?;
     }
     Ok(made)
 }

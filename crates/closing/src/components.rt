@@ -11,7 +11,7 @@ ghost use Rattle.closing.specs.Described.{AreShallow};
 ghost use Rattle.closing.specs.Links.{inlining_of};
 ghost use Rattle.closing.specs.Made.{AreAlong, AreTerms, AreEntriesOf};
 
-use crate::closed::{any_value, closed};
+use crate::closed::{closed, in_its_place};
 use component::Term;
 use inlining::Shown;
 use instances::Reach;
@@ -53,7 +53,7 @@ pub fn components_of(
     let mut made = closed(alloc, declared, reach, terms, order, marks)?;
     let mut components = Components::new(alloc);
     for number in shown.components.as_slice() {
-        let schema = std::mem::replace(&mut made[*number], any_value(alloc)?);
+        let schema = std::mem::replace(&mut made[*number], in_its_place(alloc));
         let name = names[*number].copy(alloc)?;
         components.insert(name, schema)?;
     }

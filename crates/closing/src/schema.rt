@@ -13,7 +13,7 @@ ghost use Rattle.closing.specs.Described.{AreShallow};
 ghost use Rattle.closing.specs.Links.{inlining_of};
 ghost use Rattle.closing.specs.Made.{AreTerms};
 
-use crate::closed::{any_value, closed};
+use crate::closed::{closed, in_its_place};
 use crate::links::term_of;
 use component::{Term, TermLeaf};
 use inlining::find_shown;
@@ -104,5 +104,5 @@ pub fn schema_of(
     let marks = shown.marks.as_slice();
     let terms = marked_terms(alloc, declared, reach, marks)?;
     let mut made = closed(alloc, declared, reach, terms, order, marks)?;
-    Ok(std::mem::replace(&mut made[number], any_value(alloc)?))
+    Ok(std::mem::replace(&mut made[number], in_its_place(alloc)))
 }
