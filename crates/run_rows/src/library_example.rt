@@ -1,8 +1,6 @@
 //! The calls of the library: `derive_files`, `derive_components` with a configuration, and `run` over streams in memory.
-#![tactic(auto)]
 
-mod pets;
-
+use crate::pets::print_file;
 use schema_gen::{
     Config, Derived, HonestFiles, HonestSink, HonestSource, Status, Words, derive_components, run,
 };
@@ -36,13 +34,14 @@ fn print_run(rt: &HostRuntime, source: &str) -> anyhow::Result<()> {
     print_outcome(rt, status, out.as_slice(), err.as_slice())
 }
 
-fn main(rt: HostRuntime) -> anyhow::Result<()> {
-    pets::print_file(
-        &rt,
+/// Makes each of the calls, and prints what comes of it.
+pub(crate) fn print(rt: &HostRuntime) -> anyhow::Result<()> {
+    print_file(
+        rt,
         "type Id = u64;\n#[derive(Serialize)]\npub struct Pet { id: Id, tags: Vec<Tag> }\n",
     )?;
-    pets::print_file(
-        &rt,
+    print_file(
+        rt,
         "#[derive(Serialize)]\npub struct Pet { owner: Owner }\n",
     )?;
     let source =
@@ -50,7 +49,7 @@ fn main(rt: HostRuntime) -> anyhow::Result<()> {
     let renames =
         r#"{"renames":[{"rule":"camelCase","place":"field","from":"full_name","to":"fullName"}]}"#;
     let config = Config::from_slice(rt.alloc(), renames.as_bytes())?;
-    print_derived(&rt, &derive_components(rt.alloc(), source, &config)?)?;
-    print_run(&rt, "struct Pet { name: Option<String> }")?;
-    print_run(&rt, "struct Pet { owner: Owner }")
+    print_derived(rt, &derive_components(rt.alloc(), source, &config)?)?;
+    print_run(rt, "struct Pet { name: Option<String> }")?;
+    print_run(rt, "struct Pet { owner: Owner }")
 }
