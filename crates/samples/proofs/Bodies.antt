@@ -5,8 +5,8 @@ use Rattle.texts.specs.declared.span.Span.{Span}
 use Rattle.tokens.specs.declared.token.TokenKind.TheVariants.{Ident}
 use Rattle.words.specs.Words.{Word, words_of, token_word, keyword_of, is_reserved, sign_of}
 use Rattle.syntax.specs.Items.{FieldItem}
-use Rattle.spelling.specs.Spelling.{trees_at}
-use Rattle.rings.specs.Rings.{Turn, plain_struct, generic_struct, tagged_enum}
+use Rattle.samples.specs.Spelling.{trees_at}
+use Rattle.samples.specs.Rings.{Turn, plain_struct, generic_struct, tagged_enum}
 use Rattle.samples.proofs.Spelled.{members_spelling}
 use Rattle.samples.proofs.Known.{IsKnown}
 use Rattle.samples.proofs.Fields.{type_words, around_type, read_fields, AreSampleFields, fields_read}

@@ -11,7 +11,7 @@ use Rattle.std.specs.Fmt.{decimal}
 use Rattle.std.specs.List.{AllByRecursion, flat_map, list_all, range_with_len}
 use Rattle.std.specs.Prelude.{nat_lt}
 use Rattle.std.specs.Str.{IsAscii, IsUtf8}
-use Rattle.rings.specs.Rings.{Turn, plain_struct, generic_struct, tagged_enum, letter, turn, name, next, numbers}
+use Rattle.samples.specs.Rings.{Turn, plain_struct, generic_struct, tagged_enum, letter, turn, name, next, numbers}
 use Rattle.samples.specs.Samples.{written_arguments, type_text, declaration_text, numbered_text, sample_text}
 use Rattle.samples.proofs.Names.{IsDigit, decimal_digits}
 

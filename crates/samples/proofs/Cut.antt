@@ -2,8 +2,8 @@
 use Rattle.std.proofs.Common.{ℕ, ◌≤◌, sym, subst}
 use Rattle.std.specs.Str.{IsAscii}
 use Rattle.lexing.specs.Cut.{IsCut}
-use Rattle.spelling.specs.Spelling.{SpelledAreCut, trees_at}
-use Rattle.rings.specs.Rings.{numbers}
+use Rattle.samples.specs.Spelling.{SpelledAreCut, trees_at}
+use Rattle.samples.specs.Rings.{numbers}
 use Rattle.samples.specs.Samples.{sample_text}
 use Rattle.samples.proofs.Spelled.{sample_spelling}
 use Rattle.samples.proofs.Written.{sample_spelled}

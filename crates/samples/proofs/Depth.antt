@@ -3,8 +3,8 @@ use Rattle.std.proofs.Common.{ℕ, zero, suc, ◌≤◌, List, [], ◌∷◌, le
 use Rattle.std.proofs.Math.Nat.{max-le}
 use Rattle.tokens.specs.Trees.{depth}
 use Rattle.lexing.specs.Cut.{most_open}
-use Rattle.spelling.specs.Spelling.{Spelling, blank, token, group, end, ◌▹◌, spelled_text, trees_at}
-use Rattle.rings.specs.Rings.{Turn, plain_struct, generic_struct, tagged_enum, turn, name, next}
+use Rattle.samples.specs.Spelling.{Spelling, blank, token, group, end, ◌▹◌, spelled_text, trees_at}
+use Rattle.samples.specs.Rings.{Turn, plain_struct, generic_struct, tagged_enum, turn, name, next}
 use Rattle.samples.proofs.Spelled.{type_spelling, declaration_spelling, sample_spelling}
 
 -- at most so many brackets are open at a place

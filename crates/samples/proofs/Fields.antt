@@ -17,8 +17,8 @@ use Rattle.shapes.specs.Declarations.{alone, named_fields}
 use Rattle.scopes.specs.Names.{place_among}
 use Rattle.scopes.specs.Parameters.{parameter_counts}
 use Rattle.derive_decl.specs.Resolved.{around_of, form_of}
-use Rattle.spelling.specs.Spelling.{end, trees_at}
-use Rattle.rings.specs.Rings.{Turn, plain_struct, generic_struct, tagged_enum, parameters, arguments, members}
+use Rattle.samples.specs.Spelling.{end, trees_at}
+use Rattle.samples.specs.Rings.{Turn, plain_struct, generic_struct, tagged_enum, parameters, arguments, members}
 use Rattle.samples.proofs.Spelled.{front, back}
 use Rattle.samples.proofs.Known.{called, generics, IsKnown}
 

@@ -17,8 +17,8 @@ use Rattle.shapes.specs.Declarations.{unannotated}
 use Rattle.scopes.specs.Parameters.{type_parameters}
 use Rattle.derive_decl.specs.Attributed.{first_other, attributes_in}
 use Rattle.derive_decl.specs.Whole.{resolved_among}
-use Rattle.spelling.specs.Spelling.{Spelling, trees_at}
-use Rattle.rings.specs.Rings.{Turn, plain_struct, generic_struct, tagged_enum, parameters, arguments, body}
+use Rattle.samples.specs.Spelling.{Spelling, trees_at}
+use Rattle.samples.specs.Rings.{Turn, plain_struct, generic_struct, tagged_enum, parameters, arguments, body}
 use Rattle.samples.proofs.Spelled.{members_spelling, declaration_spelling}
 use Rattle.samples.proofs.Known.{called, IsKnown}
 use Rattle.samples.proofs.Fields.{IsPlaced}

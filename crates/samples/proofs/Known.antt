@@ -11,7 +11,7 @@ use Rattle.resolving.specs.declared.meaning.Meaning.TheVariants as meanings
 use Rattle.resolving.specs.Names.{meaning}
 use Rattle.scopes.specs.Names.{place_among}
 use Rattle.scopes.specs.Scopes.{known_among}
-use Rattle.rings.specs.Rings.{Turn, plain_struct, generic_struct, tagged_enum, letter}
+use Rattle.samples.specs.Rings.{Turn, plain_struct, generic_struct, tagged_enum, letter}
 use Rattle.samples.proofs.Names.{IsDigit}
 
 abbrev pub ident : List ℕ → Span → idents.Ident

@@ -13,3 +13,12 @@ pub mod Heads
 pub mod Items
 pub mod Whole
 pub mod Sound
+pub mod Linked
+pub mod Named
+pub mod Numbered
+pub mod RingPlaces
+pub mod Reached
+pub mod Shown
+pub mod Pieces
+pub mod Cutting
+pub mod Nesting

@@ -6,7 +6,7 @@ use Rattle.std.proofs.lemmas.Bool.{false_from_ne_true}
 use Rattle.std.proofs.lemmas.Fmt.{decimal_injective}
 use Rattle.std.proofs.lemmas.Slice.Eq.{bytes_eq-Decides}
 use Rattle.texts.specs.Names.{is_in, IsDistinct, place_in}
-use Rattle.rings.specs.Rings.{name}
+use Rattle.samples.specs.Rings.{name}
 
 -- a name is of one number
 one_name : (i j : ℕ) → i < 2 ^ 64 → j < 2 ^ 64 → name i ≡ name j → i ≡ j

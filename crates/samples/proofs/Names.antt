@@ -13,7 +13,7 @@ use Rattle.literals.specs.Scanning.{skip}
 use Rattle.tokens.specs.declared.token.TokenKind.TheVariants.{Ident}
 use Rattle.lexing.specs.declared.piece.PieceKind.TheVariants.{Space, Token}
 use Rattle.lexing.specs.Scanning.{class_of, piece_at}
-use Rattle.rings.specs.Rings.{Turn, plain_struct, generic_struct, tagged_enum, letter, turn, name}
+use Rattle.samples.specs.Rings.{Turn, plain_struct, generic_struct, tagged_enum, letter, turn, name}
 
 -- a digit from 0 to 9
 abbrev pub IsDigit : ℕ → Type 0

@@ -5,8 +5,8 @@ use Rattle.std.specs.List.{AllByRecursion}
 use Rattle.unicode_ident.proofs.Computing.{unicode_ident}
 use Rattle.lexing.specs.Scanning.{class_of, piece_at}
 use Rattle.lexing.specs.declared.piece.PieceKind.TheVariants.{Space}
-use Rattle.spelling.specs.Spelling.{Spelling, end, ◌▹◌, text_of, IsCutThere, AreCutThere}
-use Rattle.rings.specs.Rings.{Turn, plain_struct, generic_struct, tagged_enum, turn, name, next}
+use Rattle.samples.specs.Spelling.{Spelling, end, ◌▹◌, text_of, IsCutThere, AreCutThere}
+use Rattle.samples.specs.Rings.{Turn, plain_struct, generic_struct, tagged_enum, turn, name, next}
 use Rattle.samples.proofs.Spelled.{sign, space, type_spelling, members_spelling, tagged_body, attribute_spelling, declaration_spelling, sample_spelling}
 use Rattle.samples.proofs.Names.{IsFoundName, name_found}
 

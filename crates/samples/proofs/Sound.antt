@@ -19,8 +19,8 @@ use Rattle.scopes.specs.Names.{declared_idents, texts, IsGivenTwice}
 use Rattle.derive_decl.specs.Law.{DeclarationsAreExact}
 use Rattle.compose.specs.Bounds.{AreBounded}
 use Rattle.compose.specs.Faults.{AreFaultyDeclarations}
-use Rattle.spelling.specs.Spelling.{SpelledAreCut, trees_at}
-use Rattle.rings.specs.Rings.{IsOpenRing, instance, instances, numbers, ring}
+use Rattle.samples.specs.Spelling.{SpelledAreCut, trees_at}
+use Rattle.samples.specs.Rings.{IsOpenRing, instance, instances, numbers, ring}
 use Rattle.samples.specs.Samples.{sample_text}
 use Rattle.samples.specs.Sound.{IsSoundSample}
 use Rattle.samples.proofs.Spelled.{sample_spelling}

@@ -2,8 +2,8 @@
 use Rattle.std.specs.Prelude.{ℕ, List, [], ◌∷◌, codes}
 use Rattle.tokens.specs.declared.token.Bracket.TheVariants.{Round, Square, Curly}
 use Rattle.tokens.specs.declared.token.TokenKind.TheVariants.{Ident, Literal, Punct}
-use Rattle.spelling.specs.Spelling.{Spelled, Spelling, blank, token, group, end, ◌▹◌}
-use Rattle.rings.specs.Rings.{Turn, plain_struct, generic_struct, tagged_enum, turn, name, next}
+use Rattle.samples.specs.Spelling.{Spelled, Spelling, blank, token, group, end, ◌▹◌}
+use Rattle.samples.specs.Rings.{Turn, plain_struct, generic_struct, tagged_enum, turn, name, next}
 
 -- ---- words, signs and blanks
 

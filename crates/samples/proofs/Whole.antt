@@ -20,8 +20,8 @@ use Rattle.derive_decl.specs.Attributed.{first_other, attributes_among}
 use Rattle.derive_decl.specs.Faults.{AreDerivable}
 use Rattle.derive_decl.specs.Resolved.{all_of}
 use Rattle.derive_decl.specs.Whole.{resolved_among, resolved_declarations}
-use Rattle.spelling.specs.Spelling.{trees_at}
-use Rattle.rings.specs.Rings.{Turn, letter, turn, name, next, parameters, declaration, numbers, ring}
+use Rattle.samples.specs.Spelling.{trees_at}
+use Rattle.samples.specs.Rings.{Turn, letter, turn, name, next, parameters, declaration, numbers, ring}
 use Rattle.samples.proofs.Spelled.{sample_spelling}
 use Rattle.samples.proofs.Names.{IsDigit, decimal_digits}
 use Rattle.samples.proofs.Known.{IsKnown, known_by_letter}

@@ -2,8 +2,8 @@
 use Rattle.std.proofs.Common.{◌≡◌, ℕ, List, [], ◌∷◌, ◌++◌, refl, ap, sym, ◌∙◌, append_assoc}
 use Rattle.std.proofs.lemmas.List.{append-nil}
 use Rattle.std.specs.List.{flat_map}
-use Rattle.spelling.specs.Spelling.{Spelling, text_of}
-use Rattle.rings.specs.Rings.{Turn, plain_struct, generic_struct, tagged_enum, turn, name, next, numbers}
+use Rattle.samples.specs.Spelling.{Spelling, text_of}
+use Rattle.samples.specs.Rings.{Turn, plain_struct, generic_struct, tagged_enum, turn, name, next, numbers}
 use Rattle.samples.specs.Samples.{written_arguments, declaration_text, numbered_text, sample_text}
 use Rattle.samples.proofs.Spelled.{type_spelling, declaration_spelling, sample_spelling}
 

@@ -1,2 +1,4 @@
+pub mod Rings
 pub mod Samples
 pub mod Sound
+pub mod Spelling

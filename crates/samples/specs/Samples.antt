@@ -1,7 +1,7 @@
 -- The text of a sample: the declarations of a ring, as they are written in Rust.
 use Rattle.std.specs.Prelude.{ℕ, List, [], ◌++◌, codes}
 use Rattle.std.specs.List.{flat_map}
-use Rattle.rings.specs.Rings.{Turn, plain_struct, generic_struct, tagged_enum, turn, name, next, numbers}
+use Rattle.samples.specs.Rings.{Turn, plain_struct, generic_struct, tagged_enum, turn, name, next, numbers}
 
 -- the arguments of a type, as they are written
 abbrev pub written_arguments : Turn → List ℕ

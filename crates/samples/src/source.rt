@@ -1,7 +1,7 @@
 //! The text of a sample.
 
 ghost use Rattle.std.specs.Prelude.{◌≡◌, ◌<◌, ◌≤◌, ◌++◌, OnOk, IfOk, string_bytes};
-ghost use Rattle.rings.specs.Rings.{turn, name};
+ghost use Rattle.samples.specs.Rings.{turn, name};
 ghost use Rattle.samples.specs.Samples.{declaration_text, most_declarations, sample_text, type_text};
 
 use std::alloc::{AllocError, Global};

@@ -38,7 +38,7 @@ pub use Rattle.reporting.specs.Numbers
 pub use Rattle.reporting.specs.Owed as RunsOwed
 pub use Rattle.reporting.specs.Program
 pub use Rattle.reporting.specs.Report
-pub use Rattle.rings.specs.Rings
+pub use Rattle.samples.specs.Rings
 pub use Rattle.samples.specs.Samples
 pub use Rattle.schema_core.specs.Document
 pub use Rattle.schema_trees.specs.Held as HeldValues

@@ -1,6 +1,6 @@
 use Rattle.std.proofs.Common.{◌≡◌, ◌%◌, ℕ, zero, suc, string_bytes, refl, ap}
 use Rattle.std.proofs.lemmas.Result.{IfOk-weaker}
-use Rattle.rings.specs.Rings.{turn_by, tagged_enum, turn, name}
+use Rattle.samples.specs.Rings.{turn_by, tagged_enum, turn, name}
 use Rattle.samples.specs.Samples.{declaration_text, type_text}
 use Rattle.samples.proofs.source.declaration_of.Goals as goal
 

@@ -1,7 +1,7 @@
 use Rattle.std.proofs.Common.{◌≡◌, ◌++◌, ◌+◌, ◌%◌, ℕ, List, zero, suc, sym, ap, ◌∙◌, append_assoc, arith}
 use Rattle.std.proofs.lemmas.List.{append-nil}
 use Rattle.std.specs.List.{flat_map, range_with_len}
-use Rattle.rings.specs.Rings.{turn, name}
+use Rattle.samples.specs.Rings.{turn, name}
 use Rattle.samples.specs.Samples.{declaration_text, numbered_text, type_text}
 use Rattle.samples.proofs.source.sample_source.Goals as goal
 

@@ -7,9 +7,9 @@ use Rattle.shapes.specs.Declarations.{DeclarationOf, declaration_at}
 use Rattle.shapes.specs.Instances.{places_at}
 use Rattle.shapes.specs.InstanceShape.{IsRoot, IsReachable, root, stands}
 use Rattle.instances.specs.Lists.{IsOneOf, IsWhole, AreInstances, WholeAreInstances}
-use Rattle.rings.specs.Rings.{Turn, plain_struct, generic_struct, tagged_enum, turn, parameters, arguments, instance, next, ring, instances}
-use Rattle.rings.proofs.Numbered.{declared, long, among, numbered, different}
-use Rattle.rings.proofs.Places.{next_stands, stands_alone}
+use Rattle.samples.specs.Rings.{Turn, plain_struct, generic_struct, tagged_enum, turn, parameters, arguments, instance, next, ring, instances}
+use Rattle.samples.proofs.Numbered.{declared, long, among, numbered, different}
+use Rattle.samples.proofs.RingPlaces.{next_stands, stands_alone}
 
 -- the number that an instance of the list has
 pub of_number : (many : ℕ) (t : Open) → IsOneOf t (instances many) → (i : ℕ) × (i < many) × (t ≡ instance i)

@@ -3,10 +3,10 @@ use Rattle.std.proofs.Common.{◌<◌, ℕ, zero, suc, Bool, subst, sym, arith}
 use Rattle.open_types.specs.Open.{Open}
 use Rattle.instances.specs.Lists.{IsOneOf, AreInstances}
 use Rattle.closing.specs.Links.{IsShown, shown_root, shown_referred, IsComponent, root_component, referred_component, AreComponentsOf, ComponentsAreReachable, references_at}
-use Rattle.rings.specs.Rings.{instance, ring, instances}
-use Rattle.rings.proofs.Linked.{next_referred}
-use Rattle.rings.proofs.Numbered.{different}
-use Rattle.rings.proofs.Reached.{of_number, next-behind, first_root}
+use Rattle.samples.specs.Rings.{instance, ring, instances}
+use Rattle.samples.proofs.Linked.{next_referred}
+use Rattle.samples.proofs.Numbered.{different}
+use Rattle.samples.proofs.Reached.{of_number, next-behind, first_root}
 
 module _ (many : ℕ) (all : Bool) where
   behind-referred : (i : ℕ) → suc i < many → IsOneOf (instance (suc i)) (references_at (ring many) (instance i))

@@ -8,9 +8,9 @@ use Rattle.shapes.specs.Declarations.{DeclarationOf, declaration_at}
 use Rattle.shapes.specs.InstanceNames.{instance_name}
 use Rattle.instances.specs.Lists.{AreInstances}
 use Rattle.instances.specs.Names.{NamesDiffer}
-use Rattle.rings.specs.Rings.{Turn, plain_struct, generic_struct, tagged_enum, turn, letter, name, arguments, instance, ring, instances}
-use Rattle.rings.proofs.Numbered.{declared}
-use Rattle.rings.proofs.Reached.{of_number}
+use Rattle.samples.specs.Rings.{Turn, plain_struct, generic_struct, tagged_enum, turn, letter, name, arguments, instance, ring, instances}
+use Rattle.samples.proofs.Numbered.{declared}
+use Rattle.samples.proofs.Reached.{of_number}
 
 -- what stands behind the declaration's name in that of its instance: nothing, or `_bool`
 abbrev behind : Turn → List ℕ

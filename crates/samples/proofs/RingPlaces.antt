@@ -4,8 +4,8 @@ use Rattle.open_types.specs.Open.{Open, Opens, named, substituted, all_substitut
 use Rattle.open_types.specs.Instances.{StandsIn, StandsAmong, StandsInOne}
 use Rattle.shapes.specs.Declarations.{DeclarationOf, body_types}
 use Rattle.shapes.specs.Instances.{body_over, places_at}
-use Rattle.rings.specs.Rings.{Turn, plain_struct, generic_struct, tagged_enum, turn, arguments, instance, next, body, ring}
-use Rattle.rings.proofs.Numbered.{declared}
+use Rattle.samples.specs.Rings.{Turn, plain_struct, generic_struct, tagged_enum, turn, arguments, instance, next, body, ring}
+use Rattle.samples.proofs.Numbered.{declared}
 
 -- ---- instances
 

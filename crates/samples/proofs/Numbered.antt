@@ -7,7 +7,7 @@ use Rattle.open_types.specs.Instances.{declared_place}
 use Rattle.shapes.specs.Declarations.{declaration_at}
 use Rattle.instances.specs.Lists.{IsOneOf, instance_at, AreDifferent}
 use Rattle.instances.proofs.Laws.{at-one, declared-at}
-use Rattle.rings.specs.Rings.{instance, declaration, numbers, ring, instances}
+use Rattle.samples.specs.Rings.{instance, declaration, numbers, ring, instances}
 
 -- the declaration of a number stands at its place
 pub declared : (many i : ℕ) → i < many → declaration_at (ring many) i ≡ declaration many i

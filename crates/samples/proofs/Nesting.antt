@@ -9,9 +9,9 @@ use Rattle.lexing.specs.declared.piece.Piece.{Piece}
 use Rattle.lexing.specs.declared.piece.PieceKind.TheVariants.{Token, Open, Close}
 use Rattle.lexing.specs.Nesting.{IsTrees, none, blank, lone, grouped}
 use Rattle.lexing.specs.Pieces.{opening, closing}
-use Rattle.spelling.specs.Spelling as spelling
-use Rattle.spelling.specs.Spelling.{Spelled, Spelling, end, ◌▹◌, spelled_text, text_of, span_from, tree_before, trees_at}
-use Rattle.spelling.proofs.Pieces.{piece_from, pieces_before, pieces_at}
+use Rattle.samples.specs.Spelling as spelling
+use Rattle.samples.specs.Spelling.{Spelled, Spelling, end, ◌▹◌, spelled_text, text_of, span_from, tree_before, trees_at}
+use Rattle.samples.proofs.Pieces.{piece_from, pieces_before, pieces_at}
 
 -- the slice of a text between what stands before and behind it
 slice_between : (source before text behind : List ℕ) (offset : ℕ) → offset ≡ length before → source ≡ before ++ (text ++ behind)

@@ -1,8 +1,8 @@
-use Rattle.rings.proofs.Linked.{shallow, copies}
-use Rattle.rings.proofs.Named.{names_differ}
-use Rattle.rings.proofs.Reached.{are_instances, all_small}
-use Rattle.rings.proofs.Shown.{are_components}
-use Rattle.rings.proofs.law.rings_are_open.Goals as goal
+use Rattle.samples.proofs.Linked.{shallow, copies}
+use Rattle.samples.proofs.Named.{names_differ}
+use Rattle.samples.proofs.Reached.{are_instances, all_small}
+use Rattle.samples.proofs.Shown.{are_components}
+use Rattle.samples.proofs.law.rings_are_open.Goals as goal
 
 pub returns : goal.returns
 returns c = λ many some fits.

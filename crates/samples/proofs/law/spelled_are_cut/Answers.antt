@@ -3,11 +3,11 @@ use Rattle.std.proofs.lemmas.List.{append-nil}
 use Rattle.std.proofs.lemmas.Str.{chars-IsAscii}
 use Rattle.std.specs.Str.{chars}
 use Rattle.lexing.specs.Pieces.{Cuts}
-use Rattle.spelling.specs.Spelling.{text_of}
-use Rattle.spelling.proofs.Pieces.{pieces_at}
-use Rattle.spelling.proofs.Cutting.{spelling_cuts}
-use Rattle.spelling.proofs.Nesting.{spelling_nests}
-use Rattle.spelling.proofs.law.spelled_are_cut.Goals as goal
+use Rattle.samples.specs.Spelling.{text_of}
+use Rattle.samples.proofs.Pieces.{pieces_at}
+use Rattle.samples.proofs.Cutting.{spelling_cuts}
+use Rattle.samples.proofs.Nesting.{spelling_nests}
+use Rattle.samples.proofs.law.spelled_are_cut.Goals as goal
 
 pub returns : goal.returns
 returns c = λ spelling ascii there.

@@ -10,10 +10,10 @@ use Rattle.closing.specs.Closed.{most_inlined}
 use Rattle.closing.specs.Copies.{sum_over, instance_copies}
 use Rattle.closing.specs.Described.{AreShallow}
 use Rattle.closing.specs.Links.{inline_in, referred_in, targets_at, references_at}
-use Rattle.rings.specs.Rings.{Turn, plain_struct, generic_struct, tagged_enum, turn, arguments, instance, next, body, declaration, ring, instances}
-use Rattle.rings.proofs.Numbered.{declared}
-use Rattle.rings.proofs.Places.{stays}
-use Rattle.rings.proofs.Reached.{of_number}
+use Rattle.samples.specs.Rings.{Turn, plain_struct, generic_struct, tagged_enum, turn, arguments, instance, next, body, declaration, ring, instances}
+use Rattle.samples.proofs.Numbered.{declared}
+use Rattle.samples.proofs.RingPlaces.{stays}
+use Rattle.samples.proofs.Reached.{of_number}
 
 -- a declaration by its name, its parameters, whose turn it is and what its member `next` has for a type
 abbrev one : List ℕ → ℕ → Turn → Open → DeclarationOf

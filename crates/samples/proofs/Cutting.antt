@@ -4,8 +4,8 @@ use Rattle.std.specs.Str.{IsAscii}
 use Rattle.lexing.specs.declared.piece.Piece.{Piece}
 use Rattle.lexing.specs.declared.piece.PieceKind.TheVariants.{Space, Token, Open, Close}
 use Rattle.lexing.specs.Pieces.{opening, closing, Cuts}
-use Rattle.spelling.specs.Spelling.{Spelled, Spelling, blank, token, group, end, ◌▹◌, spelled_text, text_of, IsCutThere, AreCutThere}
-use Rattle.spelling.proofs.Pieces.{piece_from, pieces_before, pieces_at, ascii_front, ascii_rest, opening_found, closing_found, found_before}
+use Rattle.samples.specs.Spelling.{Spelled, Spelling, blank, token, group, end, ◌▹◌, spelled_text, text_of, IsCutThere, AreCutThere}
+use Rattle.samples.proofs.Pieces.{piece_from, pieces_before, pieces_at, ascii_front, ascii_rest, opening_found, closing_found, found_before}
 
 mutual
   -- before pieces that cut what follows, those of what is spelled cut its text and what follows

@@ -13,7 +13,7 @@ use Rattle.lexing.specs.declared.piece.PieceKind.TheVariants.{Space, Token, Open
 use Rattle.lexing.specs.Pieces.{opening, closing, IsLongest, Cuts}
 use Rattle.lexing.specs.Scanning.{class_of, piece_at}
 use Rattle.lexing.proofs.Laws.{finds_longest}
-use Rattle.spelling.specs.Spelling.{Spelled, Spelling, blank, token, group, end, ◌▹◌, spelled_text, text_of, span_from}
+use Rattle.samples.specs.Spelling.{Spelled, Spelling, blank, token, group, end, ◌▹◌, spelled_text, text_of, span_from}
 
 -- ---- the pieces
 

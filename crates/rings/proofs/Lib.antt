@@ -1,6 +1,0 @@
-pub mod Linked
-pub mod Named
-pub mod Numbered
-pub mod Places
-pub mod Reached
-pub mod Shown
