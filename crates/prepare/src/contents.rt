@@ -1,18 +1,20 @@
 //! What a file has for schemas, each by its own text and its place.
 
-ghost use Rattle.std.specs.Prelude.{◌≡◌, ◌⊎◌, ◌++◌, IfOk, OnOk};
+ghost use Rattle.std.specs.Prelude.{◌≡◌, ◌⊎◌, ◌++◌, slice_range, IfOk, OnOk};
 ghost use Rattle.diag.specs.Refusal.{Refuses};
 ghost use Rattle.texts.specs.declared.span.Span.{Span as AnySpan};
 ghost use Rattle.lexing.specs.Cut.{IsDepthError, OpensTooDeep};
-ghost use Rattle.prepare.specs.FileItems.{HasSlices, AreSlices, item_of_span, items_in, AreItemsOf, impl_of_span, impls_in, AreImplsOf, alias_of_span, aliases_in, AreAliasesOf};
+ghost use Rattle.prepare.specs.FileItems.{IsSlice, HasSlices, AreSlices, item_of_span, items_in, AreItemsOf, impl_of_span, impls_in, AreImplsOf, alias_of_span, aliases_in, AreAliasesOf};
 ghost use Rattle.prepare.specs.Prepared.{IsNoFile};
+ghost use Rattle.telling.specs.Places.{place_between};
 
 use crate::file::standing_in;
 use crate::file_items::{FileAlias, FileImpl, FileItem};
 use crate::item::{Standing, Stands};
 use diag::DeriveError;
+use reaching::Node;
 use std::alloc::{AllocError, Global};
-use telling::Places;
+use telling::{Place, Places};
 use texts::{List, Span, Text};
 
 /// The declarations of a file, its impls of serde's traits that are written by hand, and its aliases.
@@ -36,6 +38,44 @@ fn copied(alloc: Global, spans: &[Span]) -> Result<List<Span>, AllocError>
     Ok(copy)
 }
 
+/// The bytes of the span, and where they stand.
+fn told(
+    alloc: Global,
+    places: &mut Places<'_>,
+    source: &str,
+    span: Span,
+) -> Result<(Text, Place), AllocError>
+    requires source { places.old ≡ source.now }
+    requires slice { IsSlice source.now span }
+    ensures told { IfOk result (λ told. told
+        ≡ (slice_range source.now span.start span.end, place_between source.now span.start span.end)) }
+    ensures source { places.new ≡ places.old }
+{
+    let text = Text::new(alloc, &source[span.start..span.end])?;
+    Ok((text, places.place(alloc, span.start, span.end)?))
+}
+
+/// The node, and the spans.
+fn declared(
+    alloc: Global,
+    node: &Node,
+    unread: &List<Span>,
+) -> Result<(Node, List<Span>), AllocError>
+    ensures { IfOk result (λ copies. copies ≡ (node.now, unread.now)) }
+{
+    let unread = copied(alloc, unread.as_slice())?;
+    Ok((node.copy(alloc)?, unread))
+}
+
+/// The node, and the bytes of the span.
+fn aliased(alloc: Global, source: &str, node: &Node, of: Span) -> Result<(Node, Text), AllocError>
+    requires { IsSlice source.now of }
+    ensures { IfOk result (λ copies. copies ≡ (node.now, slice_range source.now of.start of.end)) }
+{
+    let of = Text::new(alloc, &source[of.start..of.end])?;
+    Ok((node.copy(alloc)?, of))
+}
+
 /// Adds what stands.
 fn push_part(
     alloc: Global,
@@ -55,19 +95,20 @@ fn push_part(
         ≡ parts.old.aliases ++ alias_of_span file source.now standing.now.span standing.now.what) }
     ensures source { places.new ≡ places.old }
 {
-    let (start, end) = (standing.span.start, standing.span.end);
-    let place = places.place(alloc, start, end)?;
-    let text = Text::new(alloc, &source[start..end])?;
+    let (text, place) = told(alloc, places, source, standing.span)?;
     match &standing.what {
-        Stands::Declared(node, name, unread) => parts.items.push(FileItem {
-            file,
-            declared: node.copy(alloc)?,
-            text,
-            place,
-            line: places.line(name.start),
-            end,
-            unread: copied(alloc, unread.as_slice())?,
-        }),
+        Stands::Declared(node, name, unread) => {
+            let (declared, unread) = declared(alloc, node, unread)?;
+            parts.items.push(FileItem {
+                file,
+                declared,
+                text,
+                place,
+                line: places.line(name.start),
+                end: standing.span.end,
+                unread,
+            })
+        }
         Stands::Written(of, name) => parts.impls.push(FileImpl {
             file,
             of: *of,
@@ -75,14 +116,17 @@ fn push_part(
             text,
             place,
         }),
-        Stands::Alias(node, of, is_import) => parts.aliases.push(FileAlias {
-            file,
-            declared: node.copy(alloc)?,
-            is_import: *is_import,
-            of: Text::new(alloc, &source[of.start..of.end])?,
-            text,
-            place,
-        }),
+        Stands::Alias(node, of, is_import) => {
+            let (declared, of) = aliased(alloc, source, node, *of)?;
+            parts.aliases.push(FileAlias {
+                file,
+                declared,
+                is_import: *is_import,
+                of,
+                text,
+                place,
+            })
+        }
     }
 }
 
