@@ -39,7 +39,7 @@ fn copied(alloc: Global, spans: &[Span]) -> Result<List<Span>, AllocError>
 }
 
 /// The bytes of the span, and where they stand.
-fn told(
+fn text_and_place(
     alloc: Global,
     places: &mut Places<'_>,
     source: &str,
@@ -47,8 +47,11 @@ fn told(
 ) -> Result<(Text, Place), AllocError>
     requires source { places.old ≡ source.now }
     requires slice { IsSlice source.now span }
-    ensures told { IfOk result (λ told. told
-        ≡ (slice_range source.now span.start span.end, place_between source.now span.start span.end)) }
+    ensures copies { IfOk result (λ copies. copies
+        ≡ (
+          slice_range source.now span.start span.end,
+          place_between source.now span.start span.end,
+        )) }
     ensures source { places.new ≡ places.old }
 {
     let text = Text::new(alloc, &source[span.start..span.end])?;
@@ -56,7 +59,7 @@ fn told(
 }
 
 /// The node, and the spans.
-fn declared(
+fn declaration_copies(
     alloc: Global,
     node: &Node,
     unread: &List<Span>,
@@ -68,7 +71,12 @@ fn declared(
 }
 
 /// The node, and the bytes of the span.
-fn aliased(alloc: Global, source: &str, node: &Node, of: Span) -> Result<(Node, Text), AllocError>
+fn alias_copies(
+    alloc: Global,
+    source: &str,
+    node: &Node,
+    of: Span,
+) -> Result<(Node, Text), AllocError>
     requires { IsSlice source.now of }
     ensures { IfOk result (λ copies. copies ≡ (node.now, slice_range source.now of.start of.end)) }
 {
@@ -95,10 +103,10 @@ fn push_part(
         ≡ parts.old.aliases ++ alias_of_span file source.now standing.now.span standing.now.what) }
     ensures source { places.new ≡ places.old }
 {
-    let (text, place) = told(alloc, places, source, standing.span)?;
+    let (text, place) = text_and_place(alloc, places, source, standing.span)?;
     match &standing.what {
         Stands::Declared(node, name, unread) => {
-            let (declared, unread) = declared(alloc, node, unread)?;
+            let (declared, unread) = declaration_copies(alloc, node, unread)?;
             parts.items.push(FileItem {
                 file,
                 declared,
@@ -117,7 +125,7 @@ fn push_part(
             place,
         }),
         Stands::Alias(node, of, is_import) => {
-            let (declared, of) = aliased(alloc, source, node, *of)?;
+            let (declared, of) = alias_copies(alloc, source, node, *of)?;
             parts.aliases.push(FileAlias {
                 file,
                 declared,
