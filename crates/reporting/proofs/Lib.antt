@@ -1,2 +1,3 @@
 pub mod Consequences
 pub mod Ended
+pub mod Written
