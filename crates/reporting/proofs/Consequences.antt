@@ -1,5 +1,5 @@
 -- What follows from what a run owes.
-use Rattle.std.proofs.Common.{ℕ, List, ◌≡◌, ◌⊎◌, inl, inr, refl, subst, codes}
+use Rattle.std.proofs.Common.{ℕ, List, [], ◌≡◌, ◌⊎◌, inl, inr, refl, subst, codes}
 use Rattle.diag.specs.Refusal.{RefusesNone}
 use Rattle.diag.specs.declared.error.DeriveError.TheVariants as error
 use Rattle.diag.specs.declared.kind.Kind.{Kind}
@@ -41,6 +41,26 @@ module _ (program : Program) (begun : Beginning) (status : Status) (text report 
   unfolding Owes
   file_line is = (owed_as FileFault is).2
 
+  pub document_alone : (status ≡ Done) ⊎ (status ≡ Memory) → report ≡ []
+  unfolding Owes
+  document_alone (inl is) = (owed_as Done is).1
+  document_alone (inr is) = (owed_as Memory is).2
+
+  pub never_write_fault : status ≡ WriteFault → ⊥
+  unfolding Owes
+  never_write_fault is = owed_as WriteFault is
+
+-- a document is owed by `Done` alone
+pub no_document : (program : Program) (begun : Beginning) (status : Status) (text report : List ℕ) → Owes program begun status text report → (status ≡ Done → ⊥) → text ≡ []
+unfolding Owes
+no_document program begun Done text report owed other = absurd (other refl)
+no_document program begun (Refused kind) text report owed other = owed.1
+no_document program begun Usage text report owed other = owed.1
+no_document program begun ReadFault text report owed other = owed.1
+no_document program begun WriteFault text report owed other = absurd owed
+no_document program begun Memory text report owed other = owed.1
+no_document program begun FileFault text report owed other = owed.1
+
 -- what has a form and is not refused is answered
 pub complete_owed : (program : Program) (begun : Beginning) (status : Status) (text report : List ℕ) → Owes program begun status text report → AreOfForm program begun.words → RefusesNone (IsRefusedRun program begun)
     → (status ≡ ReadFault → ⊥) → (status ≡ FileFault → ⊥) → (status ≡ Done) ⊎ (status ≡ Memory)
@@ -53,5 +73,22 @@ complete_owed program begun WriteFault text report owed form sound calm file_cal
 complete_owed program begun Memory text report owed form sound calm file_calm = inr refl
 complete_owed program begun FileFault text report owed form sound calm file_calm = absurd (file_calm refl)
 
--- what a run owes by its status, for the search
-pub ruleset consequences = (usage_owed, usage_line, read_owed, read_line, file_line)
+-- ---- a fault of writing is no other status
+
+pub is_not_done : WriteFault ≡ Done → ⊥
+is_not_done is = cc
+
+pub is_not_refused : (kind : Kind) → WriteFault ≡ Refused kind → ⊥
+is_not_refused kind is = cc
+
+pub is_not_usage : WriteFault ≡ Usage → ⊥
+is_not_usage is = cc
+
+pub is_no_read_fault : WriteFault ≡ ReadFault → ⊥
+is_no_read_fault is = cc
+
+pub is_no_file_fault : WriteFault ≡ FileFault → ⊥
+is_no_file_fault is = cc
+
+pub is_not_memory : WriteFault ≡ Memory → ⊥
+is_not_memory is = cc

@@ -21,7 +21,6 @@ use streams::{Failed, Sink, Source};
 
 /// Runs the program with these words, which ask for the command. Nothing is written before all is made, and writing takes no
 /// memory.
-#[tactic(auto, using(crate::proofs::Consequences::consequences))]
 pub fn run_command<C: Command, S: Source, F: Files, O: Sink, E: Sink>(
     alloc: Global,
     words: &Words,
