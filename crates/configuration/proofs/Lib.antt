@@ -1,7 +1,3 @@
 pub mod AliasLaws
-pub mod FormLaws
-pub mod OneLaws
-pub mod RefusalLaws
-pub mod RowLaws
-pub mod SaidLaws
+pub mod Laws
 pub mod TypeLaws

@@ -1,8 +1,14 @@
--- What stands in the types of aliases, and how deep aliases stand in each other.
-use Rattle.std.specs.Prelude.{◌≡◌, ◌||◌, ℕ, List, [], ◌∷◌, ◌++◌, map, length, Bool, true, false}
+-- The types that texts of aliases are, what stands in the types of aliases, and how deep aliases stand in each other.
+use Rattle.std.specs.Prelude.{◌≡◌, ◌||◌, ℕ, List, [], ◌∷◌, ◌++◌, map, length, Bool, true, false, codes}
 use Rattle.std.specs.List.{filter_map}
 use Rattle.texts.specs.Names.{place_in}
+use Rattle.texts.specs.Span.{no_span}
+use Rattle.texts.specs.declared.span.Span.{Span}
+use Rattle.diag.specs.Refusal.{IsRefusal}
+use Rattle.diag.specs.declared.error.DeriveError.{DeriveError}
+use Rattle.diag.specs.declared.kind.Kind.TheVariants.{BadRow}
 use Rattle.inlining.specs.Inlining.{IsPath}
+use Rattle.type_grammar.specs.Source.{ReadsType, TypeNestsTooDeep}
 use Rattle.written_types.specs.Written.{Written, path, reference, tuple, slice, array, trait_object, Writtens, no_types, more_types, WrittenPath, path_of, Segments, no_segments, more_segments, Segment, plain, applied, Arguments, no_arguments, more_arguments, Argument, lifetime_argument, constant_argument, type_argument}
 use Rattle.configuration.specs.Configuration.{Alias}
 
@@ -11,6 +17,16 @@ alias_names aliases = map (λ a. a.name) aliases
 
 abbrev pub alias_types : List Alias → List Written
 alias_types aliases = map (λ a. a.of) aliases
+
+-- ---- which type a text is
+
+-- the text is one type, which nests at most 64 levels
+abbrev pub IsTypeText : List ℕ → Written → Type 0
+IsTypeText text t = ReadsType text t × ((span : Span) → ¬ (TypeNestsTooDeep text span))
+
+-- the refusal of a text that is none
+abbrev pub IsBadRow : DeriveError → Type 0
+IsBadRow error = IsRefusal BadRow no_span (codes "a row of `aliases` is no type") error
 
 -- ---- which aliases stand in a type
 

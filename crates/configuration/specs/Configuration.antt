@@ -1,5 +1,7 @@
 -- What deriving may take, which instances get components, what names become by rename rules, and what aliases stand for.
-use Rattle.std.specs.Prelude.{ℕ, List, [], ◌++◌}
+use Rattle.std.specs.Prelude.{ℕ, List, [], ◌++◌, codes}
+use Rattle.diag.specs.declared.rename_row.RenamePlace.{RenamePlace}
+use Rattle.diag.specs.declared.rename_row.RenamePlace.TheVariants.{Field, Variant}
 use Rattle.diag.specs.declared.rename_row.RenameRow.{RenameRow}
 use Rattle.written_types.specs.Written.{Written}
 use Rattle.configuration.specs.declared.collect.SchemaCollect.{SchemaCollect}
@@ -34,10 +36,21 @@ with_copies c n = record c { copies = n }
 abbrev pub with_collect : Configuration → SchemaCollect → Configuration
 with_collect c collect = record c { collect = collect }
 
--- with rows behind its own
+-- with other rows, and with rows behind its own
+abbrev pub with_renames : Configuration → List RenameRow → Configuration
+with_renames c rows = record c { renames = rows }
+
 abbrev pub with_rows : Configuration → List RenameRow → Configuration
 with_rows c rows = record c { renames = c.renames ++ rows }
 
--- with aliases behind its own
+-- with other aliases, and with aliases behind its own
+abbrev pub with_only_aliases : Configuration → List Alias → Configuration
+with_only_aliases c aliases = record c { aliases = aliases }
+
 abbrev pub with_aliases : Configuration → List Alias → Configuration
 with_aliases c aliases = record c { aliases = c.aliases ++ aliases }
+
+-- what a row calls the place of its names
+abbrev pub place_name : RenamePlace → List ℕ
+place_name Field = codes "field"
+place_name Variant = codes "variant"

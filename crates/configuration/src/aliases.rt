@@ -1,22 +1,18 @@
 //! Aliases: names, and the types that they stand for.
 
-ghost use Rattle.std.specs.Prelude.{◌≡◌, ◌<◌, ◌-◌, ◌↔◌, ℕ, List as Items, [], ◌∷◌, ◌++◌, length, map, remove, None, cond, IfOk, IfSome, IsSomeAnd, IsTrue, OnOk, OnErr, Some, bytes_eq, string_bytes};
+ghost use Rattle.std.specs.Prelude.{◌≡◌, ◌<◌, ◌-◌, ◌↔◌, ℕ, List as Items, [], ◌∷◌, ◌++◌, length, map, remove, None, cond, IfOk, IsTrue, OnOk, OnErr, Some, bytes_eq, string_bytes};
 ghost use Rattle.std.specs.BTreeMap.{get_by_text, IsUnchanged};
 ghost use Rattle.std.specs.Map.{update};
-ghost use Rattle.serde_json.specs.Find.{get};
-ghost use Rattle.serde_json.specs.View.{view as view_of, members_view};
 ghost use Rattle.texts.specs.Names.{place_in};
 ghost use Rattle.diag.specs.Refusal.{IsErrorFor, Refuses};
 ghost use Rattle.written_types.specs.Written.{Written, written_view};
-ghost use Rattle.configuration.specs.Aliases.{alias_names, alias_types, bare, AreDeep};
-ghost use Rattle.configuration.specs.Form.{IsTypeText, SaysType, AreMembers, AreAliases, SaysOrDefault, HoldsTexts, LackType, LacksType, IsBadRow};
+ghost use Rattle.configuration.specs.Aliases.{alias_names, alias_types, bare, AreDeep, IsBadRow, IsTypeText};
 ghost use Rattle.configuration.specs.Stored.{aliases_of};
 
 use crate::bare::{bare_type, bare_types};
 use crate::targets::targets_of;
 use diag::{DeriveError, Kind};
 use inlining::{Depth, inline_order};
-use serde_json::{Map, Value};
 use std::alloc::{AllocError, Global};
 use std::collections::BTreeMap;
 use std::marker::Model;
@@ -79,13 +75,15 @@ impl Aliases {
         }
     }
 
-    /// The aliases that the members say. A member that says no type is refused with the kind `BadRow`.
-    fn from_members(alloc: Global, members: &Map<String, Value>) -> Result<Aliases, DeriveError>
-        ensures said { IfOk result (AreMembers (members_view members.now.entries)) }
-        ensures refused { Refuses result
-            (λ e. (IsBadRow e × LackType (members_view members.now.entries))) }
+    /// The aliases of these names, each with the type in its place.
+    pub fn of(
+        alloc: Global,
+        names: List<Text>,
+        types: List<WrittenType>,
+    ) -> Result<Aliases, AllocError>
+        requires { length names ≡ length types }
+        ensures { IfOk result (λ aliases. aliases ≡ aliases_of names types) }
     {
-        let (names, types) = rows_of(alloc, members)?;
         let bare = bare_types(alloc, types.as_slice())?;
         let places = name_places(alloc, names.as_slice())?;
         Ok(Aliases {
@@ -163,7 +161,7 @@ impl Aliases {
 }
 
 /// The refusal of an alias that is no type, or want of memory.
-fn bad_row(alloc: Global) -> DeriveError
+pub fn bad_row(alloc: Global) -> DeriveError
     ensures { IsErrorFor IsBadRow result }
 {
     DeriveError::refusal(
@@ -174,8 +172,9 @@ fn bad_row(alloc: Global) -> DeriveError
     )
 }
 
-/// The type that the text is. A text that is none is refused with the kind `BadRow`.
-pub(crate) fn type_in(alloc: Global, text: &str) -> Result<WrittenType, DeriveError>
+/// The type that the text of an alias is. A text that is none, or nests deeper than 64 levels, is refused with the kind
+/// `BadRow`.
+pub fn aliased_type(alloc: Global, text: &str) -> Result<WrittenType, DeriveError>
     ensures said { IfOk result (λ ty. IsTypeText text.now (written_view ty)) }
     ensures refused { Refuses result
         (λ e. (IsBadRow e × ((t : Written) → ¬ IsTypeText text.now t))) }
@@ -185,38 +184,6 @@ pub(crate) fn type_in(alloc: Global, text: &str) -> Result<WrittenType, DeriveEr
         Err(DeriveError::Memory) => Err(DeriveError::Memory),
         Err(DeriveError::Refused(_)) => Err(bad_row(alloc)),
     }
-}
-
-/// The type that the value says. A value that says none is refused with the kind `BadRow`.
-fn type_of(alloc: Global, value: &Value) -> Result<WrittenType, DeriveError>
-    ensures said { IfOk result (λ ty. SaysType (view_of value.now) (written_view ty)) }
-    ensures refused { Refuses result
-        (λ e. (IsBadRow e × ((t : Written) → ¬ SaysType (view_of value.now) t))) }
-{
-    match value.as_str() {
-        Some(text) => type_in(alloc, text),
-        None => Err(bad_row(alloc)),
-    }
-}
-
-/// The names of the members, and the types that they say.
-fn rows_of(
-    alloc: Global,
-    members: &Map<String, Value>,
-) -> Result<(List<Text>, List<WrittenType>), DeriveError>
-    ensures said { IfOk result
-        (λ rows. (AreMembers (members_view members.now.entries) (aliases_of rows.0 rows.1)
-        × (length rows.0 ≡ length rows.1))) }
-    ensures refused { Refuses result
-        (λ e. (IsBadRow e × LackType (members_view members.now.entries))) }
-{
-    let mut names = List::new(alloc);
-    let mut types = List::new(alloc);
-    for (name, value) in members.iter() {
-        types.push(type_of(alloc, value)?)?;
-        names.push(Text::new(alloc, name.as_str())?)?;
-    }
-    Ok((names, types))
 }
 
 /// The place of each name; of several that are equal, that of the first.
@@ -287,21 +254,5 @@ fn push_placed(
             take_last(bare);
             Err(AllocError)
         }
-    }
-}
-
-/// The aliases of the member, of which there are none without the member.
-pub fn aliases_at(alloc: Global, value: &Value, name: &str) -> Result<Aliases, DeriveError>
-    requires { IfSome (get name.now (view_of value.now)) HoldsTexts }
-    ensures said { IfOk result (SaysOrDefault AreAliases [] (get name.now (view_of value.now))) }
-    ensures refused { Refuses result
-        (λ e. (IsBadRow e × IsSomeAnd (get name.now (view_of value.now)) LacksType)) }
-{
-    let Some(member) = value.get(name) else {
-        return Ok(Aliases::new(alloc));
-    };
-    match member.as_object() {
-        Some(members) => Aliases::from_members(alloc, members),
-        None => unreachable!(),
     }
 }

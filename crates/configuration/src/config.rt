@@ -1,42 +1,21 @@
-ghost use Rattle.std.specs.Prelude.{◌≡◌, ◌≤◌, ◌⊎◌, ◌↔◌, ℕ, List, [], ◌∷◌, map, IsTrue, IfOk, IfSome, OnOk, OnErr, IfErr, IsOk, MatchOption, None, cond, codes};
+ghost use Rattle.std.specs.Prelude.{◌≡◌, ◌≤◌, ◌↔◌, ℕ, List as Items, [], ◌∷◌, length, map, IsTrue, IfOk, OnOk, OnErr, IfErr, IsOk, None, cond};
 ghost use Rattle.std.specs.BTreeMap.{get_by_text};
-ghost use Rattle.diag.specs.Refusal.{Refuses, IsErrorFor};
-ghost use Rattle.serde_json.specs.Find.{get};
-ghost use Rattle.serde_json.specs.View.{view as view_of};
+ghost use Rattle.diag.specs.Refusal.{Refuses};
 ghost use Rattle.texts.specs.Names.{place_in};
 ghost use Rattle.written_types.specs.Written.{Written, written_view};
-ghost use Rattle.configuration.specs.Configuration.{empty_configuration, with_limit, with_copies, with_collect, with_rows, with_aliases, Configuration};
-ghost use Rattle.configuration.specs.Aliases.{alias_names, alias_types, bare, AreDeep};
-ghost use Rattle.configuration.specs.Form.{IsTypeText, IsBadRow, KeepsEmpty, HoldsTexts, SaysOthers, HasForm, IsConfiguration, IsConfigurationText, IsBadConfig, IsAliasDepth, IsRefusedConfiguration, IsRefusedText};
+ghost use Rattle.configuration.specs.Configuration.{empty_configuration, with_limit, with_copies, with_collect, with_renames, with_rows, with_only_aliases, with_aliases};
+ghost use Rattle.configuration.specs.Aliases.{alias_names, alias_types, bare, AreDeep, IsBadRow, IsTypeText};
+ghost use Rattle.configuration.specs.Stored.{aliases_of};
 
-use crate::aliases::{Aliases, aliases_at, type_in};
+use crate::aliases::{Aliases, aliased_type};
 use crate::collect::SchemaCollect;
-use crate::members::{
-    collect_at, holds_texts_at, is_empty_list_at, is_empty_object_at, is_object_of, whole_at,
-};
 use crate::range::{OutOfRange, within};
-use crate::renames::renames_at;
-use crate::value::value_of;
-use diag::{DeriveError, Kind, RenameRow, RenameTable};
-use serde_json::Value;
+use diag::{DeriveError, RenameRow, RenameTable};
 use std::alloc::{AllocError, Global};
 use std::collections::BTreeMap;
 use std::marker::Model;
-use texts::{Span, Text};
-use type_grammar::one_type_reading;
+use texts::{List, Text};
 use written_types::WrittenType;
-
-/// The names of a configuration's members.
-pub const MEMBERS: [&str; 8] = [
-    "version",
-    "limit",
-    "copies",
-    "schema_collect",
-    "renames",
-    "aliases",
-    "schemas",
-    "defaults",
-];
 
 /// A configuration. Contracts see the record of what is configured.
 #[derive(Debug)]
@@ -89,42 +68,6 @@ impl Config {
         }
     }
 
-    /// The configuration that the JSON value says. A value that says none is refused: with the kind `BadConfig` where it
-    /// is not of the stated form, else with `BadRow` where an alias is no type, else with `AliasDepth` where more than 32
-    /// aliases stand in each other.
-    pub fn from_value(alloc: Global, value: &Value) -> Result<Config, DeriveError>
-        ensures configured { IfOk result (IsConfiguration (view_of value.now)) }
-        ensures refused { Refuses result
-            (λ e. (IsRefusedConfiguration (view_of value.now) e
-            × ((c : Configuration) → ¬ IsConfiguration (view_of value.now) c))) }
-    {
-        let Some(mut config) = others_of(alloc, value)? else {
-            return Err(bad_config(alloc));
-        };
-        // Aliases that are too deep are the only ones that the value says.
-        one_type_reading();
-        let aliases = aliases_at(alloc, value, "aliases")?;
-        if aliases.are_deep(alloc)? {
-            return Err(alias_depth(alloc));
-        }
-        config.aliases = aliases;
-        Ok(config)
-    }
-
-    /// The configuration that the bytes say as a JSON text. Bytes that are no JSON, or more than 1,048,576, are refused
-    /// with the kind `BadConfig`, and others as `from_value` does.
-    pub fn from_slice(alloc: Global, bytes: &[u8]) -> Result<Config, DeriveError>
-        ensures configured { IfOk result (IsConfigurationText bytes.now) }
-        ensures refused { Refuses result
-            (λ e. (IsRefusedText bytes.now e
-            × ((c : Configuration) → ¬ IsConfigurationText bytes.now c))) }
-    {
-        match value_of(alloc, bytes)? {
-            Some(value) => Config::from_value(alloc, &value),
-            None => Err(bad_config(alloc)),
-        }
-    }
-
     /// Sets the most instances that may be reachable. A number that is not from 1 to 4096 is refused, and changes nothing.
     pub fn set_limit(&mut self, limit: usize) -> Result<(), OutOfRange>
         ensures ok { OnOk result (self.new ≡ with_limit self.old limit) }
@@ -158,6 +101,13 @@ impl Config {
         self.collect = collect;
     }
 
+    /// Sets what names become by rename rules.
+    pub fn set_renames(&mut self, renames: RenameTable)
+        ensures { self.new ≡ with_renames self.old renames }
+    {
+        self.renames = renames;
+    }
+
     /// Puts a row behind those of the configuration. It counts where none of these is for the same name. A refused call
     /// changes nothing.
     pub fn push_row(&mut self, row: RenameRow) -> Result<(), AllocError>
@@ -165,6 +115,22 @@ impl Config {
         ensures err { OnErr result (self.new ≡ self.old) }
     {
         self.renames.push(row)
+    }
+
+    /// Sets the aliases: of each name the type in its place. A refused call changes nothing. How deep the aliases stand in
+    /// each other is not judged.
+    pub fn set_aliases(
+        &mut self,
+        alloc: Global,
+        names: List<Text>,
+        types: List<WrittenType>,
+    ) -> Result<(), AllocError>
+        requires { length names ≡ length types }
+        ensures ok { OnOk result (self.new ≡ with_only_aliases self.old (aliases_of names types)) }
+        ensures err { OnErr result (self.new ≡ self.old) }
+    {
+        self.aliases = Aliases::of(alloc, names, types)?;
+        Ok(())
     }
 
     /// Puts an alias behind those of the configuration where its name is new, and tells whether it is. A name that the
@@ -198,7 +164,7 @@ impl Config {
             (λ e. (IsBadRow e × ((t : Written) → ¬ IsTypeText of.now t))) }
         ensures err { OnErr result (self.new ≡ self.old) }
     {
-        let ty = type_in(alloc, of)?;
+        let ty = aliased_type(alloc, of)?;
         Ok(self.push_alias(alloc, name, ty)?)
     }
 
@@ -250,7 +216,7 @@ impl Config {
 
     /// The place of each name of an alias.
     pub fn alias_places(&self) -> &BTreeMap<String, usize>
-        ensures { (name : List ℕ)
+        ensures { (name : Items ℕ)
             → get_by_text result.now name ≡ place_in name (alias_names self.now.aliases) }
     {
         self.aliases.places()
@@ -270,68 +236,4 @@ impl Config {
     {
         self.aliases.bare_types()
     }
-}
-
-/// The configuration without aliases that the value says, where it is of the stated form.
-fn others_of(alloc: Global, value: &Value) -> Result<Option<Config>, AllocError>
-    ensures { IfOk result (λ found. MatchOption found (¬ HasForm (view_of value.now))
-        (λ config. (SaysOthers (view_of value.now) config
-        × IfSome (get (codes "aliases") (view_of value.now)) HoldsTexts))) }
-{
-    if !is_object_of(value, &MEMBERS) || !keeps_empty(value) || !holds_texts_at(value, "aliases") {
-        return Ok(None);
-    }
-    let Some(_version) = whole_at(value, "version", 1, 1, 1) else {
-        return Ok(None);
-    };
-    let Some(limit) = whole_at(value, "limit", 1, 4096, 1000) else {
-        return Ok(None);
-    };
-    let Some(copies) = whole_at(value, "copies", 1, 100_000, 10_000) else {
-        return Ok(None);
-    };
-    let Some(collect) = collect_at(value, "schema_collect") else {
-        return Ok(None);
-    };
-    let Some(renames) = renames_at(alloc, value, "renames")? else {
-        return Ok(None);
-    };
-    Ok(Some(Config {
-        limit,
-        copies,
-        collect,
-        renames,
-        aliases: Aliases::new(alloc),
-    }))
-}
-
-/// Whether the members that must be empty are.
-fn keeps_empty(value: &Value) -> bool
-    ensures { IsTrue result ↔ KeepsEmpty (view_of value.now) }
-{
-    is_empty_object_at(value, "schemas") && is_empty_list_at(value, "defaults")
-}
-
-/// The refusal of what is no configuration, or want of memory.
-pub fn bad_config(alloc: Global) -> DeriveError
-    ensures { (result ≡ DeriveError.Memory) ⊎ IsBadConfig result }
-{
-    DeriveError::refusal(
-        alloc,
-        Kind::BadConfig,
-        Span::nowhere(),
-        "the configuration is not of the stated form",
-    )
-}
-
-/// The refusal of aliases that stand too deep in each other, or want of memory.
-fn alias_depth(alloc: Global) -> DeriveError
-    ensures { IsErrorFor IsAliasDepth result }
-{
-    DeriveError::refusal(
-        alloc,
-        Kind::AliasDepth,
-        Span::nowhere(),
-        "aliases are replaced more than 32 times",
-    )
 }

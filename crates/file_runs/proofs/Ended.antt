@@ -8,8 +8,8 @@ use Rattle.streams.specs.Told.{IsAll}
 use Rattle.schema_core.specs.Document.{Entry}
 use Rattle.telling.specs.declared.told.Told.{Told}
 use Rattle.configuration.specs.Configuration.{Configuration}
-use Rattle.configuration.specs.Form.{IsConfigurationText}
-use Rattle.configuration.specs.Said.{IsSaidBy}
+use Rattle.configuration_json.specs.Form.{IsConfigurationText}
+use Rattle.configuration_json.specs.Said.{IsSaidBy}
 use Rattle.prepare.specs.declared.file_items.FileItem.{FileItem}
 use Rattle.texts.specs.Names.{is_in}
 use Rattle.gathering.specs.Files.{FileOf, AreGathered, has_items, Gathers, most_bytes}

@@ -6,9 +6,9 @@ use Rattle.diag.specs.declared.error.DeriveError.{DeriveError}
 use Rattle.diag.specs.declared.error.DeriveError.TheVariants as error
 use Rattle.files.specs.Held.{IsHeld}
 use Rattle.configuration.specs.Configuration.{Configuration}
-use Rattle.configuration.specs.Form.{IsConfigurationText, IsRefusedText}
-use Rattle.configuration.specs.Said.{IsSaidBy, SayNone}
-use Rattle.configuration.specs.declared.part.ConfigPart.{ConfigPart}
+use Rattle.configuration_json.specs.Form.{IsConfigurationText, IsRefusedText}
+use Rattle.configuration_json.specs.Said.{IsSaidBy, SayNone}
+use Rattle.configuration_json.specs.declared.part.ConfigPart.{ConfigPart}
 use Rattle.telling.specs.Told.{told_text}
 use Rattle.file_runs.specs.Contents.{IsReadOf, TellsConfig, TellsError, IsFaultyRead}
 use Rattle.file_runs.specs.Given.{told_config}

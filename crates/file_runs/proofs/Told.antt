@@ -7,8 +7,8 @@ use Rattle.serde_json.specs.Data.{Data}
 use Rattle.streams.specs.Told.{IsAll}
 use Rattle.texts.specs.Names.{is_in}
 use Rattle.configuration.specs.Configuration.{Configuration}
-use Rattle.configuration.specs.Form.{IsConfigurationText}
-use Rattle.configuration.specs.Said.{IsSaidBy}
+use Rattle.configuration_json.specs.Form.{IsConfigurationText}
+use Rattle.configuration_json.specs.Said.{IsSaidBy}
 use Rattle.gathering.specs.Files.{FileOf}
 use Rattle.file_derivation.specs.Outcomes.{AreDerivedFrom, AreSound, SoundAreNotTold}
 use Rattle.reporting.specs.Beginning.{Beginning}

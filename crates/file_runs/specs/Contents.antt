@@ -11,8 +11,8 @@ use Rattle.streams.specs.declared.source.Source.{Ghosts as AnySource}
 use Rattle.telling.specs.Told.{told_text, all_told}
 use Rattle.telling.specs.declared.told.Told.{Told}
 use Rattle.configuration.specs.Configuration.{Configuration}
-use Rattle.configuration.specs.Parts.{IsFaultyPart}
-use Rattle.configuration.specs.declared.part.ConfigPart.{ConfigPart}
+use Rattle.configuration_json.specs.Parts.{IsFaultyPart}
+use Rattle.configuration_json.specs.declared.part.ConfigPart.{ConfigPart}
 use Rattle.gathering.specs.Files.{FileOf, Gathers, most_bytes}
 use Rattle.gathering.specs.declared.gathered.Gathered.{Gathered}
 use Rattle.schema_core.specs.Document.{Entry}

@@ -6,10 +6,10 @@ use Rattle.diag.specs.declared.error.DeriveError.TheVariants.{Refused}
 use Rattle.files.specs.Held.{IsHeld}
 use Rattle.streams.specs.Told.{IsAll}
 use Rattle.configuration.specs.Configuration.{Configuration}
-use Rattle.configuration.specs.Form.{IsConfigurationText, IsRefusedText}
-use Rattle.configuration.specs.Parts.{IsFaultyPart, part_help}
-use Rattle.configuration.specs.Said.{IsSaidBy, SayNone}
-use Rattle.configuration.specs.declared.part.ConfigPart.{ConfigPart}
+use Rattle.configuration_json.specs.Form.{IsConfigurationText, IsRefusedText}
+use Rattle.configuration_json.specs.Parts.{IsFaultyPart, part_help}
+use Rattle.configuration_json.specs.Said.{IsSaidBy, SayNone}
+use Rattle.configuration_json.specs.declared.part.ConfigPart.{ConfigPart}
 use Rattle.telling.specs.Told.{told_text}
 use Rattle.telling.specs.declared.told.Told.{Told}
 use Rattle.serde_json.specs.Data.{Data}

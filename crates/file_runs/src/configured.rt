@@ -2,8 +2,8 @@
 
 ghost use Rattle.std.specs.Prelude.{◌≡◌, ◌≢◌, ℕ, List as AnyList, IfOk, IfErr};
 ghost use Rattle.diag.specs.Refusal.{Refuses};
-ghost use Rattle.configuration.specs.Form.{IsConfigurationText, IsRefusedText};
-ghost use Rattle.configuration.specs.Said.{IsSaidBy, SayNone};
+ghost use Rattle.configuration_json.specs.Form.{IsConfigurationText, IsRefusedText};
+ghost use Rattle.configuration_json.specs.Said.{IsSaidBy, SayNone};
 ghost use Rattle.telling.specs.Told.{told_text};
 ghost use Rattle.file_runs.specs.Contents.{IsReadOf, TellsConfig, TellsError, IsFaultyRead};
 ghost use Rattle.file_runs.specs.Given.{told_config};
@@ -13,7 +13,8 @@ use crate::ending::Ending;
 use crate::reading::bytes_at;
 use crate::request::Request;
 use crate::status::Status;
-use configuration::{Config, ConfigPart, bad_config, faulty_part, part_help};
+use configuration::Config;
+use configuration_json::{ConfigPart, FromJson, bad_config, faulty_part, part_help};
 use diag::{DeriveError, Diagnostics};
 use files::{FileBytes, Files};
 use gathering::told_unplaced;

@@ -4,8 +4,8 @@ ghost use Rattle.std.specs.Prelude.{◌≡◌, ◌≢◌, ◌<◌, ℕ, List as 
 ghost use Rattle.schema_core.specs.Document.{Entry};
 ghost use Rattle.streams.specs.Faults.{CountsFault};
 ghost use Rattle.configuration.specs.Configuration.{Configuration};
-ghost use Rattle.configuration.specs.Form.{IsConfigurationText};
-ghost use Rattle.configuration.specs.Said.{IsSaidBy};
+ghost use Rattle.configuration_json.specs.Form.{IsConfigurationText};
+ghost use Rattle.configuration_json.specs.Said.{IsSaidBy};
 ghost use Rattle.gathering.specs.Files.{FileOf, Gathers};
 ghost use Rattle.telling.specs.declared.told.Told.{Told as AnyTold};
 ghost use Rattle.file_derivation.specs.Outcomes.{AreDerivedFrom};

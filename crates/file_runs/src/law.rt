@@ -2,7 +2,7 @@
 
 ghost use Rattle.file_runs.specs.Owed.{SoundRunsAreNotRefused};
 
-use configuration::configurations_are_one;
+use configuration_json::configurations_are_one;
 use file_derivation::sound_are_not_told;
 
 /// Where a run is told what it is given, and that is sound, nothing is refused.

@@ -1,8 +1,8 @@
 //! What is read for the options of a request.
 
 ghost use Rattle.std.specs.Prelude.{◌≡◌, ◌≢◌, ℕ, List as AnyList, option_map, IfOk, IfErr};
-ghost use Rattle.configuration.specs.Form.{IsConfigurationText};
-ghost use Rattle.configuration.specs.Said.{IsSaidBy};
+ghost use Rattle.configuration_json.specs.Form.{IsConfigurationText};
+ghost use Rattle.configuration_json.specs.Said.{IsSaidBy};
 ghost use Rattle.file_runs.specs.Contents.{EndsOptions};
 ghost use Rattle.file_runs.specs.Given.{IsDocumentAt, named_view};
 ghost use Rattle.file_runs.specs.Owed.{status_at, report_at, FailsAt};

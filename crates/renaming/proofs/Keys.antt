@@ -10,7 +10,7 @@ use Rattle.diag.specs.declared.rename_rule.RenameRule.{RenameRule}
 use Rattle.diag.specs.declared.rename_row.RenamePlace.{RenamePlace}
 use Rattle.diag.specs.declared.rename_row.RenamePlace.TheVariants.{Field, Variant}
 use Rattle.diag.specs.RenameRules.{name_of}
-use Rattle.configuration.specs.Form.{place_name}
+use Rattle.configuration.specs.Configuration.{place_name}
 use Rattle.renaming.specs.declared.row_key.RowKey.{RowKey}
 use Rattle.renaming.specs.Rows.{key_cmp, key_cmp_total}
 

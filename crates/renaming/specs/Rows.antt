@@ -10,7 +10,7 @@ use Rattle.std.specs.declared.cmp.Ordering.{Ordering}
 use Rattle.diag.specs.RenameRules.{name_of}
 use Rattle.diag.specs.declared.rename_row.RenameRow.{RenameRow}
 use Rattle.texts.specs.Lists.{Somewhere}
-use Rattle.configuration.specs.Form.{place_name}
+use Rattle.configuration.specs.Configuration.{place_name}
 use Rattle.serde_names.specs.declared.asked.Asked.{Asked}
 use Rattle.renaming.specs.declared.row_key.RowKey.{RowKey}
 use Rattle.renaming.specs.Cases.{renamed}

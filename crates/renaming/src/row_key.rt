@@ -1,7 +1,7 @@
 ghost use Rattle.std.specs.Cmp.{partial_equiv_from_equiv, partial_order_from_agreeing_total, eq_by_cmp_equiv};
 ghost use Rattle.std.specs.Ordering.{as_partial_cmp, eq_by_cmp};
 ghost use Rattle.std.specs.Prelude.{◌≡◌, refl};
-ghost use Rattle.configuration.specs.Form.{place_name};
+ghost use Rattle.configuration.specs.Configuration.{place_name};
 ghost use Rattle.renaming.specs.Rows.{key_cmp, key_cmp_total};
 
 use diag::{RenamePlace, RenameRule};

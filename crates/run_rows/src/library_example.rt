@@ -2,7 +2,8 @@
 
 use crate::pets::print_file;
 use schema_gen::{
-    Config, Derived, HonestFiles, HonestSink, HonestSource, Status, Words, derive_components, run,
+    Config, Derived, FromJson, HonestFiles, HonestSink, HonestSource, Status, Words,
+    derive_components, run,
 };
 
 /// Prints the names of the components, and their document.

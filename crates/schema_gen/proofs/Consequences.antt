@@ -9,8 +9,8 @@ use Rattle.diag.specs.declared.kind.Kind.{Kind}
 use Rattle.acceptance.specs.Json.{Json}
 use Rattle.schema_core.specs.Document.{document, text_of}
 use Rattle.configuration.specs.Configuration.{Configuration}
-use Rattle.configuration.specs.Form.{IsConfigurationText, SaysInText}
-use Rattle.configuration.specs.Said.{is_of_configuration}
+use Rattle.configuration_json.specs.Form.{IsConfigurationText, SaysInText}
+use Rattle.configuration_json.specs.Said.{is_of_configuration}
 use Rattle.shapes.specs.Declarations.{DeclarationOf}
 use Rattle.derive_decl.specs.Law.{ResolvedIsMeant}
 use Rattle.closing.specs.Described.{Describes}

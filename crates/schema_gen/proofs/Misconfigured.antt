@@ -4,8 +4,8 @@ use Rattle.diag.specs.Diagnostics.{HasFirst}
 use Rattle.diag.specs.declared.diagnostics.DiangosticsInner.{DiangosticsInner}
 use Rattle.diag.specs.declared.error.DeriveError.TheVariants.{Refused}
 use Rattle.diag.specs.declared.kind.Kind.{Kind}
-use Rattle.configuration.specs.Form.{IsRefusedText}
-use Rattle.configuration.specs.Said.{HaveFault}
+use Rattle.configuration_json.specs.Form.{IsRefusedText}
+use Rattle.configuration_json.specs.Said.{HaveFault}
 use Rattle.reporting.specs.Beginning.{Beginning}
 use Rattle.schema_gen.specs.Given.{IsRefusedFile, IsMisconfiguredBy}
 

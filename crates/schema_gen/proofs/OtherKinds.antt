@@ -35,7 +35,7 @@ use Rattle.derive_decl.specs.Resolved.{Around, around_of}
 use Rattle.derive_decl.specs.Faults.{AreFaultyFields, IsFaultyType, IsFaultyMember, IsUnnamed, IsFaultyVariant, IsFaultyBody, IsFaultyItem}
 use Rattle.compose.specs.Bounds.{IsRefusalOf, IsUnbounded}
 use Rattle.compose.specs.Faults.{AreFaultyDeclarations, AreAtFault, IsBeyond, IsRefused}
-use Rattle.configuration.specs.Said.{is_of_configuration}
+use Rattle.configuration_json.specs.Said.{is_of_configuration}
 use Rattle.schema_gen.specs.Refusals.{IsRefusedSource}
 
 module _ (own : Kind) (of_configuration : IsTrue (is_of_configuration own)) (ds : List DiangosticsInner) (first : HasFirst ds (λ d. d.kind ≡ own)) where

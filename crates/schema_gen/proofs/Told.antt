@@ -6,12 +6,12 @@ use Rattle.diag.specs.declared.error.DeriveError.{DeriveError}
 use Rattle.streams.specs.Told.{IsAll}
 use Rattle.schema_core.specs.Document.{document, text_of}
 use Rattle.configuration.specs.Configuration.{Configuration}
-use Rattle.configuration.specs.Form.{IsConfigurationText}
+use Rattle.configuration_json.specs.Form.{IsConfigurationText}
 use Rattle.compose.specs.Faults.{ComponentsAreOne}
 use Rattle.reporting.specs.Beginning.{Beginning}
 use Rattle.reporting.specs.Program.{IsAnswered, IsRefusedRun}
 use Rattle.schema_gen.specs.Derived.{IsDocument, IsDocumentOf}
-use Rattle.configuration.specs.Said.{IsSaidBy}
+use Rattle.configuration_json.specs.Said.{IsSaidBy}
 use Rattle.schema_gen.specs.Given.{Given, IsConfigured, IsMisconfigured, IsGiven, of_sample, of_source}
 use Rattle.schema_gen.specs.Owed.{schema_gen, IsTold}
 use Rattle.schema_gen.specs.Refusals.{IsSound, IsRefusedSource}

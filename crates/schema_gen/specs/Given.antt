@@ -5,8 +5,8 @@ use Rattle.diag.specs.declared.kind.Kind.{Kind}
 use Rattle.streams.specs.Told.{IsAll}
 use Rattle.files.specs.Held.{IsHeld}
 use Rattle.configuration.specs.Configuration.{Configuration}
-use Rattle.configuration.specs.Form.{IsConfigurationText, IsRefusedText}
-use Rattle.configuration.specs.Said.{IsSaidBy, SayNone, HaveFault}
+use Rattle.configuration_json.specs.Form.{IsConfigurationText, IsRefusedText}
+use Rattle.configuration_json.specs.Said.{IsSaidBy, SayNone, HaveFault}
 use Rattle.syntax.specs.Items.{DeclaredItem}
 use Rattle.syntax.specs.Source.{Reads}
 use Rattle.shapes.specs.Declarations.{DeclarationOf}

@@ -10,8 +10,9 @@ pub use Rattle.acceptance.specs.References
 pub use Rattle.closing.specs.Closed
 pub use Rattle.closing.specs.Described
 pub use Rattle.compose.specs.Faults
+pub use Rattle.configuration.specs.Aliases
 pub use Rattle.configuration.specs.Configuration
-pub use Rattle.configuration.specs.Form
+pub use Rattle.configuration_json.specs.Form
 pub use Rattle.shapes.specs.Declarations
 pub use Rattle.shapes.specs.InstanceShape
 pub use Rattle.shapes.specs.Plain

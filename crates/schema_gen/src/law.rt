@@ -9,7 +9,7 @@ ghost use Rattle.schema_gen.specs.Owed.{IsTold};
 ghost use Rattle.schema_gen.specs.Refusals.{IsRefusedSource, IsSound};
 
 use compose::{bounded_are_not_refused, components_are_one};
-use configuration::configurations_are_one;
+use configuration_json::configurations_are_one;
 use reporting::texts_are_read;
 use syntax::one_reading;
 

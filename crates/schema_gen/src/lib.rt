@@ -2,8 +2,8 @@
 //! 3.1 component schemas out. A file may configure what deriving may take.
 //!
 //! `derive_components` takes a text of declarations, `whole_files::derive_files` whole files as they are, and `run` is a run of
-//! the program over streams. `Config` says what deriving may take: read from JSON, or set. `sample_source` makes a large source
-//! from a number.
+//! the program over streams. `Config` says what deriving may take: read from JSON (`FromJson`), or set. `sample_source` makes a
+//! large source from a number.
 #![tactic(auto)]
 
 mod command;
@@ -15,6 +15,7 @@ pub mod whole_files;
 
 pub use compose::{Derived, derive_components};
 pub use configuration::{Config, OutOfRange, SchemaCollect};
+pub use configuration_json::FromJson;
 pub use diag::{
     DeriveError, Diagnostics, DiangosticsInner, Kind, List, RenamePlace, RenameRow, RenameRule,
     Span, Suggestion, Text,

@@ -6,8 +6,8 @@ ghost use Rattle.schema_core.specs.Document.{text_of};
 ghost use Rattle.streams.specs.Faults.{CountsFault};
 ghost use Rattle.streams.specs.Told.{AppendsPart};
 ghost use Rattle.configuration.specs.Configuration.{Configuration};
-ghost use Rattle.configuration.specs.Form.{SaysInText};
-ghost use Rattle.configuration.specs.Said.{is_of_configuration};
+ghost use Rattle.configuration_json.specs.Form.{SaysInText};
+ghost use Rattle.configuration_json.specs.Said.{is_of_configuration};
 ghost use Rattle.files.specs.Held.{IsMissing};
 ghost use Rattle.shapes.specs.Declarations.{DeclarationOf};
 ghost use Rattle.closing.specs.Described.{Describes};
@@ -23,7 +23,9 @@ ghost use Rattle.schema_gen.specs.Words.{HaveForm, IsDerive, IsSample};
 
 use crate::derivation::derivation_of;
 use crate::law::sound_is_not_refused;
-use configuration::{configurations_are_one, configurations_are_said, refused_texts_have_faults};
+use configuration_json::{
+    configurations_are_one, configurations_are_said, refused_texts_have_faults,
+};
 use derive_decl::resolved_is_meant;
 use files::Files;
 use reporting::{Status, Words, run_command};

@@ -1,8 +1,7 @@
 -- Which aliases of files name types.
 use Rattle.std.proofs.Common.{◌≡◌, ◌∙◌, ◌⊎◌, ◌↔◌, inl, inr, refl, ap, sym, subst, List, [], ◌∷◌, ℕ, Bool, true, false, not, cond, MatchBool, IsTrue, Option, Some, None, is_some}
-use Rattle.configuration.specs.Aliases.{alias_names}
+use Rattle.configuration.specs.Aliases.{alias_names, IsTypeText}
 use Rattle.configuration.specs.Configuration.{Alias, Configuration, with_aliases}
-use Rattle.configuration.specs.Form.{IsTypeText}
 use Rattle.diag.specs.declared.diagnostics.DiangosticsInner.{DiangosticsInner}
 use Rattle.diag.specs.declared.error.DeriveError.{DeriveError}
 use Rattle.diag.specs.declared.error.DeriveError.TheVariants.{Refused, Memory}

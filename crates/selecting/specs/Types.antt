@@ -2,8 +2,8 @@
 use Rattle.std.specs.Prelude.{◌≡◌, ℕ, List, [], ◌∷◌, Bool, false, cond, bytes_eq}
 use Rattle.written_types.specs.Written.{Written, path}
 use Rattle.configuration.specs.Aliases as configured
+use Rattle.configuration.specs.Aliases.{IsTypeText}
 use Rattle.configuration.specs.Configuration.{Alias, Configuration, with_aliases}
-use Rattle.configuration.specs.Form.{IsTypeText}
 use Rattle.prepare.specs.declared.file_items.FileAlias.{FileAlias}
 use Rattle.selecting.specs.Lists.{is_named}
 

@@ -2,6 +2,7 @@
 
 use crate::answers::{equality, word_or_refusal};
 use configuration::Config;
+use configuration_json::FromJson;
 use diag::DeriveError;
 use rows::given::{member, text_at};
 use serde_json::Value;

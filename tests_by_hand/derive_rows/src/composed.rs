@@ -7,6 +7,7 @@ use acceptance_checker::component_accepts;
 use anyhow::bail;
 use compose::{Derived, derive_components};
 use configuration::Config;
+use configuration_json::FromJson;
 use diag::DeriveError;
 use open_types::OpenType;
 use rows::given::{items_at, text_at};

@@ -58,7 +58,7 @@ fn of_documents() {
     diag::suggestions_are_ordered();
     diag::kinds_and_rules_are_equal();
     diag::rules_have_own_names();
-    configuration::configurations_are_one();
+    configuration_json::configurations_are_one();
     serde_rules::lists_are_one();
     serde_rules::last_text_counts();
     serde_rules::rules_are_found_by_name();

@@ -2,7 +2,7 @@ use Rattle.std.proofs.Common.{◌⊎◌, ℕ, List, Some, IsTrue, inl, inr}
 use Rattle.reporting.specs.Beginning.{Beginning}
 use Rattle.reporting.specs.Program.{IsRefusedGiven, IsReportOf}
 use Rattle.diag.specs.declared.kind.Kind.{Kind}
-use Rattle.configuration.specs.Said.{is_of_configuration}
+use Rattle.configuration_json.specs.Said.{is_of_configuration}
 use Rattle.schema_gen.specs.Owed.{schema_gen}
 use Rattle.schema_gen.specs.Words.{derive}
 use Rattle.schema_gen.proofs.Consequences.{described, other_kind, bad_config_cause, only_bad_owed, sample_owed}

@@ -1,7 +1,6 @@
 use Rattle.std.proofs.Common.{◌≡◌, ◌∙◌, ◌⊎◌, false, is_some, ap, sym, subst, ◌≡◌}
 use Rattle.std.specs.BTreeMap.{get_by_text}
-use Rattle.configuration.specs.Aliases.{alias_names}
-use Rattle.configuration.specs.Form.{IsTypeText}
+use Rattle.configuration.specs.Aliases.{alias_names, IsTypeText}
 use Rattle.diag.specs.declared.error.DeriveError.TheVariants.{Memory}
 use Rattle.type_grammar.specs.Source.{IsNoType, IsDeepType}
 use Rattle.written_types.specs.Written.{written_view}

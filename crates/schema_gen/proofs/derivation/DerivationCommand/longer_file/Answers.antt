@@ -1,7 +1,7 @@
 use Rattle.std.proofs.Common.{◌≤◌, ◌<◌, ℕ, List, length, inl, inr, arith}
 use Rattle.serde_json.specs.Data.{Data}
 use Rattle.configuration.specs.Configuration.{Configuration}
-use Rattle.configuration.specs.Form.{IsJson, IsConfigurationText}
+use Rattle.configuration_json.specs.Form.{IsJson, IsConfigurationText}
 use Rattle.reporting.specs.Bytes.{most_bytes}
 use Rattle.schema_gen.proofs.derivation.DerivationCommand.longer_file.Goals as goal
 

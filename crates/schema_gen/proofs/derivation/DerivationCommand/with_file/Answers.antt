@@ -3,7 +3,7 @@ use Rattle.std.proofs.lemmas.Result.{err_from_is_err_and}
 use Rattle.diag.specs.Refusal.{IsErrorFor}
 use Rattle.diag.specs.declared.error.DeriveError.{DeriveError}
 use Rattle.configuration.specs.Configuration.{Configuration}
-use Rattle.configuration.specs.Form.{IsConfigurationText, IsRefusedText}
+use Rattle.configuration_json.specs.Form.{IsConfigurationText, IsRefusedText}
 use Rattle.reporting.specs.Beginning.{Beginning}
 use Rattle.reporting.specs.Command.{HasFile}
 use Rattle.reporting.specs.Program.{IsRefusedRun}

@@ -1,5 +1,0 @@
-use Rattle.configuration.proofs.SaidLaws.{said_in_text}
-use Rattle.configuration.proofs.law.configurations_are_said.Goals as goal
-
-pub returns : goal.returns
-returns c = said_in_text
