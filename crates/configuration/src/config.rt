@@ -117,8 +117,8 @@ impl Config {
         self.renames.push(row)
     }
 
-    /// Sets the aliases: of each name the type in its place. A refused call changes nothing. How deep the aliases stand in
-    /// each other is not judged.
+    /// Sets the aliases: of each name the type in its place, so the lists have one length. A refused call changes nothing. How
+    /// deep the aliases stand in each other is not judged.
     pub fn set_aliases(
         &mut self,
         alloc: Global,
