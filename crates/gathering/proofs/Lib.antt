@@ -1,3 +1,4 @@
+mod Helped
 mod Stopping
 mod Taking
 mod Together

@@ -1,14 +1,17 @@
 -- Files one after another.
-use Rattle.std.proofs.Common.{◌≡◌, ◌∙◌, ◌⊎◌, refl, ap, ap₂, sym, subst, inl, inr, ℕ, suc, ◌+◌, List, [], ◌∷◌, ◌++◌, length, map, arith, append_assoc}
+use Rattle.std.proofs.Common.{◌≡◌, ◌∙◌, ◌⊎◌, ◌≤◌, refl, ap, ap₂, sym, subst, inl, inr, ℕ, suc, ◌+◌, List, [], ◌∷◌, ◌++◌, length, map, take, IsUtf8, Option, Result, Ok, Err, IfOk, arith, append_assoc}
+use Rattle.std.specs.Str.{IsValidUpTo}
 use Rattle.std.proofs.lemmas.List.{append-nil, length-map, map_push}
 use Rattle.prepare.specs.declared.file_items.FileItem.{FileItem}
 use Rattle.telling.specs.declared.told.Told.{Told}
 use Rattle.prepare.specs.FileItems.{AreItemsOf, AreAliasesOf}
 use Rattle.prepare.specs.FileTexts.{text_of_file}
 use Rattle.texts.specs.declared.span.Span.{Span}
-use Rattle.gathering.specs.Files.{FileOf, Has, IsTextOfFile, HasItems, HasImpls, HasAliases, IsToldOfFile, too_long, no_text, no_file, AreGathered, no_files, has_items, is_told, Have, have_none, has_own, none_told, HaveImpls, HaveAliases, Gathers}
+use Rattle.gathering.specs.Files.{FileOf, most_bytes, IsEndOf, Has, IsTextOfFile, HasItems, HasImpls, HasAliases, IsToldOfFile, too_long, no_text, no_file, AreGathered, no_files, has_items, is_told, Have, have_none, has_own, none_told, HaveImpls, HaveAliases, Gathers}
 use Rattle.prepare.specs.declared.file_items.FileImpl.{FileImpl}
 use Rattle.prepare.specs.declared.file_items.FileAlias.{FileAlias}
+use Rattle.gathering.specs.Stops.{IsHelpOfStop}
+use Rattle.gathering.specs.Telling.{whole, told_by, told_broken}
 use Rattle.gathering.specs.declared.gathered.Gathered.{Gathered}
 use Rattle.diag.specs.declared.diagnostics.DiangosticsInner.{DiangosticsInner}
 use Rattle.diag.specs.declared.error.DeriveError.{DeriveError}
@@ -92,6 +95,20 @@ pub cause_of : (text : List ℕ) (e : DeriveError) (d own : List DiangosticsInne
 cause_of text e d own is same (inl memory) = let one : Memory ≡ Refused d = sym memory ∙ is in cc
 cause_of text e d own is same (inr cause) =
     subst (λ v. IsDepthError text (Refused v) ⊎ IsNoFile text (Refused v)) (sym same) (subst (λ v. IsDepthError text v ⊎ IsNoFile text v) is cause)
+
+-- what is told of a file that is UTF-8 up to there alone, by its text so far
+pub broken_of : {E : Type 0} (f : FileOf) (front : ℕ) (text : List ℕ) (r : Result Told E) → text ≡ text_of_file (take front f.bytes) → length f.bytes ≤ most_bytes → ¬ (IsUtf8 f.bytes) → IsValidUpTo f.bytes front
+    → IfOk r (λ told. (end : Span) × IsEndOf text end × (told ≡ told_broken f.name text end)) → IfOk r (IsToldOfFile f)
+broken_of f front text (Err e) is short broken valid told = tt
+broken_of f front text (Ok t) is short broken valid (end, at, told) =
+    subst (IsToldOfFile f) (sym (told ∙ ap (λ v. told_broken f.name v end) is)) (no_text {front = front} end short broken valid (subst (λ v. IsEndOf v end) is at))
+
+-- what is told of a file whose text is refused
+pub stopped_of : (f : FileOf) (text : List ℕ) (d : List DiangosticsInner) (told : Told) → text ≡ text_of_file f.bytes → length f.bytes ≤ most_bytes → IsUtf8 f.bytes
+    → IsDepthError (text_of_file f.bytes) (Refused d) ⊎ IsNoFile (text_of_file f.bytes) (Refused d)
+    → (help : Option (List ℕ)) × IsHelpOfStop f.name text d help × (told ≡ record (told_by f.name whole text d) { help = help }) → IsToldOfFile f told
+stopped_of f text d told is short utf8 cause (help, is_help, same) =
+    subst (IsToldOfFile f) (sym (same ∙ ap (λ (v : List ℕ). let all : Told = record (told_by f.name whole v d) { help = help } in all) is)) (no_file short utf8 cause (subst (λ (v : List ℕ). IsHelpOfStop f.name v d help) is is_help))
 
 -- ---- one gathering
 

@@ -1,6 +1,7 @@
 -- Texts read one after another.
-use Rattle.std.proofs.Common.{◌≡◌, ◌∙◌, ◌⊎◌, inl, inr, refl, ap, ap₂, sym, subst, ℕ, List, [], ◌∷◌, ◌++◌, length, append_assoc, replicate}
-use Rattle.std.proofs.lemmas.List.{append-nil}
+use Rattle.std.proofs.Common.{◌≡◌, ◌∙◌, ◌⊎◌, inl, inr, refl, ap, ap₂, sym, subst, ℕ, List, [], ◌∷◌, ◌++◌, length, map, append_assoc, replicate, Result, Ok, Err, OnOk}
+use Rattle.std.specs.Borrow.{Bor}
+use Rattle.std.proofs.lemmas.List.{append-nil, length-map, map-append}
 use Rattle.diag.specs.Refusal.{RefusesNone}
 use Rattle.diag.specs.declared.diagnostics.DiangosticsInner.{DiangosticsInner}
 use Rattle.diag.specs.declared.error.DeriveError.{DeriveError}
@@ -8,13 +9,15 @@ use Rattle.diag.specs.declared.error.DeriveError.TheVariants.{Refused, Memory}
 use Rattle.texts.specs.Lists.{Somewhere}
 use Rattle.serde_names.specs.Asked.{asked_of, asked_of_item}
 use Rattle.renaming.specs.Refusals.{IsNameless, IsRefusedItem, HaveNoRows}
-use Rattle.syntax.specs.Items.{DeclaredItem}
+use Rattle.syntax.specs.Items.{DeclaredItem, declaration_view, declarations_view}
+use Rattle.syntax.specs.declared.item.Declaration.{Declaration}
 use Rattle.syntax.specs.Named.{AreNamed}
 use Rattle.syntax.specs.Source.{Reads}
 use Rattle.prepare.specs.Blanks.{text_read}
 use Rattle.prepare.specs.declared.file_items.FileItem.{FileItem}
 use Rattle.telling.specs.declared.told.Told.{Told}
-use Rattle.gathering.specs.Reading.{IsReadAs, IsRefusedText, told_of, AreRead, nothing_read, is_read, is_refused}
+use Rattle.gathering.specs.Reading.{IsReadAs, IsRefusedText, told_of, AreRead, HasRead, nothing_read, is_read, is_refused}
+use Rattle.gathering.specs.declared.reading.Reading.{Reading}
 use Rattle.gathering.specs.Laws.{ReadAsOne}
 
 -- ---- one text more
@@ -95,3 +98,43 @@ more_read names i {items = items} {from = from} {after = after} {ds = ds} {es = 
 pub refused_is : (text : List ℕ) (e : DeriveError) (d own : List DiangosticsInner) → e ≡ Refused d → own ≡ d → (e ≡ Memory) ⊎ IsRefusedText text e → IsRefusedText text (Refused own)
 refused_is text e d own is same (inl memory) = let one : Memory ≡ Refused d = sym memory ∙ is in cc
 refused_is text e d own is same (inr refused) = subst (λ v. IsRefusedText text (Refused v)) (sym same) (subst (IsRefusedText text) is refused)
+
+-- ---- what is read so far
+
+abbrev shown : List (Bor FileItem) → List FileItem
+shown from = map (λ i. i.now) from
+
+pub nothing_so_far : (names : List (List ℕ)) (ds : List Declaration) (from : List (Bor FileItem)) (faults : List Told) → ds ≡ [] → from ≡ [] → faults ≡ []
+    → HasRead names [] (record { declarations = record { items = ds }; from = from; faults = faults })
+nothing_so_far names ds from faults d f t =
+    subst (λ v. HasRead names [] (record { declarations = record { items = v }; from = from; faults = faults })) (sym d)
+    (subst (λ v. HasRead names [] (record { declarations = record { items = [] }; from = v; faults = faults })) (sym f)
+    (subst (λ v. HasRead names [] (record { declarations = record { items = [] }; from = []; faults = v })) (sym t) (record { read = nothing_read; named = tt; rows = none_rowless })))
+
+-- one text more that is read
+pub read_so_far : {E : Type 0} (names : List (List ℕ)) (i : FileItem) (r : Reading) (o : Result Unit E) (own ds : List Declaration) (from : List (Bor FileItem)) (n : ℕ)
+    → IsReadAs (text_read i) (map declaration_view own) → AreNamed (map declaration_view own) → n ≡ length own → shown from ≡ shown r.from ++ replicate n i → OnOk o (ds ≡ r.declarations.items ++ own)
+    → OnOk o ((items : List FileItem) → HasRead names items r → HasRead names (items ++ i ∷ []) (record { declarations = record { items = ds }; from = from; faults = r.faults }))
+read_so_far names i r (Err e) own ds from n read named many grown is = tt
+read_so_far names i r (Ok u) own ds from n read named many grown is = λ items h.
+    let es = map declaration_view own in
+    let all : map declaration_view ds ≡ declarations_view r.declarations ++ es = ap (map declaration_view) is ∙ map-append declaration_view r.declarations.items own in
+    let as_many : n ≡ length es = many ∙ sym (length-map own declaration_view) in
+    record {
+      read = more_read names i n as_many grown all read h.read;
+      named = subst AreNamed (sym all) (named_together (declarations_view r.declarations) es h.named named);
+      rows = subst (λ (v : List DeclaredItem). RefusesNone (HaveNoRows v)) (sym all) (rows_together (declarations_view r.declarations) es h.rows read.rows);
+    }
+
+-- one text more that is told of
+pub told_so_far : {E : Type 0} (names : List (List ℕ)) (i : FileItem) (r : Reading) (o : Result Unit E) (d : List DiangosticsInner) (told : Told) (faults : List Told)
+    → IsRefusedText (text_read i) (Refused d) → told ≡ told_of names i d → OnOk o (faults ≡ r.faults ++ told ∷ [])
+    → OnOk o ((items : List FileItem) → HasRead names items r → HasRead names (items ++ i ∷ []) (record { declarations = r.declarations; from = r.from; faults = faults }))
+told_so_far names i r (Err e) d told faults refused same is = tt
+told_so_far names i r (Ok u) d told faults refused same is = λ items h.
+    let all : faults ≡ r.faults ++ told_of names i d ∷ [] = is ∙ ap (λ (t : Told). r.faults ++ t ∷ []) same in
+    record {
+      read = subst (AreRead names (items ++ i ∷ []) (shown r.from) (declarations_view r.declarations)) (sym all) (refused_after names i h.read refused);
+      named = h.named;
+      rows = h.rows;
+    }

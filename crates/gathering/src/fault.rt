@@ -21,6 +21,14 @@ pub(crate) fn whole(alloc: Global) -> Result<Place, AllocError>
     })
 }
 
+/// The same, with this as what the reader may do.
+pub(crate) fn with_help(mut told: Told, help: Option<Text>) -> Told
+    ensures { result ≡ record told { help = help } }
+{
+    told.help = help;
+    told
+}
+
 /// What is told of the refusal of a text that stands at the place in the file of the path.
 pub fn told_by(
     alloc: Global,
@@ -32,7 +40,8 @@ pub fn told_by(
     ensures { IfOk result
         (λ told. told ≡ told_by path.now place.now text.now refusal.now) }
 {
-    let mut told = told_in(
+    let help = entry_help(alloc, refusal)?;
+    let told = told_in(
         alloc,
         path,
         place,
@@ -41,8 +50,7 @@ pub fn told_by(
         refusal.kind().name(),
         refusal.message(),
     )?;
-    told.help = entry_help(alloc, refusal)?;
-    Ok(told)
+    Ok(with_help(told, help))
 }
 
 /// What is told without a place.
@@ -67,7 +75,7 @@ pub fn told_plainly(
 pub fn told_unplaced(alloc: Global, path: &str, refusal: &Diagnostics) -> Result<Told, AllocError>
     ensures { IfOk result (λ told. told ≡ told_unplaced path.now refusal.now) }
 {
-    let mut told = told_plainly(alloc, path, refusal.kind().name(), refusal.message())?;
-    told.help = entry_help(alloc, refusal)?;
-    Ok(told)
+    let help = entry_help(alloc, refusal)?;
+    let told = told_plainly(alloc, path, refusal.kind().name(), refusal.message())?;
+    Ok(with_help(told, help))
 }

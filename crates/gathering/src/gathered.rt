@@ -1,14 +1,16 @@
 //! The declarations of files, taken one after another.
 
-ghost use Rattle.std.specs.Prelude.{◌≡◌, ◌<◌, ◌≤◌, ℕ, [], ◌∷◌, ◌++◌, length, List as AnyList, IfOk, IfErr, OnOk};
+ghost use Rattle.std.specs.Prelude.{◌≡◌, ◌<◌, ◌≤◌, ℕ, [], ◌∷◌, ◌++◌, length, List as AnyList, Option, IfOk, IfErr, OnOk};
 ghost use Rattle.std.specs.Str.{IsUtf8, IsValidUpTo};
-ghost use Rattle.gathering.specs.Telling.{told_longer};
-ghost use Rattle.gathering.specs.Files.{FileOf, file_of, most_bytes, HasItems, HasImpls, HasAliases, IsToldOfFile, IsTextOfFile, IfTold, Gathers};
+ghost use Rattle.texts.specs.declared.span.Span.{Span as AnySpan};
+ghost use Rattle.gathering.specs.Stops.{IsHelpOfStop};
+ghost use Rattle.gathering.specs.Telling.{whole, told_by, told_longer, told_broken};
+ghost use Rattle.gathering.specs.Files.{FileOf, file_of, most_bytes, HasItems, HasImpls, HasAliases, IsEndOf, IsToldOfFile, IsTextOfFile, IfTold, Gathers};
 
-use crate::fault::{told_by, told_plainly, whole};
+use crate::fault::{told_by, told_plainly, whole, with_help};
 use crate::source::Source;
 use crate::stop_help::stop_help;
-use diag::DeriveError;
+use diag::{DeriveError, Diagnostics};
 use prepare::{FileAlias, FileImpl, FileItem, FileParts, file_parts, file_text};
 use std::alloc::{AllocError, Global};
 use telling::{Told, told_in};
@@ -50,6 +52,19 @@ impl From<AllocError> for Stop {
     }
 }
 
+/// What is told of bytes that are no UTF-8 behind the text.
+fn told_broken(alloc: Global, name: &str, text: &str) -> Result<Told, AllocError>
+    ensures { IfOk result (λ told. (end : AnySpan) × IsEndOf text.now end
+        × (told ≡ told_broken name.now text.now end)) }
+{
+    let place = whole(alloc)?;
+    let help = Text::new(alloc, "these bytes are no UTF-8")?;
+    let end = Span::new(text.len(), text.len());
+    let message = "unexpected text in a declaration";
+    let told = told_in(alloc, name, &place, text, end, "Syntax", message)?;
+    Ok(with_help(told, Some(help)))
+}
+
 /// What is told of bytes that are UTF-8 up to there alone.
 fn no_text(alloc: Global, source: &Source<'_>, end: usize) -> Result<Told, AllocError>
     requires short { length source.now.bytes.now ≤ MOST_BYTES }
@@ -62,21 +77,7 @@ fn no_text(alloc: Global, source: &Source<'_>, end: usize) -> Result<Told, Alloc
         return Err(AllocError);
     };
     let text = file_text(alloc, front)?;
-    let place = whole(alloc)?;
-    let length = text.as_str().len();
-    let end = Span::new(length, length);
-    let message = "unexpected text in a declaration";
-    let mut told = told_in(
-        alloc,
-        source.name,
-        &place,
-        text.as_str(),
-        end,
-        "Syntax",
-        message,
-    )?;
-    told.help = Some(Text::new(alloc, "these bytes are no UTF-8")?);
-    Ok(told)
+    told_broken(alloc, source.name, text.as_str())
 }
 
 /// What is told of a file that is too long.
@@ -105,6 +106,23 @@ fn text_of(alloc: Global, source: &Source<'_>) -> Result<Text, Stop>
     }
 }
 
+/// What is told of the text of the file of the name, which is refused.
+fn told_stop(
+    alloc: Global,
+    name: &str,
+    text: &str,
+    refusal: &Diagnostics,
+) -> Result<Told, AllocError>
+    ensures { IfOk result (λ told. (help : Option (AnyList ℕ))
+        × IsHelpOfStop name.now text.now refusal.now help
+        × (told ≡ record (told_by name.now whole text.now refusal.now) { help = help })) }
+{
+    let place = whole(alloc)?;
+    let help = stop_help(alloc, name, text, refusal)?;
+    let told = told_by(alloc, name, &place, text, refusal)?;
+    Ok(with_help(told, help))
+}
+
 /// The declarations of the file of this number, its impls by hand and its aliases.
 fn parts_of(alloc: Global, file: usize, source: &Source<'_>) -> Result<FileParts, Stop>
     ensures items { IfOk result (λ parts. HasItems file source.now.bytes.now parts.items) }
@@ -117,9 +135,7 @@ fn parts_of(alloc: Global, file: usize, source: &Source<'_>) -> Result<FileParts
         Ok(parts) => Ok(parts),
         Err(DeriveError::Memory) => Err(Stop::Memory),
         Err(DeriveError::Refused(refusal)) => {
-            let place = whole(alloc)?;
-            let mut told = told_by(alloc, source.name, &place, text.as_str(), &refusal)?;
-            told.help = stop_help(alloc, source.name, text.as_str(), &refusal)?;
+            let told = told_stop(alloc, source.name, text.as_str(), &refusal)?;
             Err(Stop::Told(told))
         }
     }

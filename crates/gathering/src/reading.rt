@@ -1,12 +1,13 @@
 //! Selected declarations, each read from its own text.
 
-ghost use Rattle.std.specs.Prelude.{◌≡◌, ◌++◌, ◌⊎◌, map, length, get_or, [], IfOk, OnOk, replicate};
+ghost use Rattle.std.specs.Prelude.{◌≡◌, ◌∷◌, ◌++◌, ◌⊎◌, List as AnyList, map, length, get_or, [], IfOk, OnOk, replicate};
 ghost use Rattle.diag.specs.Refusal.{Refuses, RefusesNone};
 ghost use Rattle.renaming.specs.Refusals.{HaveNoRows};
 ghost use Rattle.syntax.specs.Items.{declarations_view};
 ghost use Rattle.syntax.specs.Named.{AreNamed};
 ghost use Rattle.prepare.specs.Blanks.{text_read};
-ghost use Rattle.gathering.specs.Reading.{IsReadAs, IsRefusedText, file_name, told_of, AreRead};
+ghost use Rattle.prepare.specs.declared.file_items.FileItem.{FileItem as AnyItem};
+ghost use Rattle.gathering.specs.Reading.{IsReadAs, IsRefusedText, file_name, told_of, AreRead, HasRead};
 
 use crate::fault::told_by;
 use diag::{DeriveError, Diagnostics};
@@ -77,8 +78,30 @@ fn push_times<'i>(
     Ok(())
 }
 
-/// The declarations, each read from its own text, but for what is not read of it, and what is told of those whose text is refused: it has no reading, or
-/// nests too deep, or a name in it is given by a rule by which serde makes none.
+impl<'i> Reading<'i> {
+    /// Adds what the text of the declaration declares, or what is told of it.
+    fn add(&mut self, alloc: Global, names: &[Text], item: &'i FileItem) -> Result<(), AllocError>
+        ensures { OnOk result ((items : AnyList AnyItem) → HasRead names.now items self.old
+            → HasRead names.now (items ++ item.now ∷ []) self.new) }
+    {
+        match read_item(alloc, item) {
+            Ok(declarations) => {
+                read_fields_are_named();
+                push_times(&mut self.from, item, declarations.items.len())?;
+                self.declarations.items.append(declarations.items)
+            }
+            Err(DeriveError::Refused(refusal)) => {
+                let name = file_name(names, item.file);
+                let told = told_by(alloc, name, &item.place, item.text.as_str(), &refusal)?;
+                self.faults.push(told)
+            }
+            Err(DeriveError::Memory) => Err(AllocError),
+        }
+    }
+}
+
+/// The declarations, each read from its own text, but for what is not read of it, and what is told of those whose text is
+/// refused: it has no reading, or nests too deep, or a name in it is given by a rule by which serde makes none.
 pub fn read_items<'i>(
     alloc: Global,
     names: &[Text],
@@ -89,26 +112,15 @@ pub fn read_items<'i>(
     ensures named { IfOk result (λ r. AreNamed (declarations_view r.declarations)) }
     ensures rows { IfOk result (λ r. RefusesNone (HaveNoRows (declarations_view r.declarations))) }
 {
-    read_fields_are_named();
-    let mut read = List::new(alloc);
-    let mut from = List::new(alloc);
-    let mut faults = List::new(alloc);
+    let mut reading = Reading {
+        declarations: Declarations {
+            items: List::new(alloc),
+        },
+        from: List::new(alloc),
+        faults: List::new(alloc),
+    };
     for item in items {
-        match read_item(alloc, item) {
-            Ok(declarations) => {
-                push_times(&mut from, item, declarations.items.len())?;
-                read.append(declarations.items)?;
-            }
-            Err(DeriveError::Refused(refusal)) => {
-                let name = file_name(names, item.file);
-                faults.push(told_by(alloc, name, &item.place, item.text.as_str(), &refusal)?)?;
-            }
-            Err(DeriveError::Memory) => return Err(AllocError),
-        }
+        reading.add(alloc, names, item)?;
     }
-    Ok(Reading {
-        declarations: Declarations { items: read },
-        from,
-        faults,
-    })
+    Ok(reading)
 }

@@ -1,15 +1,11 @@
-use Rattle.std.proofs.Common.{◌≡◌, ◌∙◌, ◌⊎◌, ℕ, List, ap, ap₂, sym, subst}
+use Rattle.std.proofs.Common.{◌≡◌, ◌∙◌, ◌⊎◌, ℕ, List, subst}
 use Rattle.diag.specs.declared.error.DeriveError.TheVariants.{Refused}
 use Rattle.lexing.specs.Cut.{IsDepthError}
 use Rattle.prepare.specs.FileItems.{AreItemsOf, AreImplsOf, AreAliasesOf}
 use Rattle.prepare.specs.FileTexts.{text_of_file}
 use Rattle.prepare.specs.Prepared.{IsNoFile}
-use Rattle.telling.specs.declared.part.Place.{Place}
-use Rattle.gathering.specs.Files.{file_of, IsToldOfFile, no_file}
-use Rattle.telling.specs.declared.told.Told.{Told}
-use Rattle.gathering.specs.Stops.{IsHelpOfStop}
-use Rattle.gathering.specs.Telling.{told_by}
-use Rattle.gathering.proofs.Taking.{has_of, cause_of}
+use Rattle.gathering.specs.Files.{file_of}
+use Rattle.gathering.proofs.Taking.{has_of, cause_of, stopped_of}
 use Rattle.gathering.proofs.gathered.parts_of.Goals as goal
 
 pub returns-in-Ok-clause-items : goal.returns-in-Ok-clause-items
@@ -28,8 +24,5 @@ returns-clause-told c =
     let is : c.as_str.result.now ≡ text_of_file f.bytes = c.as_str.ensures ∙ text.2 in
     let refusal = c.in-Err-Refused.refusal in
     let cause = cause_of c.as_str.result.now c.in-Err-Refused.field-0 _ refusal c.in-Err-Refused.field-0-is c.in-Err-Refused.refusal-is c.in-Err-Refused.ensures.refused in
-    let base = c.in_ok-told-in-Err-Refused.ensures ∙ ap₂ (λ (place : Place) (t : List ℕ). told_by f.name place t refusal) c.in_ok-place-in-Err-Refused.ensures (c.as_str-in-Err-Refused.ensures ∙ text.2) in
-    let help = c.in_ok-told-in-Err-Refused-2.field-0 in
-    let helped = ap (λ (told : Told). let whole : Told = record told { help = help } in whole) base in
-    let is_help = subst (λ (v : List ℕ). IsHelpOfStop f.name v refusal help) (c.as_str-in-Err-Refused-2.ensures ∙ text.2) c.in_ok-told-in-Err-Refused-2.ensures in
-    subst (IsToldOfFile f) (sym helped) (no_file text.0 text.1 (subst (λ (v : List ℕ). IsDepthError v (Refused refusal) ⊎ IsNoFile v (Refused refusal)) is cause) is_help)
+    stopped_of f c.as_str-in-Err-Refused.result.now refusal c.in_ok-told-in-Err-Refused.told (c.as_str-in-Err-Refused.ensures ∙ text.2) text.0 text.1
+    (subst (λ (v : List ℕ). IsDepthError v (Refused refusal) ⊎ IsNoFile v (Refused refusal)) is cause) c.in_ok-told-in-Err-Refused.ensures
