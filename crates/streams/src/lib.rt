@@ -3,6 +3,7 @@
 
 mod memory;
 mod read;
+mod retry;
 mod sink;
 mod source;
 mod standard;

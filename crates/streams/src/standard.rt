@@ -1,10 +1,12 @@
 ghost use Rattle.std.specs.Prelude.{◌≡◌};
 
+use crate::retry;
 use crate::sink::Sink;
 use crate::source::{Failed, Source, count_fault};
 use std::io::{Read, Write};
 
-/// A reader of std as a source. It tells of its bytes what the reader tells: of a file or a pipe, nothing.
+/// A reader of std as a source. It tells of its bytes what the reader tells: of a file or a pipe, nothing. A read that the
+/// system interrupted is tried again, and is no fault.
 #[derive(Drop)]
 pub struct StdSource<R> {
     reader: R,
@@ -27,14 +29,15 @@ impl<R: Read> Source for StdSource<R> {
     ghost faults = { λ source. source.faults };
 
     fn read(&mut self, buffer: &mut [u8]) -> Result<usize, Failed> {
-        match self.reader.read(buffer) {
+        match retry::read(&mut self.reader, buffer) {
             Ok(count) => Ok(count),
             Err(_) => Err(count_fault(&mut self.faults)),
         }
     }
 }
 
-/// A writer of std as a sink. It tells of its bytes what the writer tells: of a file or a pipe, nothing.
+/// A writer of std as a sink. It tells of its bytes what the writer tells: of a file or a pipe, nothing. A write or a flush
+/// that the system interrupted is tried again, and is no fault.
 #[derive(Drop)]
 pub struct StdSink<W> {
     writer: W,
@@ -57,14 +60,14 @@ impl<W: Write> Sink for StdSink<W> {
     ghost faults = { λ sink. sink.faults };
 
     fn write(&mut self, piece: &[u8]) -> Result<usize, Failed> {
-        match self.writer.write(piece) {
+        match retry::write(&mut self.writer, piece) {
             Ok(count) if count > 0 || piece.is_empty() => Ok(count),
             _ => Err(count_fault(&mut self.faults)),
         }
     }
 
     fn flush(&mut self) -> Result<(), Failed> {
-        match self.writer.flush() {
+        match retry::flush(&mut self.writer) {
             Ok(()) => Ok(()),
             Err(_) => Err(count_fault(&mut self.faults)),
         }

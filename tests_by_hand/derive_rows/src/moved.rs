@@ -21,7 +21,8 @@ pub(crate) fn told(alloc: Global, call: &str, given: &Value) -> anyhow::Result<S
         },
         "read all from std" => {
             let bytes = bytes_at(alloc, given, "bytes")?;
-            all_text(alloc, &mut StdSource::new(bytes.as_slice()), given)
+            let reader = Interrupted::new(bytes.as_slice(), given)?;
+            all_text(alloc, &mut StdSource::new(reader), given)
         }
         "read" => match memory_source(alloc, given)? {
             Some(mut source) => reads_text(alloc, &mut source, given),
@@ -50,6 +51,60 @@ impl io::Read for FailsOnce {
         }
         self.failed = true;
         Err(io::Error::from(io::ErrorKind::TimedOut))
+    }
+}
+
+/// A reader or a writer of which so many calls are interrupted before each that is not.
+#[derive(Drop)]
+struct Interrupted<T> {
+    inner: T,
+    times: usize,
+    left: usize,
+}
+
+impl<T> Interrupted<T> {
+    /// Interrupted as often as the row says, or never.
+    fn new(inner: T, given: &Value) -> anyhow::Result<Interrupted<T>>
+    where
+        T: Drop,
+    {
+        let times = match given.get("interrupts") {
+            Some(_) => count_at(given, "interrupts")?,
+            None => 0,
+        };
+        Ok(Interrupted {
+            inner,
+            times,
+            left: times,
+        })
+    }
+
+    fn call(&mut self) -> io::Result<()> {
+        if self.left == 0 {
+            self.left = self.times;
+            return Ok(());
+        }
+        self.left -= 1;
+        Err(io::Error::from(io::ErrorKind::Interrupted))
+    }
+}
+
+impl<R: io::Read> io::Read for Interrupted<R> {
+    fn read(&mut self, buffer: &mut [u8]) -> io::Result<usize> {
+        self.call()?;
+        self.inner.read(buffer)
+    }
+}
+
+impl<W: io::Write> io::Write for Interrupted<W> {
+    fn write(&mut self, piece: &[u8]) -> io::Result<usize> {
+        self.call()?;
+        self.inner.write(piece)
+    }
+
+    fn flush(&mut self) -> io::Result<()> {
+        self.call()?;
+        self.inner.flush()
     }
 }
 
@@ -149,6 +204,7 @@ fn written(alloc: Global, given: &Value) -> anyhow::Result<String> {
 fn written_to_std(alloc: Global, given: &Value) -> anyhow::Result<String> {
     let mut bytes = vec![in alloc; b'.'; count_at(given, "room")?]?;
     let mut room = bytes.as_mut_slice();
-    let calls = writes_text(alloc, &mut StdSink::new(&mut room), given)?;
+    let writer = Interrupted::new(&mut room, given)?;
+    let calls = writes_text(alloc, &mut StdSink::new(writer), given)?;
     with_bytes(alloc, calls.as_str(), &bytes)
 }
