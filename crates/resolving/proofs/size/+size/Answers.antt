@@ -1,3 +1,4 @@
+use Rattle.std.proofs.lemmas.Grind.{common_steps}
 use Rattle.std.proofs.Common.{◌≡◌, ◌+◌, ◌<◌, ◌≤◌, ℕ, suc, Option, Some, None, MatchOption, sym, subst, arith, ◌-◌}
 use Rattle.written_types.specs.Written.{segment_view}
 use Rattle.resolving.specs.Names.{segment_size}
@@ -14,3 +15,15 @@ left_after_path-returns-in-len1-up t c =
     let size = path_size-at c.args.path.now c.as_slice.result.now c.segment-item.result c.as_slice.ensures c.in-len1-up.len_at_least c.segment-item.is (known c.args.names.now) in
     subst (λ n. MatchOption c.left_after_segment.result (c.args.left < n) (λ rest. rest + n ≡ c.args.left)) (sym size)
     (one_less c.left_after_segment.result c.args.left c.in_ok-left.left (segment_size (known c.args.names.now) (segment_view c.segment-item.result)) c.in_ok-left.ensures.0 c.in_ok-left.ensures.1 c.left_after_segment.ensures)
+
+pub left_after_arguments-returns : goal.left_after_arguments-returns
+left_after_arguments-returns t c = grind (arith, common_steps)
+
+pub left_after_types-returns-in_err-rest : goal.left_after_types-returns-in_err-rest
+left_after_types-returns-in_err-rest t c = grind (arith, common_steps)
+
+pub left_after_types-loop-ty-preserved : goal.left_after_types-loop-ty-preserved
+left_after_types-loop-ty-preserved t c = grind (arith, common_steps)
+
+pub left_after_types-returns : goal.left_after_types-returns
+left_after_types-returns t c = grind (arith, common_steps)

@@ -1,13 +1,15 @@
+use Rattle.std.proofs.lemmas.Grind.{common_steps}
+use Rattle.type_grammar.specs.Reading.{path_at, type_step, bound_at, type_in, argument_at, ends_list}
+use Rattle.type_grammar.proofs.Chains.{bound_else, segments_last, segments_turn, segments_fail, bounds_done, bounds_turn, bounds_fail}
+use Rattle.type_grammar.proofs.Steps.{type_in_zero, type_in_suc}
 use Rattle.std.proofs.Common.{◌≡◌, ◌<◌, ◌≤◌, ◌++◌, ◌∷◌, [], map, length, arith, Ok, sym, ap, ◌∙◌, false, true, unwrap_or}
 use Rattle.std.proofs.lemmas.Result.{err_from_is_err_and}
 use Rattle.std.proofs.lemmas.List.{map_push}
 use Rattle.written_types.specs.Written.{written_view, segment_view, argument_view}
 use Rattle.words.specs.Words.{words_view}
 use Rattle.type_grammar.specs.declared.starts.Bounds.TheVariants.{Any}
-use Rattle.type_grammar.specs.Reading.{type_in, argument_at, ends_list}
 use Rattle.words.proofs.Laws.{length_view, like_fails}
 use Rattle.type_grammar.proofs.Lists.{list_start, list_done, list_last, list_turn, list_fails}
-use Rattle.type_grammar.proofs.Chains.{segments_last, segments_turn, segments_fail, bounds_done, bounds_turn, bounds_fail}
 use Rattle.type_grammar.proofs.Sound.{segment_shortens, bound_shortens}
 use Rattle.type_grammar.proofs.types.+types.Goals as goal
 
@@ -123,3 +125,45 @@ bounds_at-bounds-preserved t c =
           c.in_ok-bound-in-Some.ensures.value)
           ∙ c.bounds.invariant.1,
     )
+
+pub path_at-returns-in_err-segments-in-None-clause-value : goal.path_at-returns-in_err-segments-in-None-clause-value
+unfolding path_at
+path_at-returns-in_err-segments-in-None-clause-value t c = grind (arith, common_steps)
+
+pub path_at-returns-in-empty-clause-value : goal.path_at-returns-in-empty-clause-value
+unfolding path_at
+path_at-returns-in-empty-clause-value t c = grind (arith, common_steps)
+
+pub type_step-returns-in-empty-clause-value : goal.type_step-returns-in-empty-clause-value
+unfolding type_step
+type_step-returns-in-empty-clause-value t c = grind (arith, common_steps)
+
+pub type_step-returns-in-Reference-clause-value : goal.type_step-returns-in-Reference-clause-value
+unfolding type_step
+type_step-returns-in-Reference-clause-value t c = grind (arith, common_steps)
+
+pub type_step-returns-in-Object-clause-value : goal.type_step-returns-in-Object-clause-value
+unfolding type_step
+type_step-returns-in-Object-clause-value t c = grind (arith, common_steps)
+
+pub type_step-returns-in_ok-round_group-in-Round-clause-value : goal.type_step-returns-in_ok-round_group-in-Round-clause-value
+unfolding type_step
+type_step-returns-in_ok-round_group-in-Round-clause-value t c = grind (arith, common_steps)
+
+pub type_step-returns-in_ok-square_group-in-Square-clause-value : goal.type_step-returns-in_ok-square_group-in-Square-clause-value
+unfolding type_step
+type_step-returns-in_ok-square_group-in-Square-clause-value t c = grind (arith, common_steps)
+
+pub bound_at-returns-in_err-path-in-None-clause-value : goal.bound_at-returns-in_err-path-in-None-clause-value
+unfolding bound_at
+bound_at-returns-in_err-path-in-None-clause-value t c = grind (arith, bound_else)
+
+pub bound_at-returns-in_ok-path-in-None-clause-value : goal.bound_at-returns-in_ok-path-in-None-clause-value
+unfolding bound_at
+bound_at-returns-in_ok-path-in-None-clause-value t c = grind (arith, bound_else)
+
+pub type_in-returns-then-left-gt0-clause-value : goal.type_in-returns-then-left-gt0-clause-value
+type_in-returns-then-left-gt0-clause-value t c = grind (arith, type_in_zero, type_in_suc)
+
+pub type_in-returns-clause-value : goal.type_in-returns-clause-value
+type_in-returns-clause-value t c = grind (arith, type_in_zero, type_in_suc)

@@ -1,3 +1,4 @@
+use Rattle.std.proofs.lemmas.Grind.{common_steps}
 use Rattle.std.proofs.Common.{arith, vec_len, ◌≡◌, ◌∙◌, sym, ap, subst, ℕ, List, Some, None, get_or, length, bytes_eq, string_bytes}
 use Rattle.std.specs.BTreeMap.{get_by_text}
 use Rattle.std.specs.Map.{update}
@@ -20,3 +21,9 @@ invariant_of-self-in-Ok c =
     (subst (λ bs. (value : List ℕ) → get_by_text c.insert.new.self value ≡ update bytes_eq old bs (Some c.slots_with-slots.result) value) name
     (btree_map_updates_text (string_bytes c.in_ok-from.from) c.self.inside.index c.insert.new.self (Some c.slots_with-slots.result) c.in-Ok.ensures.updates)) in
     subst (IsIndex (get_by_text c.insert.new.self)) (sym c.in_ok-push.ensures.items) (index_push old (get_by_text c.insert.new.self) rows row c.self.invariant grown)
+
+pub invariant_of-self-in-Err : goal.invariant_of-self-in-Err
+invariant_of-self-in-Err c = grind (arith, common_steps)
+
+pub returns-clause-err : goal.returns-clause-err
+returns-clause-err c = grind (arith, common_steps)
