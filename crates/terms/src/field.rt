@@ -55,11 +55,9 @@ pub fn field_term(
 pub(crate) fn unannotated_term(alloc: Global, ty: &OpenType) -> Result<Term, AllocError>
     ensures { IfOk result (λ t. term_view t ≡ field_term unannotated (open_view ty.now)) }
 {
-    let place = Place {
-        nullable: false,
-        inline: false,
+    let nothing = Annotations {
         deprecated: false,
-        description: &None,
+        description: None,
     };
-    place_term(alloc, place, ty)
+    field_term(alloc, &nothing, ty)
 }

@@ -5,7 +5,7 @@ ghost use Rattle.component.specs.Leaves.{term_view};
 ghost use Rattle.shapes.specs.Views.{form_view};
 ghost use Rattle.terms.specs.Terms.{form_term};
 
-use crate::named_fields::named_term;
+use crate::named_fields::NamedFields;
 use crate::unnamed_fields::unnamed_term;
 use component::{Term, null_default};
 use shapes::{Annotations, Form};
@@ -21,13 +21,14 @@ pub fn form_term(alloc: Global, annotations: &Annotations, form: &Form) -> Resul
             denies_others,
             beside,
             members,
-        } => named_term(
-            alloc,
-            annotations,
-            *denies_others,
-            beside,
-            members.as_slice(),
-        ),
+        } => {
+            let fields = NamedFields {
+                denies_others: *denies_others,
+                beside,
+                members: members.as_slice(),
+            };
+            fields.term(alloc, annotations)
+        }
         Form::Unnamed(types) => unnamed_term(alloc, annotations, types.as_slice()),
         Form::Unit => null_default(alloc, &annotations.description),
     }

@@ -18,6 +18,14 @@ use shapes::{Annotations, Beside, Member, flattened_of, has_map};
 use std::alloc::{AllocError, Global};
 use texts::{List, Text};
 
+/// Named fields: whether they deny other members, what is flattened into them, and the members.
+#[derive(Clone, Copy)]
+pub(crate) struct NamedFields<'a> {
+    pub(crate) denies_others: bool,
+    pub(crate) beside: &'a Option<Box<Beside>>,
+    pub(crate) members: &'a [Member],
+}
+
 /// The property of a member.
 fn property_of(alloc: Global, member: &Member) -> Result<(Text, Term), AllocError>
     ensures name { IfOk result (λ p. p.0 ≡ member.now.name) }
@@ -67,76 +75,6 @@ fn required_of(alloc: Global, members: &[Member]) -> Result<List<Text>, AllocErr
     Ok(required)
 }
 
-/// The object of the members, beside which others may be so.
-fn own_term(
-    alloc: Global,
-    keywords: SchemaAnnotations,
-    denies: bool,
-    beside: &Option<Box<Beside>>,
-    members: &[Member],
-) -> Result<Term, AllocError>
-    ensures { IfOk result (λ t. term_view t ≡ own_term keywords
-        (others_of (beside_view denies beside.now)) (map member_view members.now)) }
-{
-    let required = required_of(alloc, members)?;
-    let properties = properties_of(alloc, members)?;
-    let others = others_of(alloc, denies, beside)?;
-    object_term(alloc, properties, others, required, keywords)
-}
-
-/// The object of the members beside what is flattened, where it has a property or a map.
-fn own_items(
-    alloc: Global,
-    denies: bool,
-    beside: &Option<Box<Beside>>,
-    members: &[Member],
-) -> Result<List<Term>, AllocError>
-    ensures { let b = beside_view denies beside.now in
-        IfOk result (λ items. tree_views leaf_view items
-        ≡ own_beside b.map (others_of b) (map member_view members.now) no_schemas) }
-{
-    let mut items = List::new(alloc);
-    if has_map(beside) || !members.is_empty() {
-        items.push(own_term(alloc, SchemaAnnotations::new(), denies, beside, members)?)?;
-    }
-    Ok(items)
-}
-
-/// The schemas of what is flattened, and the object of the members behind them.
-fn items_beside(
-    alloc: Global,
-    denies: bool,
-    beside: &Option<Box<Beside>>,
-    members: &[Member],
-) -> Result<List<Term>, AllocError>
-    ensures { let b = beside_view denies beside.now in
-        IfOk result (λ items. tree_views leaf_view items ≡ flattened_terms b.flattened
-        (own_beside b.map (others_of b) (map member_view members.now) no_schemas)) }
-{
-    let mut items = flattened_terms(alloc, flattened_of(beside))?;
-    items.append(own_items(alloc, denies, beside, members)?)?;
-    Ok(items)
-}
-
-/// The schema of named fields.
-pub(crate) fn named_term(
-    alloc: Global,
-    annotations: &Annotations,
-    denies: bool,
-    beside: &Option<Box<Beside>>,
-    members: &[Member],
-) -> Result<Term, AllocError>
-    ensures { IfOk result (λ t. term_view t ≡ form_term annotations.now
-        (named_fields (beside_view denies beside.now) (map member_view members.now))) }
-{
-    let keywords = keywords_of(alloc, annotations)?;
-    if flattened_of(beside).is_empty() {
-        return own_term(alloc, keywords, denies, beside, members);
-    }
-    let items = items_beside(alloc, denies, beside, members)?;
-    all_of(alloc, items, keywords)
-}
-
 /// The names of the members that must be there, and the tag behind them.
 fn tagged_required(alloc: Global, members: &[Member], tag: &Text) -> Result<List<Text>, AllocError>
     ensures { IfOk result
@@ -162,66 +100,114 @@ fn tagged_properties(
     Ok(properties)
 }
 
-/// The object of the members with the tag behind them, whose text is the name, beside which others may be so.
-fn tagged_own_term(
-    alloc: Global,
-    keywords: SchemaAnnotations,
-    denies: bool,
-    beside: &Option<Box<Beside>>,
-    members: &[Member],
-    tag: &Text,
-    name: &Text,
-) -> Result<Term, AllocError>
-    ensures { let ms = map member_view members.now in
-        IfOk result (λ t. term_view t ≡ object_of keywords
-        (others_part (others_of (beside_view denies beside.now))) (required_names ms ++ tag.now ∷ [])
-        (with_property (properties_of ms) tag.now (tag_schema name.now))) }
-{
-    let required = tagged_required(alloc, members, tag)?;
-    let properties = tagged_properties(alloc, members, tag, name)?;
-    let others = others_of(alloc, denies, beside)?;
-    object_term(alloc, properties, others, required, keywords)
-}
-
-/// The schemas of what is flattened and the object of the members, and behind them an object that has the tag.
-fn tagged_items(
-    alloc: Global,
-    annotations: &Annotations,
-    denies: bool,
-    beside: &Option<Box<Beside>>,
-    members: &[Member],
-    tag: &Text,
-    name: &Text,
-) -> Result<List<Term>, AllocError>
-    ensures { let b = beside_view denies beside.now in
-        IfOk result (λ items. tree_views leaf_view items ≡ flattened_terms b.flattened
-        (own_beside b.map (others_of b) (map member_view members.now)
-        (schema (tag_alone (keywords_of annotations.now) tag.now name.now) no_schemas))) }
-{
-    let keywords = keywords_of(alloc, annotations)?;
-    let last = tag_alone(alloc, keywords, tag, name)?;
-    let mut items = items_beside(alloc, denies, beside, members)?;
-    items.push(last)?;
-    Ok(items)
-}
-
-/// The schema of named fields with a tag, whose text is the name.
-pub(crate) fn tagged_named_term(
-    alloc: Global,
-    annotations: &Annotations,
-    denies: bool,
-    beside: &Option<Box<Beside>>,
-    members: &[Member],
-    tag: &Text,
-    name: &Text,
-) -> Result<Term, AllocError>
-    ensures { IfOk result (λ t. term_view t ≡ internal_term annotations.now tag.now name.now
-        (named_fields (beside_view denies beside.now) (map member_view members.now))) }
-{
-    let keywords = keywords_of(alloc, annotations)?;
-    if flattened_of(beside).is_empty() {
-        return tagged_own_term(alloc, keywords, denies, beside, members, tag, name);
+impl NamedFields<'_> {
+    /// The object of the members, beside which others may be so.
+    fn own_term(self, alloc: Global, keywords: SchemaAnnotations) -> Result<Term, AllocError>
+        ensures { let b = beside_view self.entry.denies_others self.entry.beside.now in
+            IfOk result (λ t. term_view t
+            ≡ own_term keywords (others_of b) (map member_view self.entry.members.now)) }
+    {
+        let required = required_of(alloc, self.members)?;
+        let properties = properties_of(alloc, self.members)?;
+        let others = others_of(alloc, self.denies_others, self.beside)?;
+        object_term(alloc, properties, others, required, keywords)
     }
-    let items = tagged_items(alloc, annotations, denies, beside, members, tag, name)?;
-    all_of(alloc, items, keywords)
+
+    /// The object of the members beside what is flattened, where it has a property or a map.
+    fn own_items(self, alloc: Global) -> Result<List<Term>, AllocError>
+        ensures { let b = beside_view self.entry.denies_others self.entry.beside.now in
+            IfOk result (λ items. tree_views leaf_view items
+            ≡ own_beside b.map (others_of b) (map member_view self.entry.members.now) no_schemas) }
+    {
+        let mut items = List::new(alloc);
+        if has_map(self.beside) || !self.members.is_empty() {
+            items.push(self.own_term(alloc, SchemaAnnotations::new())?)?;
+        }
+        Ok(items)
+    }
+
+    /// The schemas of what is flattened, and the object of the members behind them.
+    fn items_beside(self, alloc: Global) -> Result<List<Term>, AllocError>
+        ensures { let b = beside_view self.entry.denies_others self.entry.beside.now in
+            IfOk result (λ items. tree_views leaf_view items ≡ flattened_terms b.flattened
+            (own_beside b.map (others_of b) (map member_view self.entry.members.now) no_schemas)) }
+    {
+        let mut items = flattened_terms(alloc, flattened_of(self.beside))?;
+        items.append(self.own_items(alloc)?)?;
+        Ok(items)
+    }
+
+    /// The schema of the fields.
+    pub(crate) fn term(self, alloc: Global, annotations: &Annotations) -> Result<Term, AllocError>
+        ensures { let b = beside_view self.entry.denies_others self.entry.beside.now in
+            IfOk result (λ t. term_view t ≡ form_term annotations.now
+            (named_fields b (map member_view self.entry.members.now))) }
+    {
+        let keywords = keywords_of(alloc, annotations)?;
+        if flattened_of(self.beside).is_empty() {
+            return self.own_term(alloc, keywords);
+        }
+        let items = self.items_beside(alloc)?;
+        all_of(alloc, items, keywords)
+    }
+
+    /// The object of the members with the tag behind them, whose text is the name, beside which others may be so.
+    fn tagged_own_term(
+        self,
+        alloc: Global,
+        keywords: SchemaAnnotations,
+        tag: &Text,
+        name: &Text,
+    ) -> Result<Term, AllocError>
+        ensures { let b = beside_view self.entry.denies_others self.entry.beside.now in
+            let ms = map member_view self.entry.members.now in
+            IfOk result (λ t. term_view t ≡ object_of keywords
+            (others_part (others_of b)) (required_names ms ++ tag.now ∷ [])
+            (with_property (properties_of ms) tag.now (tag_schema name.now))) }
+    {
+        let required = tagged_required(alloc, self.members, tag)?;
+        let properties = tagged_properties(alloc, self.members, tag, name)?;
+        let others = others_of(alloc, self.denies_others, self.beside)?;
+        object_term(alloc, properties, others, required, keywords)
+    }
+
+    /// The schemas of what is flattened and the object of the members, and behind them an object that has the tag.
+    fn tagged_items(
+        self,
+        alloc: Global,
+        annotations: &Annotations,
+        tag: &Text,
+        name: &Text,
+    ) -> Result<List<Term>, AllocError>
+        ensures { let b = beside_view self.entry.denies_others self.entry.beside.now in
+            IfOk result (λ items. tree_views leaf_view items ≡ flattened_terms b.flattened
+            (own_beside b.map (others_of b) (map member_view self.entry.members.now)
+            (schema (tag_alone (keywords_of annotations.now) tag.now name.now) no_schemas))) }
+    {
+        let keywords = keywords_of(alloc, annotations)?;
+        let last = tag_alone(alloc, keywords, tag, name)?;
+        let mut items = self.items_beside(alloc)?;
+        items.push(last)?;
+        Ok(items)
+    }
+
+    /// The schema of the fields with a tag, whose text is the name.
+    pub(crate) fn tagged_term(
+        self,
+        alloc: Global,
+        annotations: &Annotations,
+        tag: &Text,
+        name: &Text,
+    ) -> Result<Term, AllocError>
+        ensures { let b = beside_view self.entry.denies_others self.entry.beside.now in
+            IfOk result (λ t. term_view t ≡ internal_term annotations.now tag.now name.now
+            (named_fields b (map member_view self.entry.members.now))) }
+    {
+        let keywords = keywords_of(alloc, annotations)?;
+        if flattened_of(self.beside).is_empty() {
+            return self.tagged_own_term(alloc, keywords, tag, name);
+        }
+        let items = self.tagged_items(alloc, annotations, tag, name)?;
+        all_of(alloc, items, keywords)
+    }
 }

@@ -10,7 +10,7 @@ ghost use Rattle.terms.specs.Terms.{variant_term, tagged_content, internal_term}
 
 use crate::field::keywords_of;
 use crate::form::form_term;
-use crate::named_fields::tagged_named_term;
+use crate::named_fields::NamedFields;
 use crate::tagged::{
     adjacent_term as told_beside, beside_tag, name_schema, null_term, requiring, tag_alone,
     tagged_leaf,
@@ -107,15 +107,14 @@ fn internal_term(alloc: Global, tag: &Text, variant: &Variant) -> Result<Term, A
             denies_others,
             beside,
             members,
-        } => tagged_named_term(
-            alloc,
-            annotations,
-            *denies_others,
-            beside,
-            members.as_slice(),
-            tag,
-            name,
-        ),
+        } => {
+            let fields = NamedFields {
+                denies_others: *denies_others,
+                beside,
+                members: members.as_slice(),
+            };
+            fields.tagged_term(alloc, annotations, tag, name)
+        }
         Form::Unnamed(types) => tagged_fields(alloc, annotations, types.as_slice(), tag, name),
     }
 }
