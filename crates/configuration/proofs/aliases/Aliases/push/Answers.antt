@@ -1,4 +1,5 @@
-use Rattle.std.proofs.Common.{◌≡◌, ◌++◌, ◌∙◌, ℕ, List, [], ◌∷◌, length, true, Option, Some, None, Result, Ok, Err, is_ok, OnOk, bytes_eq, string_bytes, refl, sym, ap, subst}
+use Rattle.std.proofs.Common.{arith, ◌≡◌, ◌++◌, ◌∙◌, ℕ, List, [], ◌∷◌, length, true, Option, Some, None, Result, Ok, Err, is_ok, OnOk, bytes_eq, string_bytes, refl, sym, ap, subst}
+use Rattle.std.proofs.lemmas.Grind.{common_steps}
 use Rattle.std.specs.BTreeMap.{get_by_text}
 use Rattle.std.specs.Map.{update}
 use Rattle.std.proofs.lemmas.Bool.{false≢true}
@@ -50,3 +51,15 @@ returns-then-is_ok-clause-new c =
     let self = c.self.inside in
     let new : place_in c.args.name.now (alias_names c.args.self.now) ≡ None = placed self.names self.types self.bare (get_by_text self.places) c.args.self.now c.args.name.now None c.self.invariant c.self.view_is c.in_default.ensures.value in
     (λ _. new, λ _. refl)
+
+pub take_last-requires : goal.take_last-requires
+take_last-requires c = grind (arith, common_steps)
+
+pub take_last-requires-2 : goal.take_last-requires-2
+take_last-requires-2 c = grind (arith, common_steps)
+
+pub invariant_of-self-2 : goal.invariant_of-self-2
+invariant_of-self-2 c = grind (arith, common_steps)
+
+pub returns-clause-err : goal.returns-clause-err
+returns-clause-err c = grind (arith, common_steps)
