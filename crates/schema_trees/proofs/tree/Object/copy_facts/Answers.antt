@@ -1,0 +1,6 @@
+use Rattle.std.proofs.Common.{arith}
+use Rattle.std.proofs.lemmas.Grind.{common_steps}
+use Rattle.schema_trees.proofs.tree.Object.copy_facts.Goals as goal
+
+pub returns-clause-facts : goal.returns-clause-facts
+returns-clause-facts g c = grind (arith, common_steps)
