@@ -1,5 +1,5 @@
 -- What in the body of an instance its schema cannot say whole, where something does: the first of it.
-use Rattle.std.specs.Prelude.{List, [], ◌∷◌, Bool, true, false, cond, Option, Some, None}
+use Rattle.std.specs.Prelude.{◌≡◌, List, [], ◌∷◌, Bool, true, false, cond, Option, Some, None}
 use Rattle.std.specs.Option.{option_or}
 use Rattle.leaves.specs.Leaves.{kind_of}
 use Rattle.leaves.specs.declared.leaf.LeafKind.{LeafKind}
@@ -10,6 +10,17 @@ use Rattle.shapes.specs.declared.tagging.Tagging.{Tagging}
 use Rattle.shapes.specs.declared.tagging.Tagging.TheVariants.{External, Internal, Untagged}
 use Rattle.plainness.specs.declared.unplain.Obstacle.{Obstacle}
 use Rattle.plainness.specs.declared.unplain.Obstacle.TheVariants.{Float, MapKey, TaggedNewtype, Flattened, Unit, NoVariant}
+
+-- ---- the first
+
+-- what is in the way in the first of the items in which something is, by what is in the way in each
+abbrev pub first_obstacle : {A : Type 0} → (A → Option Obstacle) → List A → Option Obstacle
+first_obstacle o [] = None
+first_obstacle o (x ∷ xs) = option_or (o x) (first_obstacle o xs)
+
+-- what may be answered at an item is what is in the way in it
+abbrev pub TellsObstacle : {A : Type 0} → (A → Option Obstacle → Type 0) → (A → Option Obstacle) → Type 0
+TellsObstacle {A} answers o = (x : A) (found : Option Obstacle) → answers x found → found ≡ o x
 
 -- ---- types
 
@@ -56,8 +67,7 @@ abbrev mutual
   types_obstacle ss (more_types t ts) = option_or (type_obstacle ss t) (types_obstacle ss ts)
 
 abbrev pub all_obstacle : List DeclarationOf → List Open → Option Obstacle
-all_obstacle ss [] = None
-all_obstacle ss (t ∷ ts) = option_or (type_obstacle ss t) (all_obstacle ss ts)
+all_obstacle ss ts = first_obstacle (type_obstacle ss) ts
 
 -- ---- bodies
 
@@ -88,8 +98,7 @@ abbrev pub field_obstacle : List DeclarationOf → Open → Option Obstacle
 field_obstacle ss t = option_or (cond (is_content ss t) None (Some Flattened)) (type_obstacle ss t)
 
 abbrev pub flattened_obstacle : List DeclarationOf → List FlattenedOf → Option Obstacle
-flattened_obstacle ss [] = None
-flattened_obstacle ss (f ∷ fs) = option_or (field_obstacle ss f.of) (flattened_obstacle ss fs)
+flattened_obstacle ss fs = first_obstacle (λ f. field_obstacle ss f.of) fs
 
 -- the names of the map are no texts, or something is in the way in its values
 abbrev pub map_obstacle : List DeclarationOf → FlattenedMapOf → Option Obstacle
@@ -122,8 +131,7 @@ variant_obstacle ss tagging (named_fields b ms) = form_obstacle ss (named_fields
 variant_obstacle ss tagging (unnamed_fields ts) = option_or (form_obstacle ss (unnamed_fields ts)) (content_obstacle ss tagging ts)
 
 abbrev pub variants_obstacle : List DeclarationOf → Tagging → List VariantOf → Option Obstacle
-variants_obstacle ss tagging [] = None
-variants_obstacle ss tagging (x ∷ xs) = option_or (variant_obstacle ss tagging x.form) (variants_obstacle ss tagging xs)
+variants_obstacle ss tagging xs = first_obstacle (λ x. variant_obstacle ss tagging x.form) xs
 
 -- an untagged enum that keeps no variant
 abbrev pub kept_obstacle : {A : Type 0} → Tagging → List A → Option Obstacle

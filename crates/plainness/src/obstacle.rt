@@ -1,12 +1,14 @@
 //! What in the body of an instance its schema cannot say whole.
 
-ghost use Rattle.std.specs.Prelude.{◌≡◌, map, IfOk};
+ghost use Rattle.std.specs.Prelude.{◌≡◌, map, Option, Ok, IfOk};
+ghost use Rattle.std.specs.Fn.{FnReturnsAt};
 ghost use Rattle.leaves.specs.Leaves.{kind_of};
 ghost use Rattle.open_types.specs.Open.{open_view, opens_of, opens_view, substituted};
 ghost use Rattle.shapes.specs.Declarations.{declaration_at, member_types};
 ghost use Rattle.shapes.specs.Instances.{member_over, flattened_over, flattened_map_over, beside_over, form_over, variant_over, body_over};
 ghost use Rattle.shapes.specs.Views.{member_view, flattened_view, flattened_map_view, beside_view, form_view, variant_view, body_view, declaration_view};
-ghost use Rattle.plainness.specs.Obstacles.{is_names, is_text, is_open_struct, is_key, leaf_obstacle, type_obstacle, types_obstacle, all_obstacle, is_any_text, field_obstacle, flattened_obstacle, map_obstacle, beside_obstacle, form_obstacle, is_content, are_content, content_obstacle, variant_obstacle, variants_obstacle, kept_obstacle, body_obstacle};
+ghost use Rattle.plainness.specs.declared.unplain.Obstacle.{Obstacle};
+ghost use Rattle.plainness.specs.Obstacles.{first_obstacle, TellsObstacle, is_names, is_text, is_open_struct, is_key, leaf_obstacle, type_obstacle, types_obstacle, all_obstacle, is_any_text, field_obstacle, flattened_obstacle, map_obstacle, beside_obstacle, form_obstacle, is_content, are_content, content_obstacle, variant_obstacle, variants_obstacle, kept_obstacle, body_obstacle};
 
 use crate::unplain::Obstacle;
 use leaves::{Leaf, LeafKind};
@@ -122,6 +124,26 @@ fn place_obstacle(
     Ok(type_obstacle(declared, &put))
 }
 
+/// What is in the way in the first of the items in which something is, told of each by the function.
+fn first_obstacle<T, F: Fn(&T) -> Result<Option<Obstacle>, AllocError>>(
+    items: &[T],
+    obstacle_of: F,
+) -> Result<Option<Obstacle>, AllocError>
+    requires { F.IsAlwaysCallable obstacle_of }
+    ensures { IfOk result (λ obstacle. (o : T → Option Obstacle) →
+        TellsObstacle (λ item found. FnReturnsAt F.Fn obstacle_of item (Ok found)) o →
+        obstacle ≡ first_obstacle o items.now) }
+{
+    let mut rest = items;
+    'items: while let [first, after @ ..] = rest {
+        if let Some(obstacle) = obstacle_of(first)? {
+            return Ok(Some(obstacle));
+        }
+        rest = after;
+    }
+    Ok(None)
+}
+
 /// What is in the way in the places of the members.
 fn members_obstacle(
     alloc: Global,
@@ -133,14 +155,10 @@ fn members_obstacle(
         (member_types (map (member_over (opens_view arguments.now))
         (map member_view members.now)))) }
 {
-    let mut rest = members;
-    'members: while let [first, after @ ..] = rest {
-        if let Some(obstacle) = place_obstacle(alloc, declared, arguments, &first.ty)? {
-            return Ok(Some(obstacle));
-        }
-        rest = after;
-    }
-    Ok(None)
+    first_obstacle(
+        members,
+        |member| place_obstacle(alloc, declared, arguments, &member.ty),
+    )
 }
 
 /// What is in the way in these places.
@@ -153,14 +171,7 @@ fn places_obstacle(
     ensures { IfOk result (λ obstacle. obstacle ≡ all_obstacle (map declaration_view declared.now)
         (map (substituted (opens_view arguments.now)) (map open_view types.now))) }
 {
-    let mut rest = types;
-    'types: while let [first, after @ ..] = rest {
-        if let Some(obstacle) = place_obstacle(alloc, declared, arguments, first)? {
-            return Ok(Some(obstacle));
-        }
-        rest = after;
-    }
-    Ok(None)
+    first_obstacle(types, |ty| place_obstacle(alloc, declared, arguments, ty))
 }
 
 /// What is in the way in a flattened field of the type, with the arguments in the places of its parameters.
@@ -191,14 +202,10 @@ fn flattened_obstacle(
         (λ obstacle. obstacle ≡ flattened_obstacle (map declaration_view declared.now)
         (map (flattened_over (opens_view arguments.now)) (map flattened_view flattened.now))) }
 {
-    let mut rest = flattened;
-    'fields: while let [first, after @ ..] = rest {
-        if let Some(obstacle) = field_obstacle(alloc, declared, arguments, &first.ty)? {
-            return Ok(Some(obstacle));
-        }
-        rest = after;
-    }
-    Ok(None)
+    first_obstacle(
+        flattened,
+        |field| field_obstacle(alloc, declared, arguments, &field.ty),
+    )
 }
 
 /// Whether the type is that of any texts, passed through perhaps.
@@ -393,15 +400,9 @@ fn variants_obstacle(
         (λ obstacle. obstacle ≡ variants_obstacle (map declaration_view declared.now) tagging.now
         (map (variant_over (opens_view arguments.now)) (map variant_view variants.now))) }
 {
-    let mut rest = variants;
-    'variants: while let [first, after @ ..] = rest {
-        let found = variant_obstacle(alloc, declared, arguments, tagging, &first.form)?;
-        if let Some(obstacle) = found {
-            return Ok(Some(obstacle));
-        }
-        rest = after;
-    }
-    Ok(None)
+    first_obstacle(variants, |variant| {
+        variant_obstacle(alloc, declared, arguments, tagging, &variant.form)
+    })
 }
 
 /// What is in the way in an enum that keeps these variants.

@@ -224,8 +224,8 @@ fn variant_types(alloc: Global, variants: &[Variant]) -> Result<Vec<&OpenType>, 
 }
 
 impl Body {
-    /// The types of the places, in order; of a form with flattened fields those of these in front, of a flattened map its key and
-    /// its value.
+    /// The types of the places, in order; of a form with flattened fields those of these in front, of a flattened map its
+    /// key and its value.
     pub fn types(&self, alloc: Global) -> Result<Vec<&OpenType>, AllocError>
         ensures { IfOk result
             (λ types. map (λ ty. open_view ty.now) types.items ≡ body_types (body_view self.now)) }
