@@ -1,28 +1,10 @@
--- The types of members and of variants.
-use Rattle.std.proofs.Common.{ℕ, ◌+◌, ◌<◌, List, [], ◌∷◌, ◌++◌, length, take, get_or, map, ◌≡◌, ◌∙◌, ap, refl, sym}
+-- The types of variants.
+use Rattle.std.proofs.Common.{ℕ, ◌+◌, ◌<◌, List, [], ◌∷◌, ◌++◌, length, take, get_or, map, ◌≡◌, ◌∙◌, ap, sym}
 use Rattle.std.proofs.lemmas.List.{take_more, map_push, map-append, append-nil, append_assoc}
-use Rattle.open_types.specs.Open.{Open, open_view}
-use Rattle.shapes.specs.declared.declaration.Member.{Member}
-use Rattle.shapes.specs.declared.declaration.Flattened.{Flattened}
+use Rattle.open_types.specs.Open.{Open}
 use Rattle.shapes.specs.declared.declaration.Variant.{Variant}
-use Rattle.shapes.specs.Declarations.{VariantOf, member_types, flattened_types, form_types, variant_types}
-use Rattle.shapes.specs.Views.{member_view, flattened_view, form_view, variant_view}
-
--- a member's type
-abbrev pub type_in : Member → Open
-type_in m = open_view m.ty
-
-pub types_are : (ms : List Member) → map type_in ms ≡ member_types (map member_view ms)
-types_are [] = refl
-types_are (m ∷ ms) = ap (λ ts. open_view m.ty ∷ ts) (types_are ms)
-
--- a flattened field's type
-abbrev pub flattened_in : Flattened → Open
-flattened_in f = open_view f.ty
-
-pub flattened_are : (fs : List Flattened) → map flattened_in fs ≡ flattened_types (map flattened_view fs)
-flattened_are [] = refl
-flattened_are (f ∷ fs) = ap (λ ts. open_view f.ty ∷ ts) (flattened_are fs)
+use Rattle.shapes.specs.Declarations.{VariantOf, form_types, variant_types}
+use Rattle.shapes.specs.Views.{form_view, variant_view}
 
 variant_types-push : (xs : List VariantOf) (x : VariantOf) → variant_types (xs ++ x ∷ []) ≡ variant_types xs ++ form_types x.form
 variant_types-push [] x = append-nil (form_types x.form)

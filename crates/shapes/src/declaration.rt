@@ -132,11 +132,7 @@ fn member_types(alloc: Global, members: &[Member]) -> Result<Vec<&OpenType>, All
     ensures { IfOk result (λ ts. map (λ ty. open_view ty.now) ts.items
         ≡ member_types (map member_view members.now)) }
 {
-    let mut types = Vec::new(alloc);
-    for member in members {
-        types.push(&member.ty)?;
-    }
-    Ok(types)
+    members.iter().map(|member| &member.ty).collect(alloc)
 }
 
 /// The types of flattened fields.
@@ -144,11 +140,7 @@ fn flattened_types(alloc: Global, flattened: &[Flattened]) -> Result<Vec<&OpenTy
     ensures { IfOk result (λ ts. map (λ ty. open_view ty.now) ts.items
         ≡ flattened_types (map flattened_view flattened.now)) }
 {
-    let mut types = Vec::new(alloc);
-    for field in flattened {
-        types.push(&field.ty)?;
-    }
-    Ok(types)
+    flattened.iter().map(|field| &field.ty).collect(alloc)
 }
 
 /// The types of a flattened map's names and of its values.
@@ -189,11 +181,7 @@ fn each_type(alloc: Global, types: &[OpenType]) -> Result<Vec<&OpenType>, AllocE
     ensures { IfOk result
         (λ ts. map (λ ty. open_view ty.now) ts.items ≡ map open_view types.now) }
 {
-    let mut each = Vec::new(alloc);
-    for ty in types {
-        each.push(ty)?;
-    }
-    Ok(each)
+    types.iter().collect(alloc)
 }
 
 fn form_types(alloc: Global, form: &Form) -> Result<Vec<&OpenType>, AllocError>

@@ -1,9 +1,15 @@
-use Rattle.std.proofs.Common.{◌≡◌, map, take, ap, ◌∙◌, arith}
-use Rattle.std.proofs.lemmas.Grind.{common_steps}
-use Rattle.shapes.proofs.Types.{type_in, types_are}
+use Rattle.std.proofs.Common.{◌∙◌, sym, rules}
+use Rattle.std.proofs.lemmas.Iterator.{YieldsList-from_slice, YieldsList-from_map_by}
+use Rattle.std.proofs.lemmas.Iterator.Consumers.{YieldsList-at, map_from_collect}
+use Rattle.std.proofs.lemmas.Result.{IfOk-weaker}
+use Rattle.std.proofs.lemmas.Simd.{map-map}
+use Rattle.open_types.specs.Open.{open_view}
+use Rattle.shapes.specs.Declarations.{MemberOf}
+use Rattle.shapes.specs.Views.{member_view}
 use Rattle.shapes.proofs.declaration.member_types.Goals as goal
 
 pub returns : goal.returns
 returns c =
-    let whole : take c.loop-member.member-index c.args.members.now ≡ c.args.members.now = grind (arith, common_steps) in
-    c.loop-member.invariant ∙ ap (map type_in) whole ∙ types_are c.args.members.now
+    let each = YieldsList-at c.map.ensures.source (YieldsList-from_slice c.args.members.now c.iter.ensures.rest) in
+    let types = map_from_collect _ c.collect.ensures.ran (YieldsList-from_map_by _ (λ ty. open_view ty.now) (λ m. open_view m.ty) each c.map.ensures.closure (λ x r q k. search rules)) in
+    IfOk-weaker c.collect.result _ _ (λ ts e. e ∙ sym (map-map (λ (m : MemberOf). m.of) member_view c.args.members.now)) types
