@@ -9,17 +9,19 @@ use Rattle.diag.specs.declared.error.DeriveError.TheVariants.{Refused, Memory}
 use Rattle.diag.specs.declared.kind.Kind.{Kind}
 use Rattle.lexing.specs.Cut.{IsDepthError, IsSyntaxError}
 use Rattle.lexing.specs.Open.{IsOpenBracket}
-use Rattle.gathering.specs.Stops.{IsSyntaxHelp, of_piece, IsKindHelp, IsHelpOfStop}
+use Rattle.texts.specs.declared.span.Span.{Span}
+use Rattle.gathering.specs.Stops.{unclosed_help, IsSyntaxHelp, of_piece, IsKindHelp, IsHelpOfStop}
 
 -- the help for the kind of a refusal is that for the refusal
 pub help_for : (name text : List ℕ) (d : List DiangosticsInner) (k : Kind) (help : Option (List ℕ)) → HasFirst d (λ entry. k ≡ entry.kind) → IsKindHelp name text k help → IsHelpOfStop name text d help
 help_for name text [] k help first is = absurd first
 help_for name text (entry ∷ entries) k help first is = subst (λ v. IsKindHelp name text v help) first is
 
--- nothing is known of a text that is not cut
-pub unknown_for : (name text : List ℕ) (e : DeriveError) (d : List DiangosticsInner) → e ≡ Refused d → (e ≡ Memory) ⊎ IsDepthError text e ⊎ IsSyntaxError text e → IsOpenBracket text None → IsSyntaxHelp name text None
-unknown_for name text e d is (inl memory) none = let one : Memory ≡ Refused d = sym memory ∙ is in cc
-unknown_for name text e d is (inr cause) none = of_piece e none cause
+-- a text that is not cut tells what opens where it begins no piece
+pub piece_for : (name text : List ℕ) (e : DeriveError) (d : List DiangosticsInner) (span : Span) → e ≡ Refused d → (e ≡ Memory) ⊎ IsDepthError text e ⊎ IsSyntaxError text e → IsOpenBracket text None
+    → HasFirst d (λ entry. span ≡ entry.span) → IsSyntaxHelp name text (unclosed_help (drop span.start text))
+piece_for name text e d span is (inl memory) none first = let one : Memory ≡ Refused d = sym memory ∙ is in cc
+piece_for name text e d span is (inr cause) none first = of_piece d span none (subst (λ v. IsDepthError text v ⊎ IsSyntaxError text v) is cause) first
 
 -- a text that does not begin so
 pub no_front : (front s : List ℕ) → ((rest : List ℕ) → s ≡ front ++ rest → ⊥) → bytes_eq (take (length front) s) front ≡ false

@@ -2,7 +2,7 @@
 
 ghost use Rattle.std.specs.Prelude.{◌≡◌, ℕ, List as AnyList, None, IfOk};
 ghost use Rattle.lexing.specs.Open.{IsOpenBracket};
-ghost use Rattle.gathering.specs.Stops.{bracket_text, open_help, IsSyntaxHelp, IsKindHelp, IsHelpOfStop};
+ghost use Rattle.gathering.specs.Stops.{bracket_text, open_help, unclosed_help, IsSyntaxHelp, IsKindHelp, IsHelpOfStop};
 
 use diag::{DeriveError, Diagnostics, Kind};
 use lexing::{OpenBracket, lex, open_bracket};
@@ -41,6 +41,20 @@ fn open_help(
     Ok(Text::from(help))
 }
 
+/// What opens where a text goes on with these bytes, which begin no piece.
+fn unclosed_help(alloc: Global, rest: &[u8]) -> Result<Option<Text>, AllocError>
+    ensures { IfOk result (λ help. help ≡ unclosed_help rest.now) }
+{
+    let help = if rest.strip_prefix(b"/*").is_some() {
+        "a comment opens here, and is not closed"
+    } else if rest.strip_prefix(b"\"").is_some() {
+        "a string opens here, and is not closed or has an escape that Rust has not"
+    } else {
+        return Ok(None);
+    };
+    Ok(Some(Text::new(alloc, help)?))
+}
+
 /// What the reader may do about the text, where no bracket of it is open where it stops.
 fn item_help(alloc: Global, text: &str) -> Result<Option<Text>, AllocError>
     ensures { IsOpenBracket text.now None → (name : AnyList ℕ)
@@ -48,7 +62,11 @@ fn item_help(alloc: Global, text: &str) -> Result<Option<Text>, AllocError>
 {
     match lex(alloc, text) {
         Ok(_) => Ok(Some(Text::new(alloc, "no item of Rust begins so")?)),
-        Err(DeriveError::Refused(_)) => Ok(None),
+        Err(DeriveError::Refused(refusal)) => {
+            let at = refusal.span().start.min(text.len());
+            let (_, rest) = text.as_bytes().split_at(at);
+            unclosed_help(alloc, rest)
+        }
         Err(DeriveError::Memory) => Err(AllocError),
     }
 }
