@@ -3,6 +3,7 @@ mod Ended
 mod Lines
 mod OptionFiles
 mod Paths
+mod Quiet
 mod Saying
 mod Strict
 mod Taken

@@ -3,7 +3,8 @@ use Rattle.std.proofs.Common.{◌≡◌, ◌∙◌, ◌<◌, ◌≤◌, ◌≢�
 use Rattle.std.specs.List.{flat_map}
 use Rattle.std.proofs.Math.Nat.{min-le_left}
 use Rattle.std.proofs.lemmas.List.{length-take, take_all}
-use Rattle.telling.specs.Told.{told_text, more_line, first_told, all_told}
+use Rattle.telling.specs.Printable.{printable}
+use Rattle.telling.specs.Told.{told_lines, more_line, first_told, all_told}
 use Rattle.telling.specs.declared.told.Told.{Told}
 use Rattle.file_derivation.specs.Warned.{AreFirst}
 use Rattle.file_derivation.specs.declared.warned.Warnings.{Warnings}
@@ -13,7 +14,7 @@ first_again all = take_all 100 (take 100 all) (subst (λ n. n ≤ 100) (sym (len
 
 -- the first hundred and their number tell of all
 pub reported : (all told : List Told) (w : Warnings) → told ≡ w.told → AreFirst all w → first_told told w.count ≡ all_told all
-reported all told w is first = ap₂ first_told (is ∙ first.0) first.1 ∙ ap (λ (v : List Told). flat_map told_text v ++ more_line (length all)) (first_again all)
+reported all told w is first = ap₂ first_told (is ∙ first.0) first.1 ∙ ap (λ (v : List Told). printable (flat_map told_lines v ++ more_line (length all))) (first_again all)
 
 pub none_counted : (all : List Told) (count : ℕ) → count ≡ length all → count ≡ 0 → all ≡ []
 none_counted [] count is none = refl

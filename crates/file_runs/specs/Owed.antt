@@ -3,6 +3,7 @@ use Rattle.std.specs.Prelude.{◌≡◌, ◌⊎◌, ℕ, List, [], true, IsTrue,
 use Rattle.files.specs.declared.cause.Cause.{Cause}
 use Rattle.streams.specs.Faults.{CountsFault}
 use Rattle.schema_core.specs.Document.{Entry}
+use Rattle.telling.specs.Printable.{CommandsNothing}
 use Rattle.telling.specs.Told.{all_told}
 use Rattle.telling.specs.declared.told.Told.{Told}
 use Rattle.file_derivation.specs.Outcomes.{AreDerivedFrom, AreTold, AreSound}
@@ -169,3 +170,9 @@ pub record IsSound (begun : Beginning) : Type 0 where
 -- The law: where a run is told what it is given, and that is sound, nothing is refused.
 abbrev pub SoundRunsAreNotRefused : Type 0
 SoundRunsAreNotRefused = (begun : Beginning) (report : List ℕ) → IsTold begun → IsSound begun → ¬ (IsRefused begun report)
+
+-- ---- what a terminal may show
+
+-- The law: what a run owes to `err` commands nothing, whatever its files, its words and its documents hold.
+abbrev pub ReportsCommandNothing : Type 0
+ReportsCommandNothing = (begun : Beginning) (status : Status) (text report : List ℕ) → Owed begun status text report → CommandsNothing report

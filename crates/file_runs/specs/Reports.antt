@@ -2,6 +2,7 @@
 use Rattle.std.specs.Prelude.{ℕ, List, ◌++◌, codes}
 use Rattle.files.specs.declared.cause.Cause.{Cause}
 use Rattle.files.specs.declared.cause.Cause.TheVariants.{Missing, Denied, IsFolder, Unknown}
+use Rattle.telling.specs.Printable.{printable}
 use Rattle.documents.specs.declared.comparing.Difference.{Difference}
 use Rattle.documents.specs.declared.comparing.Difference.TheVariants.{Missing as Absent, Surplus, Another, Elsewhere}
 use Rattle.file_runs.specs.declared.request.Question.{Question}
@@ -29,7 +30,7 @@ misuse_line InputTwice = codes "- is named twice"
 misuse_line NoFile = codes "no file is named"
 
 abbrev pub misuse_text : Misuse → List ℕ
-misuse_text misuse = misuse_line misuse ++ codes "\nusage: schema_gen_file [OPTION].. [--] FILE..\n"
+misuse_text misuse = printable (misuse_line misuse ++ codes "\nusage: schema_gen_file [OPTION].. [--] FILE..\n")
 
 -- a file that cannot be read, and why, as far as that is known
 abbrev pub cause_text : Cause → List ℕ
@@ -39,24 +40,28 @@ cause_text IsFolder = codes "it is a directory"
 cause_text Unknown = codes "reading it failed"
 
 abbrev pub fault_line : List ℕ → Cause → List ℕ
-fault_line path cause = path ++ codes ": cannot be read: " ++ cause_text cause ++ codes "\n"
+fault_line path cause = printable (path ++ (codes ": cannot be read: " ++ (cause_text cause ++ codes "\n")))
 
 -- why a document that an option names is not taken: it is no JSON, or too long; no OpenAPI document; or has a schema of the name
 abbrev pub document_line : List ℕ → List ℕ
-document_line path = path ++ codes ": BadConfig: this is no JSON of at most 16777216 bytes\n"
+document_line path = printable (path ++ codes ": BadConfig: this is no JSON of at most 16777216 bytes\n")
 
 abbrev pub openapi_line : List ℕ → List ℕ
-openapi_line path = path ++ codes ": BadConfig: this is no OpenAPI document: a JSON object, whose components and their schemas are objects\n"
+openapi_line path = printable (path ++ codes ": BadConfig: this is no OpenAPI document: a JSON object, whose components and their schemas are objects\n")
 
 abbrev pub taken_line : (path name : List ℕ) → List ℕ
-taken_line path name = path ++ (codes ": DuplicateName: the document has a schema " ++ (name ++ codes " of its own\n"))
+taken_line path name = printable (path ++ (codes ": DuplicateName: the document has a schema " ++ (name ++ codes " of its own\n")))
+
+-- how a document differs
+abbrev pub difference_text : Difference → List ℕ
+difference_text (Absent name) = name ++ codes " is missing"
+difference_text (Surplus name) = name ++ codes " is described no more"
+difference_text (Another name) = name ++ codes " is another"
+difference_text Elsewhere = codes "what stands beside the schemas is another"
 
 -- how the document at the path differs
 abbrev pub difference_line : List ℕ → Difference → List ℕ
-difference_line path (Absent name) = path ++ (codes ": " ++ (name ++ codes " is missing\n"))
-difference_line path (Surplus name) = path ++ (codes ": " ++ (name ++ codes " is described no more\n"))
-difference_line path (Another name) = path ++ (codes ": " ++ (name ++ codes " is another\n"))
-difference_line path Elsewhere = path ++ codes ": what stands beside the schemas is another\n"
+difference_line path found = printable (path ++ (codes ": " ++ (difference_text found ++ codes "\n")))
 
 -- what answers a question
 abbrev pub answer_text : Question → List ℕ

@@ -19,6 +19,7 @@ use diag::{DeriveError, Diagnostics};
 use files::{FileBytes, Files};
 use gathering::told_unplaced;
 use std::alloc::{AllocError, Global};
+use telling::told_text;
 use texts::Text;
 
 /// The most bytes of a configuration.
@@ -47,7 +48,7 @@ fn report_of(
     if let Some(part) = part {
         told.help = Some(Text::new(alloc, part_help(part))?);
     }
-    Ok(Text::from(format!(in alloc; "{told}")?))
+    told_text(alloc, &told)
 }
 
 /// The ending of a run whose configuration, at the path, is refused; this was read of it.

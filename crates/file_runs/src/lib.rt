@@ -22,7 +22,7 @@ pub use arguments::{Stop, question_in, request_of};
 pub use document::Written;
 pub use ending::Ending;
 pub use files::{Cause, FileAnswer, FileBytes, Files, HonestFiles, MemoryFiles, StdFiles};
-pub use law::sound_runs_are_not_refused;
+pub use law::{runs_command_nothing, sound_runs_are_not_refused};
 pub use named::NamedDocument;
 pub use program::run;
 pub use reporting::Words;

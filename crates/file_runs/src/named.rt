@@ -16,6 +16,7 @@ use documents::value_of;
 use files::{FileBytes, Files};
 use serde_json::Value;
 use std::alloc::{AllocError, Global};
+use telling::printable;
 use texts::Text;
 
 /// A document in JSON, and the path of its file.
@@ -42,7 +43,7 @@ fn document_line(alloc: Global, path: &str) -> Result<Text, AllocError>
     ensures { IfOk result (λ line. line ≡ document_line path.now) }
 {
     let line = format!(in alloc; "{path}: BadConfig: this is no JSON of at most 16777216 bytes\n")?;
-    Ok(Text::from(line))
+    printable(alloc, line.as_str())
 }
 
 /// The document at the path, where one is named.

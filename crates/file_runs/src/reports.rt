@@ -10,6 +10,7 @@ use crate::request::{Misuse, Question, Valued};
 use crate::status::Status;
 use files::Cause;
 use std::alloc::{AllocError, Global};
+use telling::printable;
 use texts::Text;
 
 /// How to use the program.
@@ -88,7 +89,7 @@ pub fn misuse_text(alloc: Global, misuse: &Misuse) -> Result<Text, AllocError>
         "{}\nusage: schema_gen_file [OPTION].. [--] FILE..\n",
         line.as_str()
     )?;
-    Ok(Text::from(text))
+    printable(alloc, text.as_str())
 }
 
 fn cause_text(cause: Cause) -> &'static str
@@ -105,11 +106,8 @@ fn cause_text(cause: Cause) -> &'static str
 fn fault_line(alloc: Global, path: &str, cause: Cause) -> Result<Text, AllocError>
     ensures { IfOk result (λ line. line ≡ fault_line path.now cause) }
 {
-    let mut line = Text::new(alloc, path)?;
-    line.push(": cannot be read: ")?;
-    line.push(cause_text(cause))?;
-    line.push("\n")?;
-    Ok(line)
+    let line = format!(in alloc; "{path}: cannot be read: {}\n", cause_text(cause))?;
+    printable(alloc, line.as_str())
 }
 
 /// The ending of a run that cannot read the file at the path.

@@ -1,9 +1,9 @@
 //! What is written of the components.
 
-ghost use Rattle.std.specs.Prelude.{◌≡◌, option_map, IfOk, IfErr};
+ghost use Rattle.std.specs.Prelude.{◌≡◌, option_map, string_bytes, IfOk, IfErr};
 ghost use Rattle.serde_json.specs.View.{view};
 ghost use Rattle.file_runs.specs.Given.{named_view};
-ghost use Rattle.file_runs.specs.Reports.{openapi_line, taken_line, difference_line};
+ghost use Rattle.file_runs.specs.Reports.{openapi_line, taken_line, difference_text, difference_line};
 ghost use Rattle.file_runs.specs.Shown.{alternatives, is_direct, IsMade, IsShown, IsUnmade, IsUnshown, IfLine};
 
 use crate::named::NamedDocument;
@@ -12,6 +12,7 @@ use documents::{Difference, Merged, compare, merge, text_of};
 use schema_core::{Alternatives, Components};
 use serde_json::Value;
 use std::alloc::{AllocError, Global};
+use telling::printable;
 use texts::Text;
 
 /// Why nothing is written.
@@ -40,7 +41,7 @@ fn openapi_line(alloc: Global, path: &str) -> Result<Text, AllocError>
     let line = format!(in alloc;
         "{path}: BadConfig: this is no OpenAPI document: a JSON object, whose components and their schemas are objects\n"
     )?;
-    Ok(Text::from(line))
+    printable(alloc, line.as_str())
 }
 
 /// The line that the OpenAPI document at the path has a schema of the name.
@@ -50,31 +51,30 @@ fn taken_line(alloc: Global, path: &str, name: &str) -> Result<Text, AllocError>
     let line = format!(in alloc;
         "{path}: DuplicateName: the document has a schema {name} of its own\n"
     )?;
-    Ok(Text::from(line))
+    printable(alloc, line.as_str())
+}
+
+/// How a document differs.
+fn difference_text(alloc: Global, found: &Difference) -> Result<String, AllocError>
+    ensures { IfOk result (λ text. string_bytes text ≡ difference_text found.now) }
+{
+    match found {
+        Difference::Missing(name) => format!(in alloc; "{} is missing", name.as_str()),
+        Difference::Surplus(name) => format!(in alloc; "{} is described no more", name.as_str()),
+        Difference::Another(name) => format!(in alloc; "{} is another", name.as_str()),
+        Difference::Elsewhere => {
+            String::from_str(alloc, "what stands beside the schemas is another")
+        }
+    }
 }
 
 /// The line that tells how the document at the path differs.
 fn difference_line(alloc: Global, path: &str, found: &Difference) -> Result<Text, AllocError>
     ensures { IfOk result (λ line. line ≡ difference_line path.now found.now) }
 {
-    match found {
-        Difference::Missing(name) => {
-            let line = format!(in alloc; "{path}: {} is missing\n", name.as_str())?;
-            Ok(Text::from(line))
-        }
-        Difference::Surplus(name) => {
-            let line = format!(in alloc; "{path}: {} is described no more\n", name.as_str())?;
-            Ok(Text::from(line))
-        }
-        Difference::Another(name) => {
-            let line = format!(in alloc; "{path}: {} is another\n", name.as_str())?;
-            Ok(Text::from(line))
-        }
-        Difference::Elsewhere => {
-            let line = format!(in alloc; "{path}: what stands beside the schemas is another\n")?;
-            Ok(Text::from(line))
-        }
-    }
+    let text = difference_text(alloc, found)?;
+    let line = format!(in alloc; "{path}: {}\n", text.as_str())?;
+    printable(alloc, line.as_str())
 }
 
 /// The document, or the OpenAPI document with its schemas.

@@ -8,4 +8,4 @@
 pub use file_derivation::{Outcome, Warnings, derive_files, sound_are_not_told};
 pub use gathering::Source;
 pub use selecting::Selection;
-pub use telling::{Shown, Told, all_told};
+pub use telling::{Shown, Told, all_told, told_text};

@@ -1,4 +1,7 @@
 mod Begun
+mod Commands
 mod Counting
+mod Escapes
 mod Fronts
 mod Lines
+mod Printed

@@ -2,4 +2,5 @@ pub mod Marking
 pub mod PartLaw
 pub mod Places
 pub mod Positions
+pub mod Printable
 pub mod Told

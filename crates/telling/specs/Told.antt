@@ -1,18 +1,19 @@
 -- Faults of many files, as compilers tell them: the path, the line and the column, what is said, and the line with marks.
-use Rattle.std.specs.Prelude.{ℕ, ◌-◌, ◌^◌, List, [], ◌∷◌, ◌++◌, ◌==◌, nat_le, length, take, drop, min, max, cond, false, sum_by, chars, codes, encode_utf8_all, unwrap_or, Option, Some, None, count_by}
+use Rattle.std.specs.Prelude.{ℕ, ◌-◌, ◌^◌, List, [], ◌∷◌, ◌++◌, ◌==◌, nat_le, length, take, drop, min, max, cond, false, sum_by, chars, codes, unwrap_or, Option, Some, None, count_by}
 use Rattle.std.specs.List.{repeat, flat_map}
 use Rattle.std.specs.Fmt.{decimal}
 use Rattle.unicode_width.specs.Width.{char_width}
 use Rattle.texts.specs.declared.span.Span.{Span}
 use Rattle.telling.specs.Positions.{begins_char, without_return}
+use Rattle.telling.specs.Printable.{is_command, shown, escaped, printable}
 use Rattle.telling.specs.Places.{line_in, column_in, line_front, line_back}
 use Rattle.telling.specs.declared.part.Place.{Place}
 use Rattle.telling.specs.declared.told.Shown.{Shown}
 use Rattle.telling.specs.declared.told.Told.{Told}
 
--- the columns that a character takes in a terminal
+-- the columns that a character takes in a terminal, as it is shown
 abbrev pub columns : ℕ → ℕ
-columns c = unwrap_or (char_width false c) 0
+columns c = cond (is_command c) (length (shown c)) (unwrap_or (char_width false c) 0)
 
 -- what stands under a character: a tab under a tab, else a space for each of its columns
 abbrev pub under : ℕ → List ℕ
@@ -39,16 +40,20 @@ from_on place text at =
 abbrev pub held : ℕ → ℕ
 held n = min n (2 ^ 64 - 1)
 
+-- these characters, without a carriage return at their end
+abbrev pub line_around : Place → List ℕ → ℕ → List ℕ
+line_around place text at = without_return (in_front place text at ++ from_on place text at)
+
 -- where a span of the text at a place stands, the line there, and marks under the span
 abbrev pub shown_at : Place → List ℕ → Span → Shown
 shown_at place text span =
-    let front = in_front place text span.start in
-    let back = from_on place text span.start in
+    let line = line_around place text span.start in
+    let front = length (in_front place text span.start) in
     record {
       line = held (line_in place text span.start);
       column = held (column_in place text span.start);
-      text = without_return (encode_utf8_all front ++ encode_utf8_all back);
-      marks = marks front (take (begun text span.end - begun text span.start) back);
+      text = escaped line;
+      marks = marks (take front line) (take (begun text span.end - begun text span.start) (drop front line));
     }
 
 -- what is told of it
@@ -84,10 +89,13 @@ abbrev pub help_line : Option (List ℕ) → List ℕ
 help_line None = []
 help_line (Some help) = codes "help: " ++ (help ++ codes "\n")
 
-abbrev pub told_text : Told → List ℕ
-told_text told =
+abbrev pub told_lines : Told → List ℕ
+told_lines told =
     location told.path told.shown
     ++ (heading told.label ++ (told.message ++ (codes "\n" ++ (shown_lines told.shown ++ help_line told.help))))
+
+abbrev pub told_text : Told → List ℕ
+told_text told = printable (told_lines told)
 
 -- ---- all texts
 
@@ -97,7 +105,7 @@ more_line count = cond (nat_le count 100) [] (codes "and " ++ (decimal (count - 
 
 -- the first hundred, of so many in all
 abbrev pub first_told : List Told → ℕ → List ℕ
-first_told told count = flat_map told_text (take 100 told) ++ more_line count
+first_told told count = printable (flat_map told_lines (take 100 told) ++ more_line count)
 
 abbrev pub all_told : List Told → List ℕ
 all_told told = first_told told (length told)

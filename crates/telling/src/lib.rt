@@ -6,10 +6,12 @@ mod law;
 mod marked;
 mod part;
 mod position;
+mod printing;
 mod told;
 
-pub use law::parts_tell_of_their_files;
+pub use law::{parts_tell_of_their_files, reports_command_nothing};
 pub use marked::{place_in, place_text, told_in};
 pub use part::{Place, Places};
 pub use position::{Position, place};
-pub use told::{Shown, Told, all_told, first_told};
+pub use printing::printable;
+pub use told::{Shown, Told, all_told, first_told, told_text};

@@ -1,11 +1,13 @@
 //! The line in which a fault stands, with marks under it.
 
 ghost use Rattle.std.specs.Prelude.{◌≡◌, ◌≤◌, ◌*◌, length, chars, sum_by, IfOk, OnOk, ◌++◌};
+ghost use Rattle.telling.specs.Positions.{without_return};
 ghost use Rattle.telling.specs.Places.{line_in, column_in};
 ghost use Rattle.telling.specs.Told.{columns, under, marks, begun, in_front, from_on, held, shown_at, told_at, place_text, place_in};
 
-use crate::part::{Place, column_behind, line_back, line_behind, line_front, text_of};
-use crate::position::{begins_char, without_return};
+use crate::part::{Place, column_behind, line_back, line_behind, line_front};
+use crate::position::begins_char;
+use crate::printing::{escaped, is_command};
 use crate::told::{Shown, Told};
 use std::alloc::{AllocError, Global};
 use texts::{Span, Text};
@@ -16,11 +18,14 @@ const MOST_SHOWN: usize = 200;
 
 const MOST_IN_FRONT: usize = 100;
 
-/// The columns that the character takes in a terminal.
+/// The columns that the character takes in a terminal, as it is shown.
 fn columns(c: char) -> usize
     ensures value { result ≡ columns c }
-    ensures bound { result ≤ 3 }
+    ensures bound { result ≤ 10 }
 {
+    if is_command(c) {
+        return c.escape_unicode().count();
+    }
     c.width().unwrap_or(0)
 }
 
@@ -138,21 +143,47 @@ pub fn place_in(
     place_text(alloc, path, line, column_in(place, text, offset))
 }
 
+/// The characters around the offset in its line, and how many of them stand in front of it.
+fn around(
+    alloc: Global,
+    place: &Place,
+    text: &str,
+    offset: usize,
+) -> Result<(Vec<char>, usize), AllocError>
+    ensures line { IfOk result (λ p. p.0.items
+        ≡ in_front place.now text.now offset ++ from_on place.now text.now offset) }
+    ensures front { IfOk result (λ p. p.1 ≡ length (in_front place.now text.now offset)) }
+{
+    let mut line = in_front(alloc, place, text, offset)?;
+    let front = line.len();
+    let mut back = from_on(alloc, place, text, offset, front)?;
+    line.append(&mut back)?;
+    Ok((line, front))
+}
+
+/// The characters without a carriage return at their end.
+fn without_return(line: &[char]) -> &[char]
+    ensures { result.now ≡ without_return line.now }
+{
+    match line.strip_suffix(&['\r']) {
+        Some(rest) => rest,
+        None => line,
+    }
+}
+
 /// The line in which the span starts, with marks under the span.
 fn shown_at(alloc: Global, place: &Place, text: &str, span: Span) -> Result<Shown, AllocError>
     ensures { IfOk result (λ shown. shown ≡ shown_at place.now text.now span) }
 {
-    let front = in_front(alloc, place, text, span.start)?;
-    let back = from_on(alloc, place, text, span.start, front.len())?;
+    let (around, front) = around(alloc, place, text, span.start)?;
+    let line = without_return(around.as_slice());
+    let (front, back) = line.split_at(front.min(line.len()));
     let marked = begun(text, span.end).saturating_sub(begun(text, span.start));
-    let marks = marks(alloc, front.as_slice(), &back[..marked.min(back.len())])?;
-    let mut line = text_of(alloc, front.as_slice())?;
-    line.push(text_of(alloc, back.as_slice())?.as_str())?;
     Ok(Shown {
         line: line_in(place, text, span.start),
         column: column_in(place, text, span.start),
-        text: Text::new(alloc, without_return(line.as_str()))?,
-        marks,
+        marks: marks(alloc, front, &back[..marked.min(back.len())])?,
+        text: escaped(alloc, line)?,
     })
 }
 

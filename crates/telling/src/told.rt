@@ -2,8 +2,9 @@
 
 ghost use Rattle.std.specs.Prelude.{◌≡◌, ◌++◌, Some, IfOk, OnOk};
 ghost use Rattle.std.specs.Fmt.{DisplaysOnOk};
-ghost use Rattle.telling.specs.Told.{heading, location, shown_lines, help_line, more_line, first_told, all_told};
+ghost use Rattle.telling.specs.Told.{heading, location, shown_lines, help_line, told_text, more_line, first_told, all_told};
 
+use crate::printing::printable;
 use std::alloc::{AllocError, Global};
 use std::fmt;
 use texts::Text;
@@ -16,13 +17,15 @@ const MOST_TOLD: usize = 100;
 pub struct Shown {
     pub line: usize,
     pub column: usize,
-    /// The line, without its end.
+    /// The line without its end, as a report shows it: at most 200 of its characters, and escapes for those that command a
+    /// terminal.
     pub text: Text,
     /// What stands under the line.
     pub marks: Text,
 }
 
-/// A fault of a file. It has no place where it is one of the file as a whole, and no path where it is one of none.
+/// A fault of a file. It has no place where it is one of the file as a whole, and no path where it is one of none. It displays
+/// as lines, in which the path, the message and the help stand as they are; `told_text` is what a report shows of these.
 #[derive(Debug, Drop)]
 pub struct Told {
     /// The file's path, or nothing.
@@ -37,9 +40,9 @@ pub struct Told {
 
 impl fmt::Display for Told {
     ghost use Rattle.std.specs.Prelude.{Some};
-    ghost use Rattle.telling.specs.Told.{told_text};
+    ghost use Rattle.telling.specs.Told.{told_lines};
 
-    ghost output = { λ told. Some (told_text told) };
+    ghost output = { λ told. Some (told_lines told) };
 
     fn fmt<W: fmt::Write>(&self, f: &mut fmt::Formatter<W>) -> fmt::Result {
         write_location(self, f)?;
@@ -93,7 +96,15 @@ fn write_help<W: fmt::Write>(help: &Option<Text>, f: &mut fmt::Formatter<W>) -> 
     }
 }
 
-/// The texts of the first hundred, one behind the other, and how many more there are, of so many in all.
+/// What a report shows of it: its lines, `printable`.
+pub fn told_text(alloc: Global, told: &Told) -> Result<Text, AllocError>
+    ensures { IfOk result (λ text. text ≡ told_text told.now) }
+{
+    let lines = format!(in alloc; "{told}")?;
+    printable(alloc, lines.as_str())
+}
+
+/// What a report shows of the first hundred, one behind the other, and how many more there are, of so many in all.
 pub fn first_told(alloc: Global, told: &[Told], count: usize) -> Result<Text, AllocError>
     ensures { IfOk result (λ text. text ≡ first_told told.now count) }
 {
@@ -103,10 +114,10 @@ pub fn first_told(alloc: Global, told: &[Told], count: usize) -> Result<Text, Al
         text.push(lines.as_str())?;
     }
     push_more(alloc, &mut text, count)?;
-    Ok(text)
+    printable(alloc, text.as_str())
 }
 
-/// The texts of the first hundred, one behind the other, and how many more there are.
+/// What a report shows of the first hundred, one behind the other, and how many more there are.
 pub fn all_told(alloc: Global, told: &[Told]) -> Result<Text, AllocError>
     ensures { IfOk result (λ text. text ≡ all_told told.now) }
 {
