@@ -7,6 +7,7 @@ use Rattle.diag.specs.declared.error.DeriveError.{DeriveError}
 use Rattle.diag.specs.declared.error.DeriveError.TheVariants as error
 use Rattle.diag.specs.declared.kind.Kind.{Kind}
 use Rattle.acceptance.specs.Json.{Json}
+use Rattle.schema_trees.specs.Held.{IsHeld}
 use Rattle.schema_core.specs.Document.{document, text_of}
 use Rattle.configuration.specs.Configuration.{Configuration}
 use Rattle.configuration_json.specs.Form.{IsConfigurationText, SaysInText}
@@ -36,13 +37,14 @@ said_config said begun c (Some path, form, (bytes, at, is)) = (Some path, form, 
 -- the document of what is given describes what it is resolved to
 pub described : ((bytes : List ℕ) (c : Configuration) → IsConfigurationText bytes c → SaysInText bytes c) → ResolvedIsMeant
     → (begun : Beginning) (text : List ℕ) (old new : Option (List ℕ)) → IsDocument begun text → Appends old new text
-    → (given : Given) × (resolved : List DeclarationOf) × (doc : Json) × IsGivenBy SaysInText begun given × ResolvesTo given resolved × Describes resolved (collects_all given.config.collect) doc × Appends old new (text_of doc)
+    → (given : Given) × (resolved : List DeclarationOf) × (doc : Json) × IsGivenBy SaysInText begun given × ResolvesTo given resolved × IsHeld doc × Describes resolved (collects_all given.config.collect) doc × Appends old new (text_of doc)
 described said meant begun text old new (given, is_given, of) grown = (
   given,
   of.made.derived.resolved,
   document of.components,
   record { config = said_config said begun given.config is_given.config; text = is_given.text },
   record { declarations = of.made.declarations; read = of.made.read; resolves = meant given.config of.made.declarations of.made.derived.resolved of.made.derived.resolves },
+  of.held,
   of.describes,
   subst (Appends old new) of.text_is grown,
 )

@@ -2,6 +2,7 @@ ghost use Rattle.std.specs.Prelude.{◌≡◌, ◌≢◌, ◌⊎◌, ℕ, List, 
 ghost use Rattle.std.specs.Io.KnownBytes.{Appends, Keeps, IsAtEnd};
 ghost use Rattle.diag.specs.declared.kind.Kind.{Kind as AnyKind};
 ghost use Rattle.acceptance.specs.Json.{Json};
+ghost use Rattle.schema_trees.specs.Held.{IsHeld};
 ghost use Rattle.schema_core.specs.Document.{text_of};
 ghost use Rattle.streams.specs.Faults.{CountsFault};
 ghost use Rattle.streams.specs.Told.{AppendsPart};
@@ -50,11 +51,13 @@ pub fn run<S: Source, F: Files, O: Sink, E: Sink>(
 ) -> Status
     // The bytes that were written are one document. It describes the declarations of the source, as
     // the configuration says what they mean: each root has its component, and so has each
-    // reference, and the component of a plain instance accepts exactly the JSON of its shape.
+    // reference, and the component of a plain instance accepts exactly the JSON of its shape. Its
+    // maps have distinct names, in byte order, so a reader finds in the text just this document.
     ensures done { (path : Option (List ℕ)) → IsDerive words.now path → result ≡ Status.Done
         → (given : AnyGiven) × (resolved : List DeclarationOf) × (document : Json)
         × IsGivenBy SaysInText (beginning_of S.Source F.Files words.now input.old files.old) given
         × ResolvesTo given resolved
+        × IsHeld document
         × Describes resolved (collects_all given.config.collect) document
         × Appends (O.written out.old) (O.written out.new) (text_of document) }
     // The document is that of the source's components, without others, and no condition of a
