@@ -32,10 +32,10 @@ cuts_more p ps at stop text rest e s f h c =
     (found.0, rest, found.1, found.2, s, f ∙ h found.0 found.1, subst (λ v. Cuts ps v rest) (sym f) c)
 
 -- one more piece at the end of those found
-pub cuts_pushed : (p : Piece) (found new : List Piece) (at stop : ℕ) (whole text rest : List ℕ) → new ≡ found ++ p ∷ [] → piece_at text ≡ Some (p.kind, rest) → p.span.start ≡ at → p.span.end ≡ stop
-    → ((front : List ℕ) → text ≡ front ++ rest → stop ≡ at + length (encode_utf8_all front)) → ((ps : List Piece) → Cuts ps at text → Cuts (found ++ ps) 0 whole)
-    → (ps : List Piece) → Cuts ps stop rest → Cuts (new ++ ps) 0 whole
-cuts_pushed p found new at stop whole text rest e f s t h kept ps c = rw e (rw append_assoc (kept (p ∷ ps) (cuts_more p ps at stop text rest f s t h c)))
+pub cuts_pushed : (p : Piece) (found new : List Piece) (begin at stop : ℕ) (whole text rest : List ℕ) → new ≡ found ++ p ∷ [] → piece_at text ≡ Some (p.kind, rest) → p.span.start ≡ at → p.span.end ≡ stop
+    → ((front : List ℕ) → text ≡ front ++ rest → stop ≡ at + length (encode_utf8_all front)) → ((ps : List Piece) → Cuts ps at text → Cuts (found ++ ps) begin whole)
+    → (ps : List Piece) → Cuts ps stop rest → Cuts (new ++ ps) begin whole
+cuts_pushed p found new begin at stop whole text rest e f s t h kept ps c = rw e (rw append_assoc (kept (p ∷ ps) (cuts_more p ps at stop text rest f s t h c)))
 
 -- what is left, where the front is a piece
 pub cuts_left : (all : List Piece) (at stop : ℕ) (text rest : List ℕ) (k : PieceKind) → piece_at text ≡ Some (k, rest)

@@ -5,9 +5,12 @@ pub mod WordLaws
 pub mod LiteralLaws
 pub mod PieceLaws
 pub mod CutLaws
+pub mod FrontLaws
 pub mod NestLaws
 mod Lying
 pub mod OpenLaws
+pub mod ChunkLaws
 pub mod LexLaws
+pub mod StepLaws
 pub mod RawLaws
 pub mod Laws

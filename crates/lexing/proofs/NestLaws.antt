@@ -12,14 +12,9 @@ use Rattle.lexing.specs.declared.piece.Piece.{Piece}
 use Rattle.lexing.specs.declared.piece.PieceKind.{PieceKind}
 use Rattle.lexing.specs.declared.piece.PieceKind.TheVariants.{Space, Comment, Token, Open, Close}
 use Rattle.tokens.specs.Trees.{Tree, Trees, token, group, end, ◌▸◌, tree_view, trees_view, depth, depth_of}
-use Rattle.lexing.specs.Nesting.{token_of, IsTrees, none, blank, lone, grouped, Opens, here, inside, later}
+use Rattle.lexing.specs.Nesting.{joined, token_of, IsTrees, none, blank, lone, grouped, Opens, here, inside, later}
 use Rattle.lexing.specs.Reading.{EndFrom, LieIn, Stops, IsUnnested, IsGroup}
 use Rattle.lexing.proofs.CutLaws.{span_same}
-
--- trees after trees
-abbrev pub joined : Trees → Trees → Trees
-joined end us = us
-joined (t ▸ ts) us = t ▸ joined ts us
 
 joined-end : (ts : Trees) → joined ts end ≡ ts
 joined-end end = refl
@@ -78,7 +73,7 @@ module _ (source : List ℕ) where
       moved (group b inner span ▸ us) p ps rest (Open b) k f e (inner, q, mid, us, span, r, l, a, z, refl, s)
 
   -- What has been read begins every reading.
-  cancel : {ps mid rest : List Piece} {ts us : Trees} → IsTrees source ps ts mid → IsTrees source ps us rest → Stops rest → (vs : Trees) × (us ≡ joined ts vs) × IsTrees source mid vs rest
+  pub cancel : {ps mid rest : List Piece} {ts us : Trees} → IsTrees source ps ts mid → IsTrees source ps us rest → Stops rest → (vs : Trees) × (us ≡ joined ts vs) × IsTrees source mid vs rest
   cancel {us = us} none s stops = (us, refl, s)
   cancel (blank (inl k) r) s stops = cancel r (ruled s stops Space k) stops
   cancel (blank (inr k) r) s stops = cancel r (ruled s stops Comment k) stops

@@ -1,7 +1,8 @@
 -- A source and its token trees.
-use Rattle.std.specs.Prelude.{ℕ, ◌≤◌, List, [], length, chars}
-use Rattle.diag.specs.Refusal.{IsSyntaxRefusal, IsDepthRefusal}
+use Rattle.std.specs.Prelude.{◌≡◌, ℕ, ◌≤◌, List, [], length, chars}
+use Rattle.diag.specs.Refusal.{IsErrorFor, IsSyntaxRefusal, IsDepthRefusal}
 use Rattle.diag.specs.declared.error.DeriveError.{DeriveError}
+use Rattle.diag.specs.declared.error.DeriveError.TheVariants as errors
 use Rattle.texts.specs.declared.span.Span.{Span}
 use Rattle.tokens.specs.Trees.{Trees}
 use Rattle.lexing.specs.declared.piece.LexError.{LexError}
@@ -39,3 +40,9 @@ abbrev pub IsUnread : List ℕ → LexError → Type 0
 IsUnread source Memory = Unit {0}
 IsUnread source (TooDeep span) = OpensTooDeep source span
 IsUnread source (Stopped span) = StopsAt source span
+
+-- the refusal is for that error
+abbrev pub IsToldOf : LexError → DeriveError → Type 0
+IsToldOf Memory told = told ≡ errors.Memory
+IsToldOf (TooDeep span) told = IsErrorFor (IsDepthRefusal span) told
+IsToldOf (Stopped span) told = IsErrorFor (IsSyntaxRefusal span) told

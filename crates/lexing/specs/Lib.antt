@@ -1,4 +1,6 @@
+pub mod Chunks
 pub mod Cut
+pub mod Fronts
 pub mod Lying
 pub mod Nesting
 pub mod Open

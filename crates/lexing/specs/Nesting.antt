@@ -9,6 +9,11 @@ use Rattle.lexing.specs.declared.piece.Piece.{Piece}
 use Rattle.lexing.specs.declared.piece.PieceKind.TheVariants.{Space, Comment, Token, Open, Close}
 use Rattle.tokens.specs.Trees.{Trees, token, group, end, ◌▸◌, depth}
 
+-- trees after trees
+abbrev pub joined : Trees → Trees → Trees
+joined end us = us
+joined (t ▸ ts) us = t ▸ joined ts us
+
 -- the token of a source with that span
 abbrev pub token_of : List ℕ → TokenKind → Span → tokens.Token
 token_of source kind span = record { kind = kind; text = slice_range source span.start span.end; span = span }

@@ -150,6 +150,12 @@ if_ended text (Some p) = cond (may_end p.0 text p.1) (Some p) None
 abbrev pub piece_at : List ℕ → Option (PieceKind × List ℕ)
 piece_at text = if_ended text (longest_at text)
 
+-- where reading stopped, in a source of which this is left that cannot be cut
+abbrev pub IsUncutFrom : List ℕ → List ℕ → LexError → Type 0
+IsUncutFrom source text Memory = Unit {0}
+IsUncutFrom source text (TooDeep span) = ⊥
+IsUncutFrom source text (Stopped span) = (span.end ≤ length source) × ((pieces : List Piece) → ¬ (Cuts pieces (length source - length text) (chars text)))
+
 -- where reading stopped, in a source that cannot be cut
 abbrev pub IsUncut : List ℕ → LexError → Type 0
 IsUncut source Memory = Unit {0}

@@ -3,7 +3,7 @@
 ghost use Rattle.std.specs.Prelude.{◌≡◌, ◌≤◌, ◌⊎◌, IfOk, IfErr};
 ghost use Rattle.diag.specs.Refusal.{Refuses};
 ghost use Rattle.tokens.specs.Trees.{trees_view, depth};
-ghost use Rattle.lexing.specs.Cut.{most_open, IsCut, IsDepthError, IsSyntaxError, IsUnread};
+ghost use Rattle.lexing.specs.Cut.{most_open, IsCut, IsDepthError, IsSyntaxError, IsUnread, IsToldOf};
 
 use crate::nest::{self, MAX_DEPTH};
 use crate::piece::LexError;
@@ -12,6 +12,17 @@ use diag::DeriveError;
 use std::alloc::Global;
 use texts::List;
 use tokens::TokenTree;
+
+/// The refusal of a source for the error.
+pub fn refusal(alloc: Global, e: LexError) -> DeriveError
+    ensures { IsToldOf e result }
+{
+    match e {
+        LexError::Memory => DeriveError::Memory,
+        LexError::TooDeep(span) => DeriveError::too_deep(alloc, span),
+        LexError::Stopped(span) => DeriveError::syntax(alloc, span),
+    }
+}
 
 /// The token trees of the source, whose pieces are cut and nested with white space and comments dropped. Brackets
 /// nest at most 64 deep.
@@ -26,9 +37,7 @@ pub fn lex(alloc: Global, source: &str) -> Result<List<TokenTree>, DeriveError>
 {
     match token_trees(alloc, source) {
         Ok(trees) => Ok(trees),
-        Err(LexError::Memory) => Err(DeriveError::Memory),
-        Err(LexError::TooDeep(span)) => Err(DeriveError::too_deep(alloc, span)),
-        Err(LexError::Stopped(span)) => Err(DeriveError::syntax(alloc, span)),
+        Err(e) => Err(refusal(alloc, e)),
     }
 }
 

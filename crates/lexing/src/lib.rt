@@ -2,6 +2,7 @@
 #![tactic(auto)]
 
 mod brackets;
+mod chunks;
 mod comment;
 mod law;
 mod lexer;
@@ -13,6 +14,7 @@ mod text;
 mod word;
 
 pub use brackets::{OpenBracket, open_bracket};
+pub use chunks::Chunks;
 pub use law::{
     cut_sources_are_closed, deep_brackets_nest_deep, one_cut, one_deep_bracket, trees_lie,
 };

@@ -1,10 +1,11 @@
 //! Cutting a source into pieces.
 
-ghost use Rattle.std.specs.Prelude.{◌≡◌, ◌<◌, ◌≤◌, ◌∷◌, [], length, chars, Some, IfOk, IfErr};
+ghost use Rattle.std.specs.Prelude.{◌≡◌, ◌<◌, ◌≤◌, ◌-◌, ◌^◌, ◌∷◌, [], length, chars, Some, true, false, IfOk, IfErr};
 ghost use Rattle.std.specs.Str.{IsUtf8};
 ghost use Rattle.lexing.specs.Pieces.{is_sign, may_end, Cuts};
 ghost use Rattle.lexing.specs.RawStrings.{NoneCloses};
-ghost use Rattle.lexing.specs.Scanning.{bracket_class, class_of, after_colon, or_sign, comment_at, plain_piece_at, longest_at, piece_at, FindsPiece, IsUncut};
+ghost use Rattle.lexing.specs.Scanning.{bracket_class, class_of, after_colon, or_sign, comment_at, plain_piece_at, longest_at, piece_at, FindsPiece, IsUncut, IsUncutFrom};
+ghost use Rattle.lexing.specs.Fronts.{open_after_piece, IsFront};
 
 use crate::comment::comment;
 use crate::piece::{LexError, Piece, PieceKind};
@@ -196,15 +197,60 @@ fn first_char_span(source: &str, rest: &str) -> Span
     }
 }
 
-/// The pieces of the source.
-pub fn cut(alloc: Global, source: &str) -> Result<List<Piece>, LexError>
-    ensures found { IfOk result (λ pieces. Cuts pieces 0 (chars source.now)) }
-    ensures refused { IfErr result (λ e. IsUncut source.now e) }
+/// Pieces at the front of a text, and what is left of it.
+#[derive(Drop)]
+pub struct Front<'s> {
+    pub pieces: List<Piece>,
+    pub rest: &'s str,
+    /// With how many signs `#` no raw string in the rest is closed.
+    pub unclosed: usize,
+}
+
+/// How many brackets are open after the piece.
+fn open_after_piece(kind: PieceKind, depth: usize) -> usize
+    requires { depth < 2 ^ 64 - 1 }
+    ensures { result ≡ open_after_piece kind depth }
 {
-    let mut found = List::new(alloc);
-    let mut rest = source;
-    let mut unclosed = MORE_HASHES;
-    'pieces: while !rest.is_empty() {
+    match kind {
+        PieceKind::Open(_) => depth + 1,
+        PieceKind::Close(_) => depth.saturating_sub(1),
+        PieceKind::Space | PieceKind::Comment | PieceKind::Token(_) => depth,
+    }
+}
+
+/// Whether the pieces are to stop behind the one that begins the text: no bracket is open there, and it is a semicolon or a
+/// closing brace, which end items.
+fn is_last(stops: bool, depth: usize, kind: PieceKind, text: &str) -> bool
+    ensures asked { result ≡ true → stops ≡ true }
+    ensures closed { result ≡ true → depth ≡ 0 }
+{
+    let ends = match kind {
+        PieceKind::Token(TokenKind::Punct) => begins_with(';', text),
+        _ => kind == PieceKind::Close(Bracket::Curly),
+    };
+    stops && depth == 0 && ends
+}
+
+/// The pieces at the front of the text, which is what is left of the source: all of them or, where it stops, up to the first
+/// that ends an item with no bracket open. No raw string in the text with `unclosed` signs `#` or more is closed.
+pub fn cut_front<'s>(
+    alloc: Global,
+    source: &str,
+    text: &'s str,
+    mut unclosed: usize,
+    stops: bool,
+) -> Result<Front<'s>, LexError>
+    requires within { length text.now ≤ length source.now }
+    requires known { NoneCloses unclosed (chars text.now) }
+    ensures found { IfOk result (IsFront source.now text.now) }
+    ensures whole { stops ≡ false → IfOk result (λ front. front.rest.now ≡ []) }
+    ensures refused { IfErr result (IsUncutFrom source.now text.now) }
+{
+    let mut pieces = List::new(alloc);
+    let mut rest = text;
+    let mut depth: usize = 0;
+    let mut ended = false;
+    'pieces: while !rest.is_empty() && !ended {
         match first_piece(rest, unclosed) {
             None => return Err(LexError::Stopped(first_char_span(source, rest))),
             Some((kind, after)) => {
@@ -212,11 +258,28 @@ pub fn cut(alloc: Global, source: &str) -> Result<List<Piece>, LexError>
                     start: source.len() - rest.len(),
                     end: source.len() - after.len(),
                 };
-                found.push(Piece { kind, span })?;
+                pieces.push(Piece { kind, span })?;
                 unclosed = unclosed_after(kind, rest, unclosed);
+                depth = open_after_piece(kind, depth);
+                ended = is_last(stops, depth, kind, rest);
                 rest = after;
             }
         }
     }
-    Ok(found)
+    Ok(Front {
+        pieces,
+        rest,
+        unclosed,
+    })
+}
+
+/// The pieces of the source.
+pub fn cut(alloc: Global, source: &str) -> Result<List<Piece>, LexError>
+    ensures found { IfOk result (λ pieces. Cuts pieces 0 (chars source.now)) }
+    ensures refused { IfErr result (λ e. IsUncut source.now e) }
+{
+    match cut_front(alloc, source, source, MORE_HASHES, false) {
+        Ok(front) => Ok(front.pieces),
+        Err(e) => Err(e),
+    }
 }

@@ -2,9 +2,9 @@ use Rattle.std.proofs.Common.{◌≡◌, ◌≤◌, ◌-◌, ◌∷◌, length, 
 use Rattle.std.proofs.lemmas.Result.{err_from_is_err_and}
 use Rattle.lexing.specs.declared.piece.PieceKind.TheVariants.{Close}
 use Rattle.tokens.specs.Trees.{end, ◌▸◌, tree_view, trees_view, token, depth}
-use Rattle.lexing.specs.Nesting.{token_of, IsTrees, none}
+use Rattle.lexing.specs.Nesting.{joined, token_of, IsTrees, none}
 use Rattle.lexing.specs.Reading.{EndFrom, LieIn}
-use Rattle.lexing.proofs.NestLaws.{unnested_later, unnested_inside, unnested_deep, unnested_open, past_blank, past_token, past_group, joined, group_read, group_depth, trees_view-push, depth_push, lie_after, end_after}
+use Rattle.lexing.proofs.NestLaws.{unnested_later, unnested_inside, unnested_deep, unnested_open, past_blank, past_token, past_group, group_read, group_depth, trees_view-push, depth_push, lie_after, end_after}
 use Rattle.lexing.proofs.nest.+nest.Goals as goal
 
 pub group_at-returns-then-left-eq0-clause-value : goal.group_at-returns-then-left-eq0-clause-value
