@@ -1,12 +1,15 @@
 mod Answered
 mod Behind
 mod Blanked
-mod Groups
 mod Feeds
 mod Few
+mod Found
+mod Groups
 mod Lying
+mod More
 mod One
 mod Parts
 mod Passed
+mod Read
 mod Repeated
 mod Stands

@@ -79,7 +79,7 @@ scope_behind : (ts : List Tree) → IsBehind (after_scope ts) ts
 scope_behind [] = same
 scope_behind (t ∷ ts) = behind_if (is_scope t) (later same) same
 
-visibility_behind : (ts : List Tree) → IsBehind (after_visibility ts) ts
+pub visibility_behind : (ts : List Tree) → IsBehind (after_visibility ts) ts
 visibility_behind [] = same
 visibility_behind (t ∷ ts) = behind_if (is_word (codes "pub") t) (later (scope_behind ts)) same
 

@@ -56,14 +56,14 @@ bang_past : GoesPast bang_at
 bang_past [] rest e = not_none e
 bang_past (t ∷ ts) rest e = elim (either (is_sign (codes "!") t) e) [ inl h ↦ past (weakly (square_past ts rest h)) | inr h ↦ not_none h ]
 
-attribute_past : GoesPast attribute_at
+pub attribute_past : GoesPast attribute_at
 attribute_past [] rest e = not_none e
 attribute_past (t ∷ ts) rest e = elim (either (is_outer_doc t) e) [
   | inl h ↦ first_past h
   | inr h ↦ elim (either (is_sign (codes "#") t) h) [ inl g ↦ past (weakly (square_past ts rest g)) | inr g ↦ not_none g ]
 ]
 
-inner_past : GoesPast inner_at
+pub inner_past : GoesPast inner_at
 inner_past [] rest e = not_none e
 inner_past (t ∷ ts) rest e = elim (either (is_inner_doc t) e) [
   | inl h ↦ first_past h

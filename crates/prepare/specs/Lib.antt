@@ -12,6 +12,7 @@ pub mod Kinds
 pub mod Names
 pub mod Parameters
 pub mod Prepared
+pub mod Reading
 pub mod Returns
 pub mod Skipped
 pub mod Standing

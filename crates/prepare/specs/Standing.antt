@@ -1,7 +1,9 @@
 -- What stands of a file.
-use Rattle.std.specs.Prelude.{◌≡◌, List, [], ◌∷◌, ◌++◌, true, false, Some, None, Result, Ok, Err}
+use Rattle.std.specs.Prelude.{◌≡◌, List, [], ◌∷◌, ◌++◌, map, true, false, Some, None, Result, Ok, Err}
 use Rattle.texts.specs.declared.span.Span.{Span}
-use Rattle.tokens.specs.Trees.{Tree}
+use Rattle.std.specs.Borrow.{Bor}
+use Rattle.tokens.specs.declared.token.TokenTree.{TokenTree}
+use Rattle.tokens.specs.Trees.{Tree, tree_view}
 use Rattle.prepare.specs.declared.item.Standing.{Standing}
 use Rattle.prepare.specs.declared.item.Stop.{Stop}
 use Rattle.prepare.specs.declared.item.Stop.TheVariants as stop
@@ -41,6 +43,27 @@ mutual
 
   pub data StopInside : List Tree → Span → Type 0 where
     in_items : {ts : List Tree} {span : Span} → is_for_tests (before ts (after_inner ts)) ≡ false → StopAt (after_inner ts) span → StopInside ts span
+
+-- the trees up to the rest are items, of which this stands
+pub data StandUpTo : (ts rest : List Tree) → List Standing → Type 0 where
+  none_yet : {ts : List Tree} → StandUpTo ts ts []
+  one_more : {ts after rest : List Tree} {item : Item} {of_item others : List Standing} → item_at ts ≡ Some (item, after) → StandIn item of_item → StandUpTo after rest others → StandUpTo ts rest (of_item ++ others)
+
+-- the trees begin with items, and then with one that stops at the span
+pub record StopsInOne (ts : List Tree) (span : Span) : Type 0 where
+  pub rest : List Tree
+  pub after : List Tree
+  pub item : Item
+  pub found : List Standing
+  pub up_to : StandUpTo ts rest found
+  pub is : item_at rest ≡ Some (item, after)
+  pub stops : StopIn item span
+
+-- what a function found of the items that the trees begin with, and what follows them, which begins with none
+abbrev pub PassesItems : List Tree → Result (List Standing × Bor (List TokenTree)) Stop → Type 0
+PassesItems ts (Ok p) = StandUpTo ts (map tree_view p.1.now) p.0 × (item_at (map tree_view p.1.now) ≡ None)
+PassesItems ts (Err stop.Memory) = Unit {0}
+PassesItems ts (Err (stop.At span)) = StopsInOne ts span
 
 -- what a function found, or there is nothing to be found and it stopped there, unless memory ran out
 abbrev pub Finds : {X : Type 0} → (X → Type 0) → (Span → Type 0) → Result X Stop → Type 0

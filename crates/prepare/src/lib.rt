@@ -41,6 +41,9 @@
 //! Any other item passes. An item with the attribute `cfg(test)`, or
 //! `cfg(all(..))` in which `test` is, does not stand, and is not looked into; nor does anything stand in a file or a module whose
 //! inner attributes have such a one.
+//!
+//! The trees of a file are read some at a time, and dropped once their items are gone through: memory goes by its longest item,
+//! and by what stands of it.
 #![tactic(auto)]
 
 mod attributes;
@@ -60,6 +63,7 @@ mod line_ends;
 mod names;
 mod parameters;
 mod previous;
+mod reading;
 mod serde_trait;
 mod single;
 mod skipped;

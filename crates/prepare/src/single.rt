@@ -6,7 +6,7 @@ ghost use Rattle.words.specs.Words.{ident_of};
 ghost use Rattle.prepare.specs.declared.item.Stop.TheVariants.{At};
 ghost use Rattle.prepare.specs.Forms.{form_view};
 ghost use Rattle.prepare.specs.Imports.{imports_of};
-ghost use Rattle.prepare.specs.Items.{declared_of, item_view, read_view, written_of, named_of, item_of, item_at, stop_at, ReadsItem};
+ghost use Rattle.prepare.specs.Items.{declared_of, item_view, read_view, written_of, named_of, item_of, item_at, stop_at, stop_of, ReadsItem};
 
 use crate::attributes::{after_attributes, after_visibility, is_for_tests};
 use crate::fields::push_declared;
@@ -143,6 +143,13 @@ fn stop_at(trees: &[TokenTree], start: &[TokenTree]) -> Stop
         ([first, ..], _) => Stop::At(start_of(first)),
         _ => Stop::At(Span::nowhere()),
     }
+}
+
+/// Where no item begins among the trees.
+pub(crate) fn stop_of(trees: &[TokenTree]) -> Stop
+    ensures { result ≡ At (stop_of (map tree_view trees.now)) }
+{
+    stop_at(trees, after_attributes(trees))
 }
 
 /// What is done with the item that the trees begin with, and what follows it.

@@ -1,13 +1,13 @@
-//! What stands of a file.
+//! What stands of items, and in modules.
 
 ghost use Rattle.std.specs.Prelude.{◌≡◌, map};
 ghost use Rattle.tokens.specs.Trees.{tree_view};
 ghost use Rattle.prepare.specs.Items.{item_view};
-ghost use Rattle.prepare.specs.Standing.{AreItems, StandIn, StandInside, StopAt, StopIn, StopInside, Finds};
+ghost use Rattle.prepare.specs.Standing.{AreItems, StandIn, StandInside, StopAt, StopIn, StopInside, Finds, PassesItems};
 
 use crate::attributes::{after_inner, is_for_tests};
 use crate::item::{Item, Standing, Stop};
-use crate::single::item_at;
+use crate::single::{item_at, stop_of};
 use crate::trees::before;
 use std::alloc::Global;
 use texts::List;
@@ -30,24 +30,44 @@ fn stand_in(alloc: Global, item: Item<'_>) -> Result<List<Standing>, Stop>
     }
 }
 
-/// What stands of the trees, which are items.
+/// What stands of the items that the trees begin with, and what follows them, which begins with no item.
 #[cycle(standing)]
-fn are_items(alloc: Global, trees: &[TokenTree]) -> Result<List<Standing>, Stop>
-    ensures { Finds (AreItems (map tree_view trees.now)) (StopAt (map tree_view trees.now)) result }
+pub(crate) fn pass_items(
+    alloc: Global,
+    trees: &[TokenTree],
+) -> Result<(List<Standing>, &[TokenTree]), Stop>
+    ensures { PassesItems (map tree_view trees.now) result }
 {
     let mut standing = List::new(alloc);
     let mut rest = trees;
-    'items: while !rest.is_empty() {
-        let (item, after) = item_at(alloc, rest)?;
-        standing.append(stand_in(alloc, item)?)?;
-        rest = after;
+    'items: loop {
+        match item_at(alloc, rest) {
+            Ok((item, after)) => {
+                standing.append(stand_in(alloc, item)?)?;
+                rest = after;
+            }
+            Err(Stop::Memory) => return Err(Stop::Memory),
+            Err(Stop::At(_)) => return Ok((standing, rest)),
+        }
     }
-    Ok(standing)
 }
 
-/// What stands of the trees, which are a file, or what stands in the brackets of a module.
+/// What stands of the trees, which are items.
 #[cycle(standing)]
-pub(crate) fn stand_inside(alloc: Global, trees: &[TokenTree]) -> Result<List<Standing>, Stop>
+pub(crate) fn are_items(alloc: Global, trees: &[TokenTree]) -> Result<List<Standing>, Stop>
+    ensures { Finds (AreItems (map tree_view trees.now)) (StopAt (map tree_view trees.now)) result }
+{
+    let (standing, rest) = pass_items(alloc, trees)?;
+    if rest.is_empty() {
+        Ok(standing)
+    } else {
+        Err(stop_of(rest))
+    }
+}
+
+/// What stands of the trees in the brackets of a module.
+#[cycle(standing)]
+fn stand_inside(alloc: Global, trees: &[TokenTree]) -> Result<List<Standing>, Stop>
     ensures { Finds (StandInside (map tree_view trees.now)) (StopInside (map tree_view trees.now)) result }
 {
     let rest = after_inner(trees);

@@ -1,4 +1,4 @@
-use Rattle.std.proofs.Common.{◌≡◌, ◌∙◌, ◌+◌, ◌-◌, ◌++◌, length, replicate, string_bytes, encode_utf8, true, false, ap, sym, append_assoc, arith}
+use Rattle.std.proofs.Common.{◌≡◌, ◌∙◌, ◌-◌, ◌++◌, length, replicate, string_bytes, encode_utf8, true, false, ap, sym, append_assoc, arith}
 use Rattle.std.specs.Str.{chars, encode_utf8_all}
 use Rattle.prepare.specs.Blanks.{covers, blanked}
 use Rattle.prepare.proofs.Blanked.{width, kept_first, blank_first}

@@ -5,52 +5,51 @@ use Rattle.tokens.specs.Trees.{tree_view, trees_view, trees_of, depth}
 use Rattle.prepare.specs.Trees.{before}
 use Rattle.prepare.specs.Attributes.{after_inner, is_for_tests}
 use Rattle.prepare.specs.Items.{item_view}
-use Rattle.prepare.specs.Standing.{AreItems, StandIn, itself, all, nothing, for_tests, StopAt, StopIn, Finds}
+use Rattle.prepare.specs.Standing.{AreItems, none_yet, StandUpTo, StandIn, itself, all, nothing, for_tests, StopAt, StopIn, Finds}
 use Rattle.prepare.proofs.Behind.{weakly, length_past, depth_behind}
 use Rattle.prepare.proofs.Passed.{item_past}
 use Rattle.prepare.proofs.Repeated.{inner_behind}
-use Rattle.prepare.proofs.Stands.{SoFar, at_end, goes_on, some_left, none_left, item_stops, standing_stops, held_finds, inside_finds, depth_less}
+use Rattle.prepare.proofs.Stands.{up_to_next, up_to_end, none_left, rest_stops, passed_none, held_finds, inside_finds, depth_less}
 use Rattle.prepare.proofs.standing.+standing.Goals as goal
 
-pub are_items-returns-in_err-item : goal.are_items-returns-in_err-item
-are_items-returns-in_err-item t c =
-    let p = err_from_is_err_and c.from_residual.result c.from_residual.ensures.1 in
-    let some = some_left c.items.rest.now (sym c.is_empty.ensures ∙ c.items-test.true) in
-    rw (p.1, p.2)
-    (item_stops (map tree_view c.args.trees.now) (map tree_view c.items.rest.now) c.items.standing c.in_err-item.field-0.0 c.items.invariant.0 some c.in_err-item.ensures)
+pub pass_items-items-init : goal.pass_items-items-init
+pass_items-items-init t c = (rw c.new-standing.ensures none_yet, omega arith)
 
-pub are_items-stand_in-requires : goal.are_items-stand_in-requires
-are_items-stand_in-requires t c =
-    let less = depth_less (map tree_view c.items.rest.now) (item_view c.in_ok-item.item) (map tree_view c.in_ok-item.after.now) (depth (trees_view c.args.trees.now)) c.in_ok-item.ensures c.items.invariant.1 in
+pub pass_items-stand_in-requires : goal.pass_items-stand_in-requires
+pass_items-stand_in-requires t c =
+    let less = depth_less (map tree_view c.items.rest.now) (item_view c.in-Ok.item) (map tree_view c.in-Ok.after.now) (depth (trees_view c.args.trees.now)) c.in-Ok.ensures c.items.invariant.1 in
     (omega (arith, less), tt)
 
-pub are_items-returns-in_err-stand_in : goal.are_items-returns-in_err-stand_in
-are_items-returns-in_err-stand_in t c =
-    let p = err_from_is_err_and c.from_residual-in_err-stand_in.result c.from_residual-in_err-stand_in.ensures.1 in
-    rw (p.1, p.2)
-    (standing_stops (map tree_view c.args.trees.now) (map tree_view c.items.rest.now) (map tree_view c.in_ok-item.after.now) (item_view c.in_ok-item.item) c.items.standing c.in_err-stand_in.field-0.0 c.items.invariant.0 c.in_ok-item.ensures c.in_err-stand_in.ensures)
+pub pass_items-items-smaller : goal.pass_items-items-smaller
+pass_items-items-smaller t c =
+    let less = length_past (item_past (map tree_view c.items.rest.now) (item_view c.in-Ok.item) (map tree_view c.in-Ok.after.now) c.in-Ok.ensures) in
+    omega (arith, less, length-map c.items.rest.now tree_view, length-map c.in-Ok.after.now tree_view)
 
-pub are_items-items-smaller : goal.are_items-items-smaller
-are_items-items-smaller t c =
-    let less = length_past (item_past (map tree_view c.items.rest.now) (item_view c.in_ok-item.item) (map tree_view c.in_ok-item.after.now) c.in_ok-item.ensures) in
-    omega (arith, less, length-map c.items.rest.now tree_view, length-map c.in_ok-item.after.now tree_view)
-
-pub are_items-items-preserved : goal.are_items-items-preserved
-are_items-items-preserved t c =
-    let all = map tree_view c.args.trees.now in
+pub pass_items-items-preserved : goal.pass_items-items-preserved
+pass_items-items-preserved t c =
     let rest = map tree_view c.items.rest.now in
-    let after = map tree_view c.in_ok-item.after.now in
-    let item = item_view c.in_ok-item.item in
-    let deep = depth_behind (weakly (item_past rest item after c.in_ok-item.ensures)) in (
-      rw c.in_ok-append.ensures.ok (goes_on all rest after item c.items.standing c.in_ok-stand_in.field-0 c.items.invariant.0 c.in_ok-item.ensures c.in_ok-stand_in.ensures),
+    let after = map tree_view c.in-Ok.after.now in
+    let deep = depth_behind (weakly (item_past rest (item_view c.in-Ok.item) after c.in-Ok.ensures)) in (
+      rw c.in_ok-append-in-Ok.ensures.ok (up_to_next c.items.invariant.0 c.in-Ok.ensures c.in_ok-stand_in-in-Ok.ensures),
       omega (arith, deep, c.items.invariant.1),
     )
 
-pub are_items-returns : goal.are_items-returns
-are_items-returns t c =
+pub are_items-returns-in_err-standing : goal.are_items-returns-in_err-standing
+are_items-returns-in_err-standing t c =
+    let p = err_from_is_err_and c.from_residual.result c.from_residual.ensures.1 in
+    rw (p.1, p.2) (passed_none (map tree_view c.args.trees.now) c.in_err-standing.field-0.0 c.in_err-standing.ensures)
+
+pub are_items-returns-then-is_empty : goal.are_items-returns-then-is_empty
+are_items-returns-then-is_empty t c =
     let all = map tree_view c.args.trees.now in
-    let none = none_left c.items.rest.now (sym c.is_empty.ensures ∙ c.items-test.false) in
-    at_end all c.items.standing (subst (λ v. SoFar all v c.items.standing) none c.items.invariant.0)
+    let none = none_left c.in_ok-standing.rest.now (sym c.is_empty.ensures ∙ c.if-is_empty.true) in
+    up_to_end all c.in_ok-standing.standing (subst (λ v. StandUpTo all v c.in_ok-standing.standing) none c.in_ok-standing.ensures.0)
+
+pub are_items-returns-else-is_empty : goal.are_items-returns-else-is_empty
+are_items-returns-else-is_empty t c =
+    let all = map tree_view c.args.trees.now in
+    rw c.stop_of.ensures
+    (rest_stops all c.in_ok-standing.rest.now c.in_ok-standing.standing c.in_ok-standing.ensures.0 c.in_ok-standing.ensures.1 (sym c.is_empty.ensures ∙ c.if-is_empty.false))
 
 pub stand_in-returns-in_ok-push-in-Stands : goal.stand_in-returns-in_ok-push-in-Stands
 stand_in-returns-in_ok-push-in-Stands t c =
