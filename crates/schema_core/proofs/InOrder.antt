@@ -8,6 +8,7 @@ use Rattle.acceptance.specs.Json.{Json, Members, no_members, member, entries, pu
 use Rattle.schema_core.specs.declared.alternatives.Alternatives.{Alternatives}
 use Rattle.schema_core.specs.Document.{Entry, entry_form}
 use Rattle.schema_core.specs.Entries.{entry_names, IsInOrder}
+use Rattle.schema_core.specs.Meaning.{DocumentsAreInOrder}
 use Rattle.schema_core.proofs.EntryLaws.{compare, reversed}
 
 abbrev pub members_of : List (List ℕ × Json) → Members
@@ -59,3 +60,6 @@ put_in_order by bs (e ∷ es) h o =
 
 pub forms_in_order : (by : Alternatives) (es : List Entry) → IsInOrder (entry_names es) → put_all (map (entry_form by) es) no_members ≡ members_of (map (entry_form by) es)
 forms_in_order by es o = put_in_order by [] es (behind_none (entry_names es)) o
+
+pub entries_in_order : DocumentsAreInOrder
+entries_in_order by es o = ap entries (forms_in_order by es o) ∙ entries-members_of (map (entry_form by) es)

@@ -11,6 +11,7 @@ pub mod Refers
 pub mod Values
 mod Examples
 mod InOrder
+mod Parts
 mod Placed
 mod Plain
 mod Writes

@@ -22,7 +22,7 @@ use Rattle.schema_core.specs.declared.alternatives.Alternatives.{Alternatives}
 use Rattle.schema_core.specs.Document.{Entry, entry_form, document_by, text_of}
 use Rattle.schema_core.specs.Entries.{entry_names}
 use Rattle.schema_core.specs.OneText.{OneText, OneDocument}
-use Rattle.schema_core.proofs.InOrder.{entries-members_of, forms_in_order}
+use Rattle.schema_core.proofs.InOrder.{entries_in_order}
 
 -- ---- numbers
 
@@ -144,7 +144,7 @@ abbrev schemas_in : Json → List (List ℕ × Json)
 schemas_in d = entries (members_in (first_in (members_in (first_in (members_in d)))))
 
 forms_back : (by : Alternatives) (es : List Entry) → IsInOrder (entry_names es) → schemas_in (document_by by es) ≡ map_list (entry_form by) es
-forms_back by es o = ap entries (forms_in_order by es o) ∙ entries-members_of (map_list (entry_form by) es)
+forms_back by es o = entries_in_order by es o
 
 pub one_document : OneDocument
 one_document by es fs o p h k e = sym (forms_back by es o) ∙ ap schemas_in (one_text (document_by by es) (document_by by fs) h k e) ∙ forms_back by fs p

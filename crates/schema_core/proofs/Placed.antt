@@ -10,11 +10,6 @@ use Rattle.serde_json.specs.Written.{compact_text, members_text, comma_if}
 use Rattle.acceptance.specs.Json.{Json, null, Members, no_members, member, put, put_all, map_of}
 use Rattle.acceptance.specs.Data.{data_of, members_data}
 use Rattle.schema_trees.specs.Held.{IsHeld}
-use Rattle.schema_trees.specs.declared.tree.Tree.{Tree}
-use Rattle.schema_trees.specs.declared.tree.RefLeaf.{RefLeaf}
-use Rattle.schema_core.specs.declared.alternatives.Alternatives.{Alternatives}
-use Rattle.schema_core.specs.Form.{form_by, property_forms}
-use Rattle.schema_trees.specs.Schema.{named_views, schema_view}
 use Rattle.schema_core.specs.Writes.{places_from}
 use Rattle.schema_core.proofs.Held.{AreValuesHeld, values_held}
 
@@ -133,29 +128,15 @@ places-insert (e ∷ es) k i = by (compare_names k e.0) (places-insert es k i)
     by Equal h = refl
     by Greater h = ap (λ t. place_of e ∷ t) h
 
-abbrev Properties : Type 0
-Properties = List (List ℕ × Tree RefLeaf)
-
-drop_one : (ps : Properties) (i : ℕ) (p : List ℕ × Tree RefLeaf) → i < length ps → p ≡ get_or ps i p → map (λ q. q.0) (drop i ps) ≡ p.0 ∷ map (λ q. q.0) (drop (suc i) ps)
+drop_one : {V : Type 0} (ps : List (List ℕ × V)) (i : ℕ) (p : List ℕ × V) → i < length ps → p ≡ get_or ps i p → map (λ q. q.0) (drop i ps) ≡ p.0 ∷ map (λ q. q.0) (drop (suc i) ps)
 drop_one [] i p l h = absurd (omega arith)
 drop_one (q ∷ ps) zero p l h = ap (λ r. r.0 ∷ map (λ q. q.0) ps) (sym h)
 drop_one (q ∷ ps) (suc i) p l h = drop_one ps i p (omega arith) h
 
-pub places_step : (ps : Properties) (i : ℕ) (p : List ℕ × Tree RefLeaf) → i < length ps → p ≡ get_or ps i p → (k : Bor (List ℕ)) → k.now ≡ p.0 → (old new : List (Bor (List ℕ) × ℕ)) →
+pub places_step : {V : Type 0} (ps : List (List ℕ × V)) (i : ℕ) (p : List ℕ × V) → i < length ps → p ≡ get_or ps i p → (k : Bor (List ℕ)) → k.now ≡ p.0 → (old new : List (Bor (List ℕ) × ℕ)) →
     new ≡ insert_entry compare_names old k i → places_from (i + 1) (map (λ q. q.0) (drop (i + 1) ps)) (map place_of new) ≡ places_from i (map (λ q. q.0) (drop i ps)) (map place_of old)
 places_step ps i p l h k named old new e =
     let next : i + 1 ≡ suc i = omega arith in
     ap (λ n. places_from n (map (λ q. q.0) (drop n ps)) (map place_of new)) next
     ∙ ap (places_from (suc i) (map (λ q. q.0) (drop (suc i) ps))) (ap (map place_of) e ∙ places-insert old k i ∙ ap (λ m. insert_entry (slice_cmp nat_cmp) (map place_of old) m i) named)
     ∙ ap (λ ks. places_from i ks (map place_of old)) (sym (drop_one ps i p l h))
-
--- ---- the properties of a schema
-
-pub property_names_are : (by : Alternatives) (ps : Properties) → map (λ e. e.0) (property_forms by (named_views (λ l. l) ps)) ≡ map (λ p. p.0) ps
-property_names_are by [] = refl
-property_names_are by (p ∷ ps) = ap (λ ks. p.0 ∷ ks) (property_names_are by ps)
-
-pub value_at-property : (by : Alternatives) (ps : Properties) (i : ℕ) (p : List ℕ × Tree RefLeaf) → i < length ps → p ≡ get_or ps i p → value_at (property_forms by (named_views (λ l. l) ps)) i ≡ form_by by (schema_view p.1)
-value_at-property by [] i p l h = absurd (omega arith)
-value_at-property by (q ∷ ps) zero p l h = ap (λ r. form_by by (schema_view r.1)) (sym h)
-value_at-property by (q ∷ ps) (suc i) p l h = value_at-property by ps i p (omega arith) h

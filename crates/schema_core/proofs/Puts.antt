@@ -43,7 +43,7 @@ pub object_is : (m : BTreeMap (String Global) Value) → view (Object m) ≡ obj
 object_is m = view-Object m
 
 -- no value here has a float
-number_has_no_float : (n : ℤ) → is_float (num_of n) ≡ false
+pub number_has_no_float : (n : ℤ) → is_float (num_of n) ≡ false
 number_has_no_float (pos n) = refl
 number_has_no_float (negsuc n) = refl
 

@@ -1,27 +1,30 @@
 -- The text of a value, with the line feed at its end, is read as the value.
-use Rattle.std.proofs.Common.{ℕ, suc, max, ◌≤◌, Bool, true, false, cond, List, [], ◌∷◌, ◌++◌, Option, Some, option_map, option_and_then, ◌≡◌, refl, sym, ap, ap₂, ◌∙◌, subst, append_assoc, append-nil}
+use Rattle.std.proofs.Common.{ℕ, suc, max, ◌≤◌, Bool, true, false, cond, List, [], ◌∷◌, ◌++◌, Option, Some, option_map, option_and_then, unwrap_or, ◌≡◌, refl, sym, ap, ap₂, ◌∙◌, subst, append_assoc, append-nil}
 use Rattle.std.specs.List.{AllByRecursion}
 use Rattle.std.specs.List.Sorted.{IsStrictlySortedBy}
 use Rattle.json.specs.Json as json
 use Rattle.json.specs.Lex.{Lexeme, token, comma, colon, between, lex, punctuate, fresh, string_token, tokens}
-use Rattle.json.specs.Print.{escape, quoted, token_text}
+use Rattle.json.specs.Print.{escape, print, quoted, token_text}
 use Rattle.json.specs.Token as word
 use Rattle.json.specs.Token.{Token}
 use Rattle.json.specs.Tree as tree
+use Rattle.json.specs.Tree.{json_tokens}
 use Rattle.json.specs.Word.{ends_word, word as word_at}
 use Rattle.json.proofs.Printed.Numbers.{lex-number, in_word-ended}
 use Rattle.json.proofs.Printed.Strings.{content-escape, lex-escape}
 use Rattle.serde_json.specs.Data.{Data, Items as DataItems, Members as DataMembers, null as d_null, boolean as d_boolean, number as d_number, string, array, object, no_items as no_data, item as data_item, no_members as no_entries, member as entry, put as put_data, depth, items_depth, members_depth}
+use Rattle.serde_json.specs.Find.{is_float}
 use Rattle.serde_json.specs.Read.{of_json, of_items, of_members, max_depth}
-use Rattle.serde_json.specs.Written.{number_text, outline, items_outline, members_outline, comma_if, compact_text, items_text, members_text}
+use Rattle.serde_json.specs.Written.{number_text, outline, items_outline, members_outline, blank, blank_items, blank_members, comma_if, compact_text, items_text, members_text}
 use Rattle.acceptance.specs.Json.{Json, null, boolean, number, text, list, map, Items, no_items, item, Members, no_members, member, entries, names}
 use Rattle.acceptance.specs.Data.{num_of, data_of, items_data, members_data}
 use Rattle.schema_trees.specs.Held.{IsInOrder, HasShortNumbers, ItemsHaveShortNumbers, MembersHaveShortNumbers, HasNamesInOrder, ItemsHaveNamesInOrder, MembersHaveNamesInOrder}
 use Rattle.schema_core.specs.Document.{text_of}
-use Rattle.schema_core.specs.OneText.{TextsReadBack}
+use Rattle.schema_core.specs.OneText.{TextsAreCompact, TextsReadBack}
 use Rattle.schema_core.proofs.InOrder.{members_of, members_of-entries, IsBehind, put_last, all_more, behind_none}
 use Rattle.schema_core.proofs.OneText.{digits_read, are_digits, tree_of, tokens_are, tree_read}
-use Rattle.schema_core.proofs.Puts.{data_put}
+use Rattle.schema_core.proofs.Puts.{data_put, number_has_no_float}
+use Rattle.serde_json.proofs.Texts.{print-outline}
 
 -- ---- the lexemes of a value, before others
 
@@ -163,14 +166,42 @@ mutual
       ∙ of_names (bs ++ (k, x) ∷ []) ms h.1 o.1 (all_more bs (k, x) (names (entries ms)) behind.1 order.0) order.1
       ∙ ap (λ cs. Some (members_data (members_of cs))) (append_assoc bs ((k, x) ∷ []) (entries ms))
 
+-- ---- the tree has a text for each number
+
+mutual
+  blank_tree : (x : Json) → HasShortNumbers x → blank (tree_of x) ≡ tree_of x
+  blank_tree null h = refl
+  blank_tree (boolean b) h = refl
+  blank_tree (number n) h =
+      let s = number_text (num_of n) in
+      ap json.number (ap (λ o. cond (unwrap_or (option_map is_float o) false) [] s) (digits_read n h) ∙ ap (λ b. cond b [] s) (number_has_no_float n))
+  blank_tree (text s) h = refl
+  blank_tree (list xs) h = ap json.array (blank_trees xs h)
+  blank_tree (map ms) h = ap json.object (blank_named ms h)
+
+  blank_trees : (xs : Items) → ItemsHaveShortNumbers xs → blank_items (items_outline (items_data xs)) ≡ items_outline (items_data xs)
+  blank_trees no_items h = refl
+  blank_trees (item x xs) h = ap₂ json.item (blank_tree x h.0) (blank_trees xs h.1)
+
+  blank_named : (ms : Members) → MembersHaveShortNumbers ms → blank_members (members_outline (members_data ms)) ≡ members_outline (members_data ms)
+  blank_named no_members h = refl
+  blank_named (member k x ms) h = ap₂ (json.member k) (blank_tree x h.0) (blank_named ms h.1)
+
 -- ---- the text
 
 abbrev whole : Option (json.Json × List Token) → Option Data
 whole o = option_and_then of_json (option_and_then (λ p. json.if_last p.0 p.1) o)
 
+tree_back : (x : Json) → HasShortNumbers x → HasNamesInOrder x → depth (data_of x) ≤ max_depth → whole (json.value max_depth (json_tokens (tree_of x))) ≡ Some (data_of x)
+tree_back x h o deep = ap whole (tree_read x max_depth (subst (λ n. n ≤ max_depth) (sym (same_depth (data_of x))) deep)) ∙ of_value x h o
+
 pub texts_read_back : TextsReadBack
 unfolding text_of
-texts_read_back x h o deep =
-    ap (λ ts. whole (json.value max_depth ts)) (line_feed x h ∙ tokens_are x h)
-    ∙ ap whole (tree_read x max_depth (subst (λ n. n ≤ max_depth) (sym (same_depth (data_of x))) deep))
-    ∙ of_value x h o
+texts_read_back x h o deep = ap (λ ts. whole (json.value max_depth ts)) (line_feed x h ∙ tokens_are x h) ∙ tree_back x h o deep
+
+pub texts_are_compact : TextsAreCompact
+texts_are_compact x h o = record {
+  order = (tree_of x, tokens_are x h, blank_tree x h);
+  printed = sym (ap print (tokens_are x h) ∙ print-outline (data_of x));
+  reads = λ deep. ap (λ ts. whole (json.value max_depth ts)) (tokens_are x h) ∙ tree_back x h o deep;
+}

@@ -1,19 +1,16 @@
 -- Texts of lists and of the document, one by one.
-use Rattle.std.proofs.Common.{ℕ, zero, suc, ◌+◌, ◌<◌, nat_lt, arith, Bool, true, false, List, [], ◌∷◌, ◌++◌, ◌≡◌, refl, ap, sym, subst, ◌∙◌, length, take, get_or, map, codes}
-use Rattle.std.specs.List.{AllByRecursion}
-use Rattle.std.proofs.lemmas.Bool.{lt-ltb}
-use Rattle.std.proofs.lemmas.List.{take_more, append-nil, append_assoc}
+use Rattle.std.proofs.Common.{ℕ, Bool, true, false, List, [], ◌∷◌, ◌++◌, ◌≡◌, refl, ap, sym, ◌∙◌, map, codes}
+use Rattle.std.proofs.lemmas.List.{append-nil, append_assoc}
 use Rattle.json.specs.Print.{escape_byte}
 use Rattle.serde_json.specs.Data.{string}
 use Rattle.serde_json.specs.Written.{compact_text, items_text, members_text, comma_if}
 use Rattle.acceptance.specs.Json.{Json, Items, item}
 use Rattle.acceptance.specs.Data.{data_of, items_data, members_data}
-use Rattle.schema_trees.specs.Held.{IsHeld}
 use Rattle.schema_core.specs.declared.alternatives.Alternatives.{Alternatives}
 use Rattle.schema_core.specs.Form.{form_by}
 use Rattle.schema_core.specs.Document.{Entry, entry_form, entry_text, entries_text, document_by, text_of}
+use Rattle.schema_core.specs.Writes.{has_some}
 use Rattle.schema_core.specs.Entries.{entry_names, IsInOrder}
-use Rattle.schema_core.proofs.EntryLaws.{all-append}
 use Rattle.schema_core.proofs.InOrder.{members_of, forms_in_order}
 
 -- ---- one value more of a list
@@ -69,26 +66,28 @@ document_text by es o =
     ap (λ xs. head ++ xs) (sym (three_ends (entries_text by false es)))
     ∙ ap (λ xs. head ++ (((xs ++ 125 ∷ []) ++ 125 ∷ []) ++ 10 ∷ [])) (sym inner)
 
--- ---- what the loop keeps
+-- ---- what is pushed
 
-comma_before : (es : List Entry) (i : ℕ) → i < length es → goes_on false (take i es) ≡ nat_lt 0 i
-comma_before es zero h = refl
-comma_before [] (suc i) h = absurd (omega (arith, h))
-comma_before (e ∷ es) (suc i) h = sym (lt-ltb 0 (suc i) (omega arith))
+goes_on_false : (es : List Entry) → goes_on false es ≡ has_some es
+goes_on_false [] = refl
+goes_on_false (e ∷ es) = refl
 
-pub one_more : (by : Alternatives) (es : List Entry) (i : ℕ) (e : Entry) → i < length es → e ≡ get_or es i e → (start old between new : List ℕ)
-    → old ≡ start ++ entries_text by false (take i es) → between ≡ old ++ comma_if (nat_lt 0 i) → new ≡ between ++ entry_text by e → new ≡ start ++ entries_text by false (take (i + 1) es)
-one_more by es i e h here start old between new p q r =
-    let so_far = entries_text by false (take i es) in
-    let comma = comma_if (nat_lt 0 i) in
-    let more : entries_text by false (take (i + 1) es) ≡ so_far ++ (comma ++ entry_text by e) =
-    ap (entries_text by false) (take_more es i e h) ∙ ap (λ x. entries_text by false (take i es ++ x ∷ [])) (sym here)
-    ∙ more_text by false (take i es) e ∙ ap (λ b. so_far ++ (comma_if b ++ entry_text by e)) (comma_before es i h) in
-    r ∙ ap (λ xs. xs ++ entry_text by e) (q ∙ ap (λ xs. xs ++ comma) p) ∙ append_assoc (start ++ so_far) comma (entry_text by e) ∙ append_assoc start so_far (comma ++ entry_text by e) ∙ ap (λ xs. start ++ xs) (sym more)
+pub some_more : (es : List Entry) (e : Entry) → true ≡ has_some (es ++ e ∷ [])
+some_more [] e = refl
+some_more (x ∷ es) e = refl
 
-abbrev AreFormsHeld : Alternatives → List Entry → Type 0
-AreFormsHeld by es = AllByRecursion (λ e. IsHeld (form_by by e.1)) es
-
-pub one_more_held : (by : Alternatives) (es : List Entry) (i : ℕ) (e : Entry) → i < length es → e ≡ get_or es i e → AreFormsHeld by (take i es) → IsHeld (form_by by e.1) → AreFormsHeld by (take (i + 1) es)
-one_more_held by es i e h here held one =
-    subst (AreFormsHeld by) (sym (take_more es i e h)) (all-append (λ e. IsHeld (form_by by e.1)) (take i es) (get_or es i e ∷ []) held (subst (λ x. IsHeld (form_by by x.1)) here one, tt))
+-- behind the entries so far, and a comma where there are some, stand the name of one more, a colon and its schema
+pub entry_more : (by : Alternatives) (es : List Entry) (e : Entry) (old between key colon new : List ℕ) → old ≡ head ++ entries_text by false es → between ≡ old ++ comma_if (has_some es) →
+    key ≡ between ++ compact_text (string e.0) → colon ≡ key ++ 58 ∷ [] → new ≡ colon ++ compact_text (data_of (form_by by e.1)) → new ≡ head ++ entries_text by false (es ++ e ∷ [])
+entry_more by es e old between key colon new o p q r t =
+    let comma = comma_if (has_some es) in
+    let name = compact_text (string e.0) in
+    let value = compact_text (data_of (form_by by e.1)) in
+    let so_far = entries_text by false es in
+    t ∙ ap (λ xs. xs ++ value) (r ∙ ap (λ xs. xs ++ 58 ∷ []) (q ∙ ap (λ xs. xs ++ name) (p ∙ ap (λ xs. xs ++ comma) o)))
+    ∙ append_assoc (((head ++ so_far) ++ comma) ++ name) (58 ∷ []) value
+    ∙ append_assoc ((head ++ so_far) ++ comma) name (58 ∷ value)
+    ∙ append_assoc (head ++ so_far) comma (entry_text by e)
+    ∙ append_assoc head so_far (comma ++ entry_text by e)
+    ∙ ap (λ b. head ++ (so_far ++ (comma_if b ++ entry_text by e))) (sym (goes_on_false es))
+    ∙ ap (λ xs. head ++ xs) (sym (more_text by false es e))

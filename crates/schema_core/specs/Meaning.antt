@@ -1,7 +1,7 @@
 -- What a schema accepts, told on the tree, and the laws that the JSON of the tree says the same.
-use Rattle.std.specs.Prelude.{◌≡◌, ℕ, ℤ, List, [], ◌∷◌, Bool, true, false, ◌&&◌, ◌||◌, Option, Some, None, option_map, codes, int_le, pos, length, drop, IsTrue}
+use Rattle.std.specs.Prelude.{◌≡◌, ℕ, ℤ, List, [], ◌∷◌, Bool, true, false, ◌&&◌, ◌||◌, Option, Some, None, option_map, map as map_list, codes, int_le, pos, length, drop, IsTrue}
 use Rattle.std.specs.List.{list_all, list_any}
-use Rattle.acceptance.specs.Json.{Json, list, names, look, same, distinct, on_map, on_list, on_number, if_there, member_of}
+use Rattle.acceptance.specs.Json.{Json, list, names, entries, no_members, put_all, look, same, distinct, on_map, on_list, on_number, if_there, member_of}
 use Rattle.texts.specs.Names.{is_in, IsDistinct}
 use Rattle.acceptance.specs.Acceptance.{kinds_of, others_pass, names_pass, accepts_with, component_schema}
 use Rattle.acceptance.specs.References.{EachReference}
@@ -14,8 +14,8 @@ use Rattle.schema_trees.specs.Schema.{SchemaOf, leaf, object, array, one_of, all
 use Rattle.schema_core.specs.declared.alternatives.Alternatives.{Alternatives}
 use Rattle.schema_core.specs.declared.alternatives.Alternatives.TheVariants.{OneOf, AnyOf}
 use Rattle.schema_core.specs.Form.{word_text, array_word, alternatives_word, form_by, schema_forms}
-use Rattle.schema_core.specs.Document.{Entry, document_by}
-use Rattle.schema_core.specs.Entries.{entry_names, find}
+use Rattle.schema_core.specs.Document.{Entry, entry_form, document_by}
+use Rattle.schema_core.specs.Entries.{entry_names, find, IsInOrder}
 
 -- the value is of the word's kind
 abbrev pub word_accepts : TypeWord → Json → Bool
@@ -140,3 +140,7 @@ OneOfHolds = (by word : Alternatives) (annotations : Annotations) (ss : SchemasO
 -- The document has under each name the form of the entry of that name.
 abbrev pub DocumentsHold : Type 0
 DocumentsHold = (by : Alternatives) (es : List Entry) → IsDistinct (entry_names es) → (name : List ℕ) → component_schema (document_by by es) name ≡ option_map (form_by by) (find name es)
+
+-- The law: the map of a document's schemas has the forms of the entries, in their order, where names are in byte order.
+abbrev pub DocumentsAreInOrder : Type 0
+DocumentsAreInOrder = (by : Alternatives) (es : List Entry) → IsInOrder (entry_names es) → entries (put_all (map_list (entry_form by) es) no_members) ≡ map_list (entry_form by) es

@@ -1,7 +1,11 @@
 -- The text of a JSON value stands for that value alone.
 use Rattle.std.specs.Prelude.{◌≡◌, ◌≤◌, List, Some, map as map_list}
+use Rattle.json.specs.Lex.{tokens}
+use Rattle.json.specs.Print.{print}
 use Rattle.serde_json.specs.Data.{depth}
 use Rattle.serde_json.specs.Read.{read, max_depth}
+use Rattle.serde_json.specs.Written.{compact_text}
+use Rattle.serde_json.specs.Written as written
 use Rattle.acceptance.specs.Json.{Json}
 use Rattle.acceptance.specs.Data.{data_of}
 use Rattle.schema_trees.specs.Held.{IsInOrder, HasShortNumbers, HasNamesInOrder}
@@ -21,3 +25,13 @@ OneDocument = (by : Alternatives) (es fs : List Entry) → IsInOrder (entry_name
 -- The text reads as the value, where it nests no deeper than is read.
 abbrev pub TextsReadBack : Type 0
 TextsReadBack = (x : Json) → HasShortNumbers x → HasNamesInOrder x → depth (data_of x) ≤ max_depth → read (text_of x) ≡ Some (data_of x)
+
+-- The compact text of the value has its items and members in order, with no space, and reads as the value, where this nests no deeper than is read.
+pub record IsCompact (x : Json) : Type 0 where
+  pub order : written.IsInOrder (compact_text (data_of x)) (data_of x)
+  pub printed : compact_text (data_of x) ≡ print (tokens (compact_text (data_of x)))
+  pub reads : depth (data_of x) ≤ max_depth → read (compact_text (data_of x)) ≡ Some (data_of x)
+
+-- The compact text of a value is just that, however deep it nests.
+abbrev pub TextsAreCompact : Type 0
+TextsAreCompact = (x : Json) → HasShortNumbers x → HasNamesInOrder x → IsCompact x

@@ -1,5 +1,5 @@
 -- The text of an object's members, one written after another.
-use Rattle.std.specs.Prelude.{◌≡◌, ◌≢◌, ◌≤◌, ℕ, suc, Bool, true, false, List, [], ◌∷◌, ◌++◌, Option, Some, None, option_map, IfSome, codes}
+use Rattle.std.specs.Prelude.{◌≡◌, ◌≢◌, ◌≤◌, ℕ, suc, Bool, true, false, List, [], ◌∷◌, ◌++◌, Option, Some, None, option_map, IfSome, codes, string_bytes}
 use Rattle.std.specs.BTreeMap.{insert_entry}
 use Rattle.std.specs.Cmp.Lexicographic.{slice_cmp}
 use Rattle.std.specs.List.{AllByRecursion}
@@ -11,7 +11,8 @@ use Rattle.acceptance.specs.Data.{data_of, items_data}
 use Rattle.schema_trees.specs.Held.{IsHeld}
 use Rattle.schema_trees.specs.declared.annotations.AnnotationKeywords.{AnnotationKeywords as Annotations}
 use Rattle.schema_core.specs.declared.alternatives.Alternatives.{Alternatives}
-use Rattle.schema_core.specs.Document.{Entry, entry_text, entries_text}
+use Rattle.schema_core.specs.Document.{Entry, entries_text}
+use Rattle.schema_core.specs.declared.document_text.DocumentText.{DocumentText}
 use Rattle.schema_core.specs.Form.{form_by, values_form}
 
 -- the byte stands in a JSON string as it is: it is no quote, no backslash and no control character
@@ -28,13 +29,16 @@ pub record WritesItems (xs : Items) (old new : List ℕ) : Type 0 where
   pub text_is : new ++ 93 ∷ [] ≡ old ++ items_text false (items_data xs)
   pub held : IsHeld (list xs)
 
--- the same of an entry, as a member of an object, and of entries with commas between
-pub record WritesEntry (by : Alternatives) (e : Entry) (old new : List ℕ) : Type 0 where
-  pub text_is : new ≡ old ++ entry_text by e
-  pub held : IsHeld (form_by by e.1)
+-- whether something stands before what follows
+abbrev pub has_some : List Entry → Bool
+has_some [] = false
+has_some (e ∷ es) = true
 
-pub record WritesEntries (by : Alternatives) (es : List Entry) (old new : List ℕ) : Type 0 where
-  pub text_is : new ≡ old ++ entries_text by false es
+-- the text of a document, as far as it is written, is that of these entries, and `serde_json` can hold each schema
+pub record HasEntries (by : Alternatives) (es : List Entry) (d : DocumentText) : Type 0 where
+  pub text_is : string_bytes d.text ≡ codes "{\"components\":{\"schemas\":{" ++ entries_text by false es
+  pub later_is : d.later ≡ has_some es
+  pub by_is : d.by ≡ by
   pub held : AllByRecursion (λ e. IsHeld (form_by by e.1)) es
 
 -- a key in quotes, and its colon

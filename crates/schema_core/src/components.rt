@@ -13,14 +13,13 @@ ghost use Rattle.schema_trees.specs.Schema.{schema_view};
 ghost use Rattle.schema_core.specs.Document.{document, document_by, entry_form, text_of};
 ghost use Rattle.schema_core.specs.Entries.{entries_of, entry_names, find, with_entry};
 ghost use Rattle.schema_core.specs.Lent.{lent_entry};
-ghost use Rattle.schema_core.specs.Writes.{WritesEntry, WritesEntries};
 
 use crate::alternatives::Alternatives;
 use crate::components_iter::ComponentsIter;
+use crate::document_text::DocumentText;
 use crate::form::schema_value;
 use crate::members::{object_of, put};
-use crate::pushes::{push_comma, push_words};
-use crate::schema_text::push_schema;
+use crate::write_leaf::References;
 use schema_trees::Schema;
 use serde_json::{Map, Value};
 use std::alloc::{AllocError, Global};
@@ -192,16 +191,11 @@ impl Components {
         ensures text { IfOk result (λ text. text ≡ text_of (document_by by self.now)) }
         ensures held { IfOk result (λ _. IsHeld (document_by by self.now)) }
     {
-        let mut text = String::from_str(alloc, "{\"components\":{\"schemas\":{")?;
-        push_entries(
-            alloc,
-            &mut text,
-            self.names.as_slice(),
-            self.schemas.as_slice(),
-            by,
-        )?;
-        text.push_str("}}}\n")?;
-        Ok(Text::from(text))
+        let mut text = DocumentText::new(alloc, by)?;
+        for (name, schema) in self.iter() {
+            text.push(alloc, name, schema, &References)?;
+        }
+        text.finish()
     }
 }
 
@@ -222,44 +216,6 @@ impl fmt::Debug for Components {
     fn fmt<W: fmt::Write>(&self, f: &mut fmt::Formatter<W>) -> fmt::Result {
         f.debug_map().entries(self.iter()).finish()
     }
-}
-
-/// Adds the name and the form of the schema, as a member of an object. The form, here and below, has alternatives under the
-/// keyword `by`.
-fn push_entry(
-    alloc: Global,
-    text: &mut String,
-    name: &str,
-    schema: &Schema,
-    by: Alternatives,
-) -> Result<(), AllocError>
-    ensures { OnOk result (WritesEntry by (name.now, schema_view schema.now)
-        (string_bytes text.old) (string_bytes text.new)) }
-{
-    push_words(alloc, text, name)?;
-    text.push_str(":")?;
-    push_schema(alloc, text, schema, by)?;
-    Ok(())
-}
-
-/// Adds the schemas under the names at their places, with commas between.
-fn push_entries(
-    alloc: Global,
-    text: &mut String,
-    names: &[Text],
-    schemas: &[Schema],
-    by: Alternatives,
-) -> Result<(), AllocError>
-    requires { length names.now ≡ length schemas.now }
-    ensures { OnOk result
-        (WritesEntries by (entries_of names.now (map_list schema_view schemas.now))
-        (string_bytes text.old) (string_bytes text.new)) }
-{
-    for i in 0..names.len() {
-        push_comma(text, i > 0)?;
-        push_entry(alloc, text, names[i].as_str(), &schemas[i], by)?;
-    }
-    Ok(())
 }
 
 /// The forms of the schemas under the names at their places.

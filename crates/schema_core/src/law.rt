@@ -1,8 +1,8 @@
 //! What rests on the definitions alone: laws that callers rely on, as contracts of functions that do nothing. They hold of
 //! documents with alternatives under either keyword.
 
-ghost use Rattle.schema_core.specs.Meaning.{FormsAccept, FormsRefer, OneOfHolds, DocumentsHold};
-ghost use Rattle.schema_core.specs.OneText.{OneText, OneDocument, TextsReadBack};
+ghost use Rattle.schema_core.specs.Meaning.{DocumentsAreInOrder, DocumentsHold, FormsAccept, FormsRefer, OneOfHolds};
+ghost use Rattle.schema_core.specs.OneText.{OneText, OneDocument, TextsAreCompact, TextsReadBack};
 
 /// The JSON of a schema accepts a value exactly if the tree does.
 pub fn forms_accept()
@@ -24,6 +24,11 @@ pub fn documents_hold()
     ensures { DocumentsHold }
 {}
 
+/// The schemas of a document stand in the order of its entries, where names are in byte order.
+pub fn documents_are_in_order()
+    ensures { DocumentsAreInOrder }
+{}
+
 /// Two JSON values of one text are equal, however deep they nest, where their numbers fit 64 bits.
 pub fn texts_are_one()
     ensures { OneText }
@@ -38,4 +43,9 @@ pub fn documents_are_one()
 /// The text of a value that `serde_json` can hold reads as that value, where it nests no deeper than is read.
 pub fn texts_read_back()
     ensures { TextsReadBack }
+{}
+
+/// The text of a value that `serde_json` can hold is JSON of that value with no space, however deep it nests.
+pub fn texts_are_compact()
+    ensures { TextsAreCompact }
 {}

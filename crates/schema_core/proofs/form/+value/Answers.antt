@@ -1,5 +1,6 @@
 use Rattle.std.proofs.Common.{◌≡◌, ◌<◌, length, ap, sym, ◌∙◌, take, map, option_map, arith, Some}
 use Rattle.std.proofs.lemmas.Grind.{common_steps}
+use Rattle.std.proofs.lemmas.List.{length-map}
 use Rattle.serde_json.specs.Data.{object as data_object, array as data_array}
 use Rattle.serde_json.specs.View.{view, members_view, items_of}
 use Rattle.acceptance.specs.Json.{put_all, no_members}
@@ -8,7 +9,8 @@ use Rattle.schema_trees.specs.Schema.{named_views, tree_views, additional_view, 
 use Rattle.schema_core.specs.Form.{form_by, type_form, required_form, entries_form, values_form, schemas_form, array_word, part_form, schema_forms, property_forms}
 use Rattle.serde_json.proofs.Views.{view-Array}
 use Rattle.schema_core.proofs.Puts.{object_is}
-use Rattle.schema_core.proofs.Values.{property_form, properties_are, put_step, schema_data, schemas_items, object_view-is, array_view-is, some_schemas, some_entries, length-properties}
+use Rattle.schema_core.proofs.Parts.{object_view-is, array_view-is, count-views, names-views, some_schemas, form_count}
+use Rattle.schema_core.proofs.Values.{property_form, properties_are, put_step, schema_data, schemas_items, some_entries}
 use Rattle.schema_core.proofs.form.+value.Goals as goal
 
 pub object_value-returns : goal.object_value-returns
@@ -27,7 +29,7 @@ object_value-returns t c =
     let e7 = c.in_ok-put_given-6.ensures (required_form o.required) needed _ e6 in
     let e8 = c.in_ok-put_bounds.ensures _ e7 in
     let e9 = c.in_ok-put_annotations.ensures _ e8 in
-    object_is c.put_annotations.new.members ∙ ap data_object e9 ∙ ap (λ s. data_of (form_by c.args.by s)) (sym (object_view-is o))
+    object_is c.put_annotations.new.members ∙ ap data_object e9 ∙ ap (λ s. data_of (form_by c.args.by s)) (sym (object_view-is (λ l. l) o))
 
 pub array_value-returns : goal.array_value-returns
 array_value-returns t c =
@@ -43,20 +45,20 @@ array_value-returns t c =
     let e5 = c.in_ok-put_given-2.ensures (schemas_form schemas) front _ e4 in
     let e6 = c.in_ok-put_given-3.ensures (part_form c.args.by (array_items_view (λ l. l) a.items)) c.in_ok-rest.ensures _ e5 in
     let e7 = c.in_ok-put_annotations.ensures _ e6 in
-    object_is c.put_annotations.new.members ∙ ap data_object e7 ∙ ap (λ s. data_of (form_by c.args.by s)) (sym (array_view-is a))
+    object_is c.put_annotations.new.members ∙ ap data_object e7 ∙ ap (λ s. data_of (form_by c.args.by s)) (sym (array_view-is (λ l. l) a))
 
 pub front_value-returns : goal.front_value-returns
 front_value-returns t c =
     let ss = c.args.schemas.now in
     let some : 0 < length ss = grind arith in
-    ap Some (view-Array c.in_ok-schema_values.field-0 ∙ ap data_array c.in_ok-schema_values.ensures) ∙ ap (option_map data_of) (sym (some_schemas c.args.by ss some))
+    ap Some (view-Array c.in_ok-schema_values.field-0 ∙ ap data_array c.in_ok-schema_values.ensures) ∙ ap (option_map data_of) (sym (some_schemas c.args.by (tree_views (λ l. l) ss) (omega (arith, count-views (λ l. l) ss, some))))
 
 pub properties_value-returns : goal.properties_value-returns
 properties_value-returns t c =
     let ps = c.args.properties.now in
     let es = property_forms c.args.by (named_views (λ l. l) ps) in
     let some : 0 < length ps = grind arith in
-    ap Some (object_is c.in_ok-property_values.field-0 ∙ ap data_object c.in_ok-property_values.ensures) ∙ ap (option_map data_of) (sym (some_entries es (length ps) (length-properties c.args.by ps) some))
+    ap Some (object_is c.in_ok-property_values.field-0 ∙ ap data_object c.in_ok-property_values.ensures) ∙ ap (option_map data_of) (sym (some_entries es (length ps) (sym (length-map ps (λ p. p.0)) ∙ ap length (sym (names-views (λ l. l) ps)) ∙ form_count c.args.by (named_views (λ l. l) ps)) some))
 
 pub property_values-loop-property-preserved : goal.property_values-loop-property-preserved
 property_values-loop-property-preserved t c =
