@@ -29,11 +29,11 @@ same_text k = (bytes_eq-Decides k k).1 refl
 
 -- ---- one entry more
 
-none_parts : {A : Type 0} (b : Bool) (x : A) (p : Option A) → cond b (Some x) p ≡ None → (b ≡ false) × (p ≡ None)
+pub none_parts : {A : Type 0} (b : Bool) (x : A) (p : Option A) → cond b (Some x) p ≡ None → (b ≡ false) × (p ≡ None)
 none_parts true x p e = absurd (none-some x (sym e))
 none_parts false x p e = (refl, e)
 
-equals : (n k : List ℕ) → slice_cmp nat_cmp n k ≡ Equal → bytes_eq k n ≡ true
+pub equals : (n k : List ℕ) → slice_cmp nat_cmp n k ≡ Equal → bytes_eq k n ≡ true
 equals n k e = (bytes_eq-Decides k n).1 (sym ((bytes_eq-Decides n k).0 (sym (is_eq-slice_cmp n k) ∙ ap is_eq e)))
 
 swapped : {A : Type 0} (a b : Bool) (x y : A) (p : Option A) → (a ≡ true → b ≡ true → ⊥) → cond a (Some x) (cond b (Some y) p) ≡ cond b (Some y) (cond a (Some x) p)
@@ -123,7 +123,7 @@ module _ (name : ℕ → List ℕ) (schema : ℕ → SchemaOf RefLeaf) where
   at-end m (k ∷ ns) = inr (at-end m ns)
 
   -- the components after the schema of a number was put in under its name
-  entered : (m : ℕ) (ns : List ℕ) (added : Bool) (components : List Entry) → (IsTrue added ↔ (find (name m) components ≡ None)) → AreKnown ns components →
+  pub entered : (m : ℕ) (ns : List ℕ) (added : Bool) (components : List Entry) → (IsTrue added ↔ (find (name m) components ≡ None)) → AreKnown ns components →
       AreKnown (ns ++ m ∷ []) (cond added (with_entry (name m) (schema m) components) components)
   entered m ns added components new h = record { known = known added new; all = all; order = order added new }
     where

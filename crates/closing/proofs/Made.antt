@@ -12,7 +12,7 @@ use Rattle.open_types.specs.Laws.{SameIsEqual, SubstitutedNone}
 use Rattle.shapes.specs.Declarations.{DeclarationOf}
 use Rattle.shapes.specs.InstanceShape.{IsReachable}
 use Rattle.terms.specs.InstanceTerms.{instance_term}
-use Rattle.inlining.specs.Inlining.{targets_of, IsAmong, AreOnce}
+use Rattle.inlining.specs.Inlining.{targets_of, IsAmong, AreBehind, AreOnce}
 use Rattle.inlining.specs.Marks.{mark}
 use Rattle.inlining.proofs.Laws.{among-left, among-right, among_cases, among_at}
 use Rattle.instances.specs.Lists.{IsOneOf, number_in, instance_at, AreInstances}
@@ -74,6 +74,12 @@ not_next ds i n h none =
     let p = get_or ds i 0 in
     let more : take (i + 1) ds ≡ take i ds ++ p ∷ [] = take_more ds i 0 h in
     (λ same. none (subst (IsAmong n) (sym more) (among-right n (take i ds) (p ∷ []) (inl same))), λ among. none (subst (IsAmong n) (sym more) (among-left n (take i ds) (p ∷ []) among)))
+
+-- each of an order is an instance
+pub order-within : (g : List (List ℕ)) (seen ds : List ℕ) → AreBehind g seen ds → (n : ℕ) → IsAmong n ds → n < length g
+order-within g seen [] behind n none = absurd none
+order-within g seen (d ∷ ds) behind n (inl e) = subst (λ m. m < length g) (sym e) behind.0
+order-within g seen (d ∷ ds) behind n (inr h) = order-within g (d ∷ seen) ds behind.2 n h
 
 -- ---- marks and what is made
 

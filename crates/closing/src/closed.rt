@@ -76,7 +76,7 @@ fn made_at(
 }
 
 /// A reference with the annotations to the component of the instance.
-fn reference_to(
+pub(crate) fn reference_to(
     alloc: Global,
     declared: &[Declaration],
     ty: &OpenType,

@@ -4,12 +4,12 @@ ghost use Rattle.std.specs.Prelude.{◌≡◌, ◌<◌, ℕ, length, map, IfOk, 
 ghost use Rattle.component.specs.Leaves.{term_view};
 ghost use Rattle.inlining.specs.Inlining.{AreOnce, IsAmong, IsOrder};
 ghost use Rattle.inlining.specs.Marks.{mark};
-ghost use Rattle.instances.specs.Lists.{AreInstances, instance_at};
+ghost use Rattle.instances.specs.Lists.{AreInstances};
 ghost use Rattle.instances.specs.Names.{NamesDiffer, instance_names};
 ghost use Rattle.shapes.specs.Views.{declaration_view};
 ghost use Rattle.closing.specs.Described.{AreShallow};
 ghost use Rattle.closing.specs.Links.{inlining_of};
-ghost use Rattle.closing.specs.Made.{AreAlong, AreTerms, AreEntriesOf};
+ghost use Rattle.closing.specs.Made.{AreAlong, AreTerms, entries_at};
 
 use crate::closed::{closed, in_its_place};
 use component::Term;
@@ -46,8 +46,8 @@ pub fn components_of(
     requires once { AreOnce shown.now.components }
     requires within { (n : ℕ) → IsAmong n shown.now.components → n < length reach.now }
     requires shown { (n : ℕ) → IsAmong n shown.now.components → IsTrue (mark shown.now.marks n) }
-    ensures { IfOk result (AreEntriesOf (map declaration_view declared.now)
-        (map (instance_at reach.now) shown.now.components)) }
+    ensures { IfOk result (λ components. components
+        ≡ entries_at (map declaration_view declared.now) reach.now shown.now.components) }
 {
     let marks = shown.marks.as_slice();
     let mut made = closed(alloc, declared, reach, terms, order, marks)?;

@@ -1,4 +1,5 @@
 pub mod Bounded
+pub mod Composed
 pub mod Counts
 pub mod Declared
 pub mod NamedAlone

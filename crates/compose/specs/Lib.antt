@@ -1,4 +1,5 @@
 pub mod Bounds
+pub mod Composed
 pub mod Faults
 pub mod Sets
 pub mod Settled

@@ -9,15 +9,16 @@ ghost use Rattle.open_types.specs.Open.{open_view};
 ghost use Rattle.syntax.specs.Items.{declarations_view};
 ghost use Rattle.syntax.specs.Named.{AreNamed};
 ghost use Rattle.shapes.specs.Views.{declaration_view};
-ghost use Rattle.closing.specs.Described.{AreComponents, Describes};
+ghost use Rattle.closing.specs.Described.{Describes};
+ghost use Rattle.closing.specs.Made.{entries_at};
 ghost use Rattle.compose.specs.Bounds.{collects_all};
 ghost use Rattle.compose.specs.Faults.{AreDerived, AreRefused, IsDerived, IsRefused};
 ghost use Rattle.compose.specs.Types.{AreTypesOf};
 ghost use Rattle.compose.specs.Within.{AreWithin};
 
-use crate::sets::terms;
+use crate::settled::{bounded_of, bounded_of_source};
 use crate::types::types_of;
-use crate::within::{Bounded, within_bounds};
+use crate::within::Bounded;
 use closing::components_of;
 use configuration::Config;
 use diag::DeriveError;
@@ -25,7 +26,7 @@ use open_types::ClosedType;
 use schema_core::Components;
 use shapes::Declaration;
 use std::alloc::{AllocError, Global};
-use syntax::{Declarations, parse_declarations};
+use syntax::Declarations;
 use texts::List;
 
 /// What is derived of a source.
@@ -38,14 +39,14 @@ pub struct Derived {
 }
 
 /// The components of instances that are within their bounds, and their types.
-fn components_within(
+pub(crate) fn derived_within(
     alloc: Global,
     resolved: &[Declaration],
     bounded: Bounded,
 ) -> Result<Derived, AllocError>
     requires { AreWithin (map declaration_view resolved.now) bounded }
-    ensures components { IfOk result (λ d. AreComponents
-        (map declaration_view resolved.now) bounded.all d.components) }
+    ensures components { IfOk result (λ d. d.components ≡ entries_at
+        (map declaration_view resolved.now) bounded.reach bounded.shown.components) }
     ensures types { IfOk result (λ d. AreTypesOf (map declaration_view resolved.now) bounded.all
         (entry_names d.components) (map open_view d.types)) }
 {
@@ -58,6 +59,7 @@ fn components_within(
         ..
     } = bounded;
     closing::components_are_reachable();
+    closing::entries_are();
     let order = order.as_slice();
     let components = components_of(
         alloc,
@@ -95,13 +97,10 @@ pub fn derive_declarations(
         (map open_view d.types)) }
 {
     closing::components_describe();
+    closing::entries_are();
     derive_decl::resolved_are_apart();
-    let terms = terms(alloc, &declarations, config)?;
-    // The declarations are dropped before schemas are made.
-    drop(declarations);
-    let resolved = terms.resolved.as_slice();
-    let bounded = within_bounds(alloc, terms.idents.as_slice(), resolved, config)?;
-    Ok(components_within(alloc, resolved, bounded)?)
+    let (resolved, bounded) = bounded_of(alloc, declarations, config)?;
+    Ok(derived_within(alloc, resolved.as_slice(), bounded)?)
 }
 
 /// The components of the source's declarations.
@@ -123,7 +122,9 @@ pub fn derive_components(
         × AreTypesOf made.derived.resolved (collects_all config.now.collect)
         (entry_names d.components) (map open_view d.types)) }
 {
-    let declarations = parse_declarations(alloc, source)?;
-    syntax::read_fields_are_named();
-    Ok(derive_declarations(alloc, declarations, config)?)
+    closing::components_describe();
+    closing::entries_are();
+    derive_decl::resolved_are_apart();
+    let (resolved, bounded) = bounded_of_source(alloc, source, config)?;
+    Ok(derived_within(alloc, resolved.as_slice(), bounded)?)
 }

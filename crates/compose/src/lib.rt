@@ -4,11 +4,13 @@
 #![tactic(auto)]
 
 mod bounds;
+mod composition;
 mod derive;
 mod law;
 mod names;
 mod refusals;
 mod sets;
+mod settled;
 mod types;
 mod unplain;
 mod within;
@@ -17,6 +19,7 @@ pub use closing::{
     components_describe, components_lead, places_agree, places_describe, references_accept,
     schemas_describe,
 };
+pub use composition::{Composition, composition_of, composition_of_source};
 pub use derive::{Derived, derive_components, derive_declarations};
 pub use law::{bounded_are_not_refused, components_are_one};
 pub use names::component_name;

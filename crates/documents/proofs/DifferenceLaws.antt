@@ -33,7 +33,7 @@ AreOrdered es = IsStrictlySortedBy string_cmp (keys_of es)
 abbrev pub IsBefore : List ℕ → List Entry → Type 0
 IsBefore name es = AllByRecursion (λ k. slice_cmp nat_cmp name (string_bytes k) ≡ Less) (keys_of es)
 
-earlier_still : (q name : List ℕ) (es : List Entry) → slice_cmp nat_cmp q name ≡ Less → IsBefore name es → IsBefore q es
+pub earlier_still : (q name : List ℕ) (es : List Entry) → slice_cmp nat_cmp q name ≡ Less → IsBefore name es → IsBefore q es
 earlier_still q name [] less h = tt
 earlier_still q name (e ∷ es) less h = (nat_list_cmp_total.trans q name (string_bytes e.0) less h.0, earlier_still q name es less h.1)
 
@@ -45,20 +45,20 @@ pub behind : (e : Entry) (es : List Entry) → AreOrdered (e ∷ es) → AreOrde
 unfolding IsStrictlySortedBy
 behind e es ordered = ordered.1
 
-nothing_at : (q : List ℕ) (es : List Entry) → IsBefore q es → get_member q (members_view es) ≡ None
+pub nothing_at : (q : List ℕ) (es : List Entry) → IsBefore q es → get_member q (members_view es) ≡ None
 nothing_at q [] h = refl
 nothing_at q (e ∷ es) h = rw h.0 (nothing_at q es h.1)
 
-nothing_later : (e : Entry) (es : List Entry) → AreOrdered (e ∷ es) → get_member (string_bytes e.0) (members_view es) ≡ None
+pub nothing_later : (e : Entry) (es : List Entry) → AreOrdered (e ∷ es) → get_member (string_bytes e.0) (members_view es) ≡ None
 unfolding IsStrictlySortedBy
 nothing_later e es ordered = nothing_at (string_bytes e.0) es ordered.0
 
-here : (e : Entry) (es : List Entry) → get_member (string_bytes e.0) (members_view (e ∷ es)) ≡ Some (view e.1)
+pub here : (e : Entry) (es : List Entry) → get_member (string_bytes e.0) (members_view (e ∷ es)) ≡ Some (view e.1)
 here e es = rw (itself (string_bytes e.0)) refl
 
 -- ---- a difference at the first of the entries
 
-same_nothing : (o p : Option Data) → o ≡ None → p ≡ None → IsSame o p
+pub same_nothing : (o p : Option Data) → o ≡ None → p ≡ None → IsSame o p
 same_nothing None None h k = tt
 same_nothing None (Some y) h k = cc
 same_nothing (Some x) p h k = cc
@@ -82,7 +82,7 @@ is_missing f fs es ordered before =
       earlier_same name es (f ∷ fs) (λ q less. earlier_still q name es less before) (λ q less. before_first q f fs ordered less),
     )
 
-another_at : (o p : Option Data) (x y : Data) → o ≡ Some x → p ≡ Some y → AreOthers x y → IsAnother o p
+pub another_at : (o p : Option Data) (x y : Data) → o ≡ Some x → p ≡ Some y → AreOthers x y → IsAnother o p
 another_at o p x y h k w = subst (λ r. IsAnother r p) (sym h) (subst (λ r. IsAnother (Some x) r) (sym k) w)
 
 pub is_another : (e f : Entry) (es fs : List Entry) → AreOrdered (e ∷ es) → AreOrdered (f ∷ fs) → string_bytes e.0 ≡ string_bytes f.0 → AreOthers (view e.1) (view f.1)
@@ -119,7 +119,7 @@ first_more Fact name k x y ms ns never none none_too alike h = (by (slice_cmp na
         absurd (never (subst (λ o. Fact None o) (ap (λ n. get_member n ns) at ∙ none_too) nothing))
     by Greater is = h.0
 
-finds_more : (k : List ℕ) (x y : Data) (ms ns : Members) → get_member k ms ≡ None → get_member k ns ≡ None → AreAlike x y → (found : Option Difference) → Finds ms ns found → Finds (member k x ms) (member k y ns) found
+pub finds_more : (k : List ℕ) (x y : Data) (ms ns : Members) → get_member k ms ≡ None → get_member k ns ≡ None → AreAlike x y → (found : Option Difference) → Finds ms ns found → Finds (member k x ms) (member k y ns) found
 finds_more k x y ms ns none none_too alike None h = λ q. same_more q k x y ms ns alike (h q)
 finds_more k x y ms ns none none_too alike (Some (Missing name)) h = first_more IsMissing name k x y ms ns (λ w. true≢false (sym w.1)) none none_too alike h
 finds_more k x y ms ns none none_too alike (Some (Surplus name)) h = first_more IsSurplus name k x y ms ns (λ w. true≢false (sym w.0)) none none_too alike h

@@ -110,7 +110,7 @@ components_of o new = put (codes "schemas") (object (with_each o.schemas new)) o
 components_there : (o : OpenApi) (new : Members) → get (codes "components") (with_schemas o new) ≡ Some (object (components_of o new))
 components_there o new = get_member-put (codes "components") (object (components_of o new)) o.api
 
-schemas_there : (o : OpenApi) (new : Members) → schemas_in (with_schemas o new) ≡ with_each o.schemas new
+pub schemas_there : (o : OpenApi) (new : Members) → schemas_in (with_schemas o new) ≡ with_each o.schemas new
 schemas_there o new =
     ap (λ c. unwrap_or (option_and_then as_object (option_and_then (get (codes "schemas")) c)) no_members) (components_there o new)
     ∙ ap (λ s. unwrap_or (option_and_then as_object s) no_members) (get_member-put (codes "schemas") (object (with_each o.schemas new)) o.components)

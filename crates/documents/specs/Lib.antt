@@ -1,4 +1,6 @@
 pub mod Components
 pub mod Difference
 pub mod Merge
+pub mod MergeTexts
 pub mod Text
+pub mod Written

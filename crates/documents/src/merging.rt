@@ -40,7 +40,7 @@ fn replace(
 
 /// Takes the members of the object under the name, which are none where nothing stands there, and leaves null in its place.
 /// Where something else stands there, there are none to take.
-fn take_members(
+pub(crate) fn take_members(
     alloc: Global,
     members: &mut Map<String, Value>,
     name: &str,

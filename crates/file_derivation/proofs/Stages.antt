@@ -13,9 +13,7 @@ use Rattle.telling.specs.declared.told.Told.{Told}
 use Rattle.gathering.specs.Files.{FileOf}
 use Rattle.gathering.specs.Reading.{AreRead, nothing_read, is_read, is_refused}
 use Rattle.selecting.specs.declared.selection.Selection.{Selection}
-use Rattle.file_derivation.specs.Outcomes.{names_of, AreTaken, AreNotKnown, AreDerivedFrom, AreTold, of_only, of_exclude, IsOutcome, IfDerived, IfRefused, IsDerivation, IfToldIs}
-use Rattle.file_derivation.specs.declared.derive.Outcome.{Outcome}
-use Rattle.file_derivation.specs.declared.derive.Outcome.TheVariants as outcomes
+use Rattle.file_derivation.specs.Outcomes.{names_of, AreTaken, AreNotKnown, AreDerivedFrom, AreTold, of_only, of_exclude, IfToldIs}
 use Rattle.file_derivation.specs.declared.derive.Refusal.{Refusal}
 use Rattle.file_derivation.specs.declared.derive.Refusal.TheVariants as refusals
 
@@ -55,18 +53,6 @@ some_told false h e is = let found = h.1 is in cc
 pub none_told : {faults : List Told} (b : Bool) → IsTrue b ↔ (faults ≡ []) → b ≡ true → faults ≡ []
 none_told true h e = h.0 refl
 none_told false h e = cc
-
-pub derived_of : (s : Selection) (c : Configuration) (files : List FileOf) (outcome : Outcome) → IsOutcome s c files outcome → IfDerived (AreDerivedFrom s c files) outcome
-derived_of s c files (outcomes.Derived d warnings) is = is
-derived_of s c files (outcomes.Refused told) is = tt
-
-pub refused_of : (s : Selection) (c : Configuration) (files : List FileOf) (outcome : Outcome) → IsOutcome s c files outcome → IfRefused (AreTold s c files) outcome
-refused_of s c files (outcomes.Derived d warnings) is = tt
-refused_of s c files (outcomes.Refused told) is = is
-
-pub derivation_of : (s : Selection) (c : Configuration) (files : List FileOf) (outcome : Outcome) → IsOutcome s c files outcome → ((told : List Told) → AreTold s c files told → ⊥) → IsDerivation outcome
-derivation_of s c files (outcomes.Derived d warnings) is h = tt
-derivation_of s c files (outcomes.Refused told) is h = h told is
 
 -- as many declarations as those that they are read from
 pub as_many : {names : List (List ℕ)} {items from : List FileItem} {ds : List DeclaredItem} {faults : List Told} → AreRead names items from ds faults → length from ≡ length ds

@@ -1,7 +1,6 @@
 -- Impls by hand one by one, and lists that are empty.
-use Rattle.std.proofs.Common.{◌≡◌, ◌∙◌, ◌↔◌, ℕ, List, [], ◌∷◌, ◌++◌, length, take, drop, map, Bool, true, false, not, cond, IsTrue, Some, None, ◌==◌, refl, ap, ap₂, sym, arith, ◌<◌, ◌≤◌, ◌-◌}
+use Rattle.std.proofs.Common.{◌≡◌, ◌∙◌, ◌↔◌, ℕ, List, [], ◌∷◌, ◌++◌, length, take, drop, map, Bool, true, false, not, cond, IsTrue, Some, None, refl, ap, ap₂, sym, arith, ◌<◌, ◌≤◌, ◌-◌}
 use Rattle.std.specs.Prelude.{get_or}
-use Rattle.std.proofs.lemmas.Grind.{common_steps}
 use Rattle.std.proofs.lemmas.List.{take_all}
 use Rattle.std.specs.Prelude.{filter, is_some}
 use Rattle.syntax.specs.Items.{DeclaredItem}
@@ -36,13 +35,6 @@ some_where false (x ∷ xs) is = refl
 pub some_mapped : {A B : Type 0} (f : A → B) (xs : List A) → has_some xs ≡ has_some (map f xs)
 some_mapped f [] = refl
 some_mapped f (x ∷ xs) = refl
-
-pub some_counted : {A B : Type 0} (f : A → B) (xs : List A) (b : Bool) → b ≡ (length (map f xs) == 0) → not b ≡ has_some xs
-some_counted f [] b e = ap not e
-some_counted f (x ∷ xs) b e = ap not (e ∙ no)
-  where
-    no : (length (map f (x ∷ xs)) == 0) ≡ false
-    no = grind (arith, common_steps)
 
 pub split_first : {A : Type 0} (xs : List A) (x : A) → 1 ≤ length xs → x ≡ get_or xs 0 x → xs ≡ x ∷ take (length xs - 1) (drop 1 xs)
 split_first [] x l e = absurd (omega arith)

@@ -158,10 +158,6 @@ pub record AreSound (s : Selection) (c : Configuration) (files : List FileOf) : 
 abbrev pub SoundAreNotTold : Type 0
 SoundAreNotTold = (s : Selection) (c : Configuration) (files : List FileOf) (told : List Told) → AreSound s c files → ¬ (AreTold s c files told)
 
-abbrev pub IsOutcome : Selection → Configuration → List FileOf → Outcome → Type 0
-IsOutcome s c files (outcomes.Derived d warnings) = (all : List Told) × AreDerivedFrom s c files d.components all × AreFirst all warnings
-IsOutcome s c files (outcomes.Refused told) = AreTold s c files told
-
 -- ---- what functions answer on the way
 
 -- what is told is this, unless memory ran out

@@ -7,12 +7,12 @@ ghost use Rattle.selecting.specs.Selected.{AreKnown};
 ghost use Rattle.selecting.specs.Standing.{unknown_only, unknown_exclude};
 ghost use Rattle.telling.specs.declared.told.Told.{Told as AnyTold};
 ghost use Rattle.file_derivation.specs.Warned.{AreFirst};
-ghost use Rattle.file_derivation.specs.Outcomes.{names_of, only_message, exclude_message, AreNotKnown, AreDerivedFrom, AreTold, IfToldIs, IsOutcome, IfDerived, IfRefused, IsDerivation, AreSound};
+ghost use Rattle.file_derivation.specs.Outcomes.{names_of, only_message, exclude_message, AreNotKnown, AreDerivedFrom, AreTold, IfToldIs, IfDerived, IfRefused, IsDerivation, AreSound};
 
 use crate::law::sound_are_not_told;
 use crate::selected::{Files, derive_selected};
 use crate::warned::Warnings;
-use compose::Derived;
+use compose::{Composition, Derived};
 use configuration::Config;
 use gathering::{FileImpl, Gathered, Source, told_plainly};
 use prepare::{FileAlias, FileItem};
@@ -28,10 +28,12 @@ pub enum Outcome {
     Refused(List<Told>),
 }
 
-/// Why nothing is derived.
+/// Why nothing is derived of files.
 #[derive(Drop)]
 pub enum Refusal {
+    /// There was not enough of it.
     Memory,
+    /// What is told of their faults.
     Told(List<Told>),
 }
 
@@ -113,11 +115,11 @@ fn derive_either(
     faults: List<Told>,
     selection: &Selection,
     mut config: Config,
-) -> Result<(Derived, Warnings), Refusal>
+) -> Result<(Composition, Warnings), Refusal>
     ensures derived { IfOk result (λ d. (files : AnyList FileOf) → names.now ≡ names_of files
         → AreGathered 0 files items.now faults → HaveAliases 0 files aliases.now
         → HaveImpls 0 files impls.now → (all : AnyList AnyTold)
-        × AreDerivedFrom selection.now config files d.0.components all × AreFirst all d.1) }
+        × AreDerivedFrom selection.now config files d.0 all × AreFirst all d.1) }
     ensures told { IfErr result (IfToldIs (λ told. (files : AnyList FileOf)
         → names.now ≡ names_of files → AreGathered 0 files items.now faults
         → HaveAliases 0 files aliases.now → AreTold selection.now config files told)) }
@@ -155,9 +157,12 @@ pub fn derive_gathered(
     gathered: Gathered,
     selection: &Selection,
     config: Config,
-) -> Result<Outcome, AllocError>
-    ensures { IfOk result (λ outcome. (files : AnyList FileOf) → Gathers files gathered
-        → IsOutcome selection.now config files outcome) }
+) -> Result<(Composition, Warnings), Refusal>
+    ensures derived { IfOk result (λ d. (files : AnyList FileOf) → Gathers files gathered
+        → (all : AnyList AnyTold) × AreDerivedFrom selection.now config files d.0 all
+        × AreFirst all d.1) }
+    ensures told { IfErr result (IfToldIs (λ told. (files : AnyList FileOf)
+        → Gathers files gathered → AreTold selection.now config files told)) }
 {
     let Gathered {
         names,
@@ -168,13 +173,9 @@ pub fn derive_gathered(
     } = gathered;
     let (names, items) = (names.as_slice(), items.as_slice());
     let (aliases, impls) = (aliases.as_slice(), impls.as_slice());
-    match derive_either(
+    derive_either(
         alloc, names, items, aliases, impls, faults, selection, config,
-    ) {
-        Ok((derived, warnings)) => Ok(Outcome::Derived(derived, warnings)),
-        Err(Refusal::Told(told)) => Ok(Outcome::Refused(told)),
-        Err(Refusal::Memory) => Err(AllocError),
-    }
+    )
 }
 
 /// What is derived of the files, as `derive_gathered` says.
@@ -196,5 +197,12 @@ pub fn derive_files(
         gathered.add(alloc, source)?;
     }
     sound_are_not_told();
-    Ok(derive_gathered(alloc, gathered, selection, config)?)
+    match derive_gathered(alloc, gathered, selection, config) {
+        Ok((composition, warnings)) => {
+            let derived = composition.derived(alloc)?;
+            Ok(Outcome::Derived(derived, warnings))
+        }
+        Err(Refusal::Told(told)) => Ok(Outcome::Refused(told)),
+        Err(Refusal::Memory) => Err(AllocError),
+    }
 }

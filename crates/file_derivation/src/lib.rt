@@ -14,6 +14,6 @@ mod selected;
 mod unplain;
 mod warned;
 
-pub use derive::{Outcome, derive_files, derive_gathered};
+pub use derive::{Outcome, Refusal, derive_files, derive_gathered};
 pub use law::sound_are_not_told;
 pub use warned::Warnings;

@@ -30,7 +30,7 @@ use crate::rounds::{leave_faults, leave_texts, read_whole};
 use crate::rows::push_rows_of;
 use crate::unplain::with_unplain;
 use crate::warned::{Warnings, warned_of};
-use compose::{Derived, derive_declarations};
+use compose::{Composition, composition_of};
 use configuration::Config;
 use diag::{DeriveError, Diagnostics};
 use gathering::{FileImpl, Reading, one_reading_of_items, read_items, told_plainly, told_unplaced};
@@ -145,17 +145,17 @@ fn told_of(
 /// What is derived, with the warnings, and the one that nothing is described, where that is so.
 fn with_warnings(
     alloc: Global,
-    derived: Derived,
+    composition: Composition,
     mut warnings: Warnings,
     is_declared: bool,
-) -> Result<(Derived, Warnings), AllocError>
-    ensures derived { IfOk result (λ d. d.0 ≡ derived) }
+) -> Result<(Composition, Warnings), AllocError>
+    ensures derived { IfOk result (λ d. d.0 ≡ composition) }
     ensures warned { IfOk result (λ d. (all : AnyList AnyTold) → AreFirst all warnings
-        → AreFirst (all ++ told_nothing is_declared (has_some derived.components)) d.1) }
+        → AreFirst (all ++ told_nothing is_declared (has_some composition)) d.1) }
 {
-    let is_described = !derived.components.names().is_empty();
+    let is_described = !composition.is_empty();
     warnings.add_nothing(alloc, is_declared, is_described)?;
-    Ok((derived, warnings))
+    Ok((composition, warnings))
 }
 
 /// What is derived of the declarations that are read, and what they are warned of behind these warnings; `plain` asks for a
@@ -167,17 +167,17 @@ fn derive_read(
     plain: bool,
     config: &Config,
     warnings: Warnings,
-) -> Result<(Derived, Warnings), DeriveError>
+) -> Result<(Composition, Warnings), DeriveError>
     requires many { length reading.from ≡ length (declarations_view reading.declarations) }
     requires named { AreNamed (declarations_view reading.declarations) }
     ensures derived { IfOk result (λ d. (made : AreDerived config.now
-        (declarations_view reading.entry.declarations) d.0.components)
+        (declarations_view reading.entry.declarations) d.0)
         × ((by : Alternatives) → Describes made.resolved (collects_all config.now.collect)
-        (document_by by d.0.components))) }
+        (document_by by d.0))) }
     ensures warned { IfOk result (λ d. (front : AnyList AnyTold) → AreFirst front warnings
         → (all : AnyList AnyTold) × AreAllWarned plain config.now files.now.names.now
         (found_by files.now.elsewhere.now) (declarations_view reading.entry.declarations)
-        (map (λ i. i.now) reading.entry.from) files.now.impls.now d.0.components
+        (map (λ i. i.now) reading.entry.from) files.now.impls.now d.0
         front all × AreFirst all d.1) }
     ensures refused { Refuses result
         (AreRefused config.now (declarations_view reading.entry.declarations)) }
@@ -192,8 +192,8 @@ fn derive_read(
     let named = with_elsewhere(alloc, names, from, &declarations, files.elsewhere, own)?;
     let warnings = with_unplain(alloc, names, from, &declarations, plain, config, named)?;
     let is_declared = !declarations.items.is_empty();
-    let derived = derive_declarations(alloc, declarations, config)?;
-    Ok(with_warnings(alloc, derived, warnings, is_declared)?)
+    let composition = composition_of(alloc, declarations, config)?;
+    Ok(with_warnings(alloc, composition, warnings, is_declared)?)
 }
 
 /// What is derived of the declarations that are selected, and what they are warned of, where nothing is left out.
@@ -204,14 +204,14 @@ fn derive_whole(
     needed: &[&FileAlias],
     selection: &Selection,
     mut config: Config,
-) -> Result<(Derived, Warnings), Refusal>
+) -> Result<(Composition, Warnings), Refusal>
     requires shallow { ¬ (AreDeep config.aliases) }
     requires few { bytes_of (map (λ i. i.now) chosen.now) ≤ most_bytes }
     ensures derived { IfOk result (λ d. selection.now.skip_refused ≡ false
         → (all : AnyList AnyTold) × DerivesSelected selection.now config files.now.names.now
         (map (λ i. i.now) chosen.now) (map (λ a. a.now) needed.now)
         (found_by files.now.elsewhere.now) files.now.impls.now []
-        d.0.components all × AreFirst all d.1) }
+        d.0 all × AreFirst all d.1) }
     ensures told { IfErr result (IfToldIs (λ told. selection.now.skip_refused ≡ false
         → RefusesSelected selection.now config files.now.names.now
         (map (λ i. i.now) chosen.now) (map (λ a. a.now) needed.now) told)) }
@@ -279,14 +279,14 @@ fn derive_left(
     needed: &[&FileAlias],
     selection: &Selection,
     mut config: Config,
-) -> Result<(Derived, Warnings), Refusal>
+) -> Result<(Composition, Warnings), Refusal>
     requires shallow { ¬ (AreDeep config.aliases) }
     requires few { bytes_of (map (λ i. i.now) chosen.now) ≤ most_bytes }
     ensures derived { IfOk result (λ d. selection.now.skip_refused ≡ true
         → (all : AnyList AnyTold) × DerivesSelected selection.now config files.now.names.now
         (map (λ i. i.now) chosen.now) (map (λ a. a.now) needed.now)
         (found_by files.now.elsewhere.now) files.now.impls.now
-        (map told_of_file files.now.faults.now) d.0.components all × AreFirst all d.1) }
+        (map told_of_file files.now.faults.now) d.0 all × AreFirst all d.1) }
     ensures told { IfErr result (IfToldIs (λ told. selection.now.skip_refused ≡ true
         → RefusesSelected selection.now config files.now.names.now
         (map (λ i. i.now) chosen.now) (map (λ a. a.now) needed.now) told)) }
@@ -318,13 +318,13 @@ pub(crate) fn derive_selected(
     selected: &Selected<'_>,
     selection: &Selection,
     config: Config,
-) -> Result<(Derived, Warnings), Refusal>
+) -> Result<(Composition, Warnings), Refusal>
     ensures derived { IfOk result (λ d.
         (selection.now.skip_refused ≡ false → files.now.faults.now ≡ [])
         → (all : AnyList AnyTold) × DerivesSelected selection.now config files.now.names.now
         (map (λ i. i.now) selected.now.items) (map (λ a. a.now) selected.now.aliases)
         (found_by files.now.elsewhere.now) files.now.impls.now
-        (map told_of_file files.now.faults.now) d.0.components all × AreFirst all d.1) }
+        (map told_of_file files.now.faults.now) d.0 all × AreFirst all d.1) }
     ensures told { IfErr result (IfToldIs (RefusesSelected selection.now config files.now.names.now
         (map (λ i. i.now) selected.now.items) (map (λ a. a.now) selected.now.aliases))) }
 {

@@ -24,8 +24,8 @@ use crate::reading::gather;
 use crate::request::Request;
 use crate::showing::{Unshown, shown};
 use crate::status::Status;
-use compose::Derived;
-use file_derivation::{Outcome, Warnings, derive_gathered};
+use compose::Composition;
+use file_derivation::{Refusal, Warnings, derive_gathered};
 use files::Files;
 use gathering::Gathered;
 use std::alloc::Global;
@@ -100,19 +100,19 @@ fn written_of(
     request: &Request,
     openapi: Option<NamedDocument>,
     check: &Option<NamedDocument>,
-    derived: &Derived,
+    composition: Composition,
     warnings: &Warnings,
 ) -> Result<Written, Ending>
     ensures written { IfOk result (λ w. (all : AnyList AnyTold) → AreFirst all warnings.now
-        → IsWritten (wanted request.now openapi check.now) derived.now.components all w) }
+        → IsWritten (wanted request.now openapi check.now) composition all w) }
     ensures ending { IfErr result (EndsWriting (wanted request.now openapi check.now)
-        derived.now.components warnings.now) }
+        composition warnings.now) }
 {
     let mut report = first_told(alloc, warnings.told.as_slice(), warnings.count)?;
     if are_refused(request.strict, warnings) {
         return Err(Ending::Refused(report));
     }
-    match shown(alloc, request, openapi, check, &derived.components) {
+    match shown(alloc, request, openapi, check, composition) {
         Ok(document) => Ok(Written { document, report }),
         Err(Unshown::Line(line)) => {
             report.push(line.as_str())?;
@@ -143,10 +143,11 @@ pub(crate) fn document_text(
         openapi,
         check,
     } = options;
-    match derive_gathered(alloc, gathered, &request.selection, config)? {
-        Outcome::Derived(derived, warnings) => {
-            written_of(alloc, request, openapi, &check, &derived, &warnings)
+    match derive_gathered(alloc, gathered, &request.selection, config) {
+        Ok((composition, warnings)) => {
+            written_of(alloc, request, openapi, &check, composition, &warnings)
         }
-        Outcome::Refused(told) => Err(Ending::Refused(all_told(alloc, told.as_slice())?)),
+        Err(Refusal::Told(told)) => Err(Ending::Refused(all_told(alloc, told.as_slice())?)),
+        Err(Refusal::Memory) => Err(Ending::Memory),
     }
 }

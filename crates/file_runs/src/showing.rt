@@ -2,14 +2,17 @@
 
 ghost use Rattle.std.specs.Prelude.{◌≡◌, option_map, string_bytes, IfOk, IfErr};
 ghost use Rattle.serde_json.specs.View.{view};
+ghost use Rattle.acceptance.specs.Data.{data_of};
+ghost use Rattle.schema_core.specs.Document.{document_by};
 ghost use Rattle.file_runs.specs.Given.{named_view};
 ghost use Rattle.file_runs.specs.Reports.{openapi_line, taken_line, difference_text, difference_line};
 ghost use Rattle.file_runs.specs.Shown.{alternatives, is_direct, IsMade, IsShown, IsUnmade, IsUnshown, IfLine};
 
 use crate::named::NamedDocument;
 use crate::request::Request;
+use compose::Composition;
 use documents::{Difference, Merged, compare, merge, text_of};
-use schema_core::{Alternatives, Components};
+use schema_core::Alternatives;
 use serde_json::Value;
 use std::alloc::{AllocError, Global};
 use telling::printable;
@@ -123,6 +126,14 @@ fn is_direct(
     }
 }
 
+/// The value of the document of the components, whose schemas are let go then.
+fn value_of(alloc: Global, composition: Composition, by: Alternatives) -> Result<Value, AllocError>
+    ensures { IfOk result (λ value. view value ≡ data_of (document_by by composition)) }
+{
+    let components = composition.components(alloc)?;
+    components.to_value_by(alloc, by)
+}
+
 /// What is written of the components: the text of their document, or of the OpenAPI document that they go into; nothing where
 /// it is compared, and the same.
 pub(crate) fn shown(
@@ -130,18 +141,18 @@ pub(crate) fn shown(
     request: &Request,
     openapi: Option<NamedDocument>,
     check: &Option<NamedDocument>,
-    components: &Components,
+    composition: Composition,
 ) -> Result<Text, Unshown>
     ensures shown { IfOk result (IsShown request.now (option_map named_view openapi)
-        (option_map named_view check.now) components.now) }
-    ensures line { IfErr result (IfLine (IsUnshown request.now components.now
+        (option_map named_view check.now) composition) }
+    ensures line { IfErr result (IfLine (IsUnshown request.now composition
         (option_map named_view openapi) (option_map named_view check.now))) }
 {
     let by = alternatives(request);
     if is_direct(request, &openapi, check) {
-        return Ok(components.to_text_by(alloc, by)?);
+        return Ok(composition.to_text(alloc, by)?);
     }
-    let value = made(alloc, openapi, components.to_value_by(alloc, by)?)?;
+    let value = made(alloc, openapi, value_of(alloc, composition, by)?)?;
     let Some(old) = check else {
         return Ok(text_of(alloc, &value, request.pretty)?);
     };

@@ -11,13 +11,13 @@ ghost use Rattle.schema_gen.specs.Words.{AskFor, HaveForm, asked_of};
 use crate::command::{config_path, is_derive, sample_size};
 use crate::law::sound_is_not_refused;
 use crate::size::SampleSize;
-use compose::derive_components;
+use compose::composition_of_source;
 use configuration::Config;
 use configuration_json::{FromJson, bad_config};
 use diag::DeriveError;
 use reporting::{Command, Rest, Words, source_text};
 use samples::{sample_source, samples_are_sound};
-use schema_core::texts_are_one;
+use schema_core::{Alternatives, texts_are_one};
 use std::alloc::Global;
 use texts::Text;
 
@@ -45,9 +45,9 @@ fn counted_document(
 {
     texts_are_one();
     let source = source_text(alloc, bytes)?;
-    let derived = derive_components(alloc, source, config)?;
-    let count = derived.components.names().len();
-    Ok((derived.components.to_text(alloc)?, count))
+    let composition = composition_of_source(alloc, source, config)?;
+    let text = composition.to_text(alloc, Alternatives::OneOf)?;
+    Ok((text, composition.len()))
 }
 
 /// The text of the document of a source.

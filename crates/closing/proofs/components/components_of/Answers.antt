@@ -1,5 +1,5 @@
-use Rattle.std.proofs.Common.{◌≡◌, ◌<◌, ◌≤◌, ◌+◌, ◌∙◌, ℕ, List, length, map, take, get_or, set, IsTrue, ap, sym, subst, rules, arith}
-use Rattle.std.proofs.lemmas.List.{take_all, length-set, length-map, get_or-map, get_or_default}
+use Rattle.std.proofs.Common.{◌≡◌, ◌<◌, ◌≤◌, ◌+◌, ◌∙◌, ℕ, List, [], length, map, take, drop, get_or, set, IsTrue, ap, sym, subst, rules, arith}
+use Rattle.std.proofs.lemmas.List.{drop_all, length-set, length-map, get_or-map, get_or_default}
 use Rattle.open_types.specs.Open.{unit}
 use Rattle.schema_trees.specs.Schema.{schema_view}
 use Rattle.shapes.specs.InstanceNames.{instance_name}
@@ -8,9 +8,10 @@ use Rattle.inlining.specs.Inlining.{IsAmong}
 use Rattle.inlining.specs.Marks.{mark}
 use Rattle.inlining.proofs.Laws.{among_at}
 use Rattle.instances.specs.Names.{instance_names}
-use Rattle.instances.proofs.Laws.{at-one}
+use Rattle.closing.specs.Made.{entries_from}
 use Rattle.closing.proofs.Made.{AreLeft, schema_at, left_more, fresh_at}
-use Rattle.closing.proofs.Entered.{AreKnown, name_at, its_schema, known_none, known_more, all_entered}
+use Rattle.closing.proofs.Entered.{AreKnown, name_at, its_schema, known_none, known_more}
+use Rattle.closing.proofs.EntriesAt.{entries_more}
 use Rattle.closing.proofs.components.components_of.Goals as goal
 
 pub loop-number-init : goal.loop-number-init
@@ -20,6 +21,7 @@ loop-number-init c =
     record {
       many = c.in_ok-made.ensures.many;
       left = λ n l m none. c.in_ok-made.ensures.schemas n l (subst (λ ms. IsTrue (mark ms n)) (sym c.as_slice-marks.ensures) m);
+      entries = ap (λ es. entries_from ss is es c.args.shown.now.components) c.new-components.ensures;
       known = subst (AreKnown (name_at ss is) (its_schema ss is) (take 0 c.args.shown.now.components)) (sym c.new-components.ensures) (known_none (name_at ss is) (its_schema ss is));
     }
 
@@ -78,6 +80,7 @@ loop-number-preserved c =
     record {
       many = length-set made (get_or items i 0) c.replace-schema.new.dest ∙ c.loop-number.invariant.many;
       left = subst (λ n. AreLeft ss is c.args.shown.now.marks (set made n c.replace-schema.new.dest) (take (i + 1) comps)) (sym where_is) (left_more ss is c.args.shown.now.marks made comps i c.replace-schema.new.dest at c.loop-number.invariant.left);
+      entries = entries_more ss is c.requires.instances c.requires.differ comps i c.in_ok-name.name (schema_view c.replace-schema.result) c.in_ok-insert.field-0 c.loop-number.components c.insert.new.self at c.requires.once c.requires.within named schema c.in_ok-insert.ensures.new c.in_ok-insert.ensures.entries c.loop-number.invariant.known ∙ c.loop-number.invariant.entries;
       known = known_more (name_at ss is) (its_schema ss is) comps i c.in_ok-name.name (schema_view c.replace-schema.result) c.in_ok-insert.field-0 c.loop-number.components c.insert.new.self at named schema c.in_ok-insert.ensures.new c.in_ok-insert.ensures.entries c.loop-number.invariant.known;
     }
 
@@ -86,5 +89,5 @@ returns c =
     let ss = map declaration_view c.args.declared.now in
     let is = c.args.reach.now in
     let comps = c.args.shown.now.components in
-    let all : take c.loop-number.number-index comps ≡ comps = take_all c.loop-number.number-index comps (subst (λ (xs : List ℕ). length xs ≤ c.loop-number.number-index) c.as_slice-number-items.ensures (omega arith)) in
-    all_entered ss is c.requires.instances c.requires.differ comps c.loop-number.components (λ n a. at-one is n (c.requires.within n a)) (subst (λ ns. AreKnown (name_at ss is) (its_schema ss is) ns c.loop-number.components) all c.loop-number.invariant.known)
+    let none : drop c.loop-number.number-index comps ≡ [] = drop_all c.loop-number.number-index comps (subst (λ (xs : List ℕ). length xs ≤ c.loop-number.number-index) c.as_slice-number-items.ensures (omega arith)) in
+    ap (entries_from ss is c.loop-number.components) (sym none) ∙ c.loop-number.invariant.entries

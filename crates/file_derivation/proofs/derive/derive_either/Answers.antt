@@ -45,7 +45,7 @@ returns-clause-derived c =
     if_ok c.derive_selected.result
     (λ d derives files names gathered have written.
     let mine = derives (λ whole. c.as_slice.ensures ∙ none whole) in
-    let components = d.0.components in
+    let components = d.0 in
     let at = subst (λ (v : List Told). DerivesSelected s with_them own chosen needed (found_by c.in_ok-elsewhere.elsewhere) impls (map told_of_file v) components mine.0) c.as_slice.ensures mine.1 in
     let found_at = subst (λ (v : FileItem → Option (List ℕ)). DerivesSelected s with_them own chosen needed v impls (map told_of_file c.args.faults) components mine.0) c.in_ok-elsewhere.ensures at in
     let found : AreDerivedFrom s config files components mine.0 = record {

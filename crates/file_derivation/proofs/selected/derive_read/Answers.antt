@@ -1,12 +1,11 @@
 use Rattle.std.proofs.Common.{◌≡◌, ◌∙◌, ◌++◌, Bool, not, List, map, ap, sym, subst}
 use Rattle.std.specs.Borrow.{Bor}
-use Rattle.schema_core.specs.Document.{document_by}
+use Rattle.schema_core.specs.Document.{Entry, document_by}
 use Rattle.schema_core.specs.declared.alternatives.Alternatives.{Alternatives}
 use Rattle.syntax.specs.Items.{declaration_view, declarations_view}
 use Rattle.closing.specs.Described.{Describes}
 use Rattle.compose.specs.Bounds.{collects_all}
 use Rattle.compose.specs.Faults.{AreDerived}
-use Rattle.compose.specs.declared.derive.Derived.{Derived}
 use Rattle.prepare.specs.declared.file_items.FileItem.{FileItem}
 use Rattle.selecting.specs.Elsewhere.{found_by}
 use Rattle.file_derivation.specs.Elsewhere.{told_all_elsewhere}
@@ -21,7 +20,7 @@ pub returns-clause-derived : goal.returns-clause-derived
 returns-clause-derived c =
     let config = c.args.config.now in
     let ds = declarations_view c.args.reading.declarations in
-    subst (λ (v : Derived). (made : AreDerived config ds v.components) × ((by : Alternatives) → Describes made.resolved (collects_all config.collect) (document_by by v.components))) (sym c.in_ok-with_warnings.ensures.derived) c.in_ok-derived.ensures.describes
+    subst (λ (v : List Entry). (made : AreDerived config ds v) × ((by : Alternatives) → Describes made.resolved (collects_all config.collect) (document_by by v))) (sym c.in_ok-with_warnings.ensures.derived) c.in_ok-composition.ensures.describes
 
 pub returns-clause-warned : goal.returns-clause-warned
 returns-clause-warned c = λ front first.
@@ -32,7 +31,7 @@ returns-clause-warned c = λ front first.
     let ds = declarations_view c.args.reading.declarations in
     let from = shown c.as_slice-from.result.now in
     let impls = c.args.files.now.impls.now in
-    let components = c.in_ok-derived.derived.components in
+    let components = c.in_ok-composition.composition in
     let mine = c.in_ok-own.ensures front first in
     let elsewhere = found_by c.args.files.now.elsewhere.now in
     let before = ((front ++ mine.0) ++ told_impls names ds impls) ++ told_all_elsewhere names elsewhere ds from in
@@ -49,4 +48,4 @@ returns-clause-warned c = λ front first.
     } in
     let given = c.in_ok-with_warnings.ensures in
     let read = subst (λ (v : List (Bor FileItem)). AreAllWarned plain config names elsewhere ds (shown v) impls components front all) c.as_slice-from.ensures warned in
-    (all, subst (λ (v : Derived). AreAllWarned plain config names elsewhere ds (shown c.args.reading.from) impls v.components front all) (sym given.derived) read, given.warned (before ++ more.0) more.2)
+    (all, subst (λ (v : List Entry). AreAllWarned plain config names elsewhere ds (shown c.args.reading.from) impls v front all) (sym given.derived) read, given.warned (before ++ more.0) more.2)

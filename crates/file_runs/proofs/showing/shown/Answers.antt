@@ -15,25 +15,25 @@ use Rattle.file_runs.proofs.showing.shown.Goals as goal
 
 pub returns-then-is_direct-clause-shown : goal.returns-then-is_direct-clause-shown
 returns-then-is_direct-clause-shown c =
-    let components = c.args.components.now in
-    direct_shown c.args.request.now _ _ components _ (sym c.is_direct.ensures ∙ c.if-is_direct.true) (c.in_ok-to_text_by.ensures.text ∙ ap (λ (by : Alternatives). text_of (document_by by components)) c.alternatives-by.ensures)
+    let components = c.args.composition in
+    direct_shown c.args.request.now _ _ components _ (sym c.is_direct.ensures ∙ c.if-is_direct.true) (c.in_ok-to_text.ensures.text ∙ ap (λ (by : Alternatives). text_of (document_by by components)) c.alternatives-by.ensures)
 
 pub returns-in_err-value-clause-line : goal.returns-in_err-value-clause-line
 returns-in_err-value-clause-line c =
-    let components = c.args.components.now in
+    let components = c.args.composition in
     let p = err_from_is_err_and c.from_residual-in_err-value.result c.from_residual-in_err-value.ensures.1 in
-    let same = c.in_ok-to_value_by.ensures ∙ ap (λ (by : Alternatives). data_of (document_by by components)) c.alternatives-by.ensures in
+    let same = c.in_ok-value_of.ensures ∙ ap (λ (by : Alternatives). data_of (document_by by components)) c.alternatives-by.ensures in
     rw (p.1, p.2) (line_of c.args.request.now _ _ components _ _ same c.in_err-value.ensures.line)
 
 pub returns-clause-line : goal.returns-clause-line
 returns-clause-line c =
     let r = c.args.request.now in
-    let components = c.args.components.now in
+    let components = c.args.composition in
     let openapi = option_map named_view c.args.openapi in
     let old = c.in-Some.old in
     let value = view c.in_ok-value.value in
     let found = c.in-Some-2.found in
-    let same = c.in_ok-to_value_by.ensures ∙ ap (λ (by : Alternatives). data_of (document_by by components)) c.alternatives-by.ensures in
+    let same = c.in_ok-value_of.ensures ∙ ap (λ (by : Alternatives). data_of (document_by by components)) c.alternatives-by.ensures in
     let made = subst (λ (d : Data). IsMade openapi d value) same c.in_ok-value.ensures.made in
     let difference : IsDifference (view old.value) value found = subst (λ o. MatchOption o (AreAlike (view old.value) value) (IsDifference (view old.value) value)) c.in-Some-2.is c.in_ok-compare.ensures in
     let line = c.in_ok-line-in-Some-2.ensures ∙ ap (λ (p : List ℕ). difference_line p found) c.as_str.ensures in

@@ -4,10 +4,10 @@ use Rattle.texts.specs.Names.{place_in}
 use Rattle.schema_core.specs.Entries.{entry_names}
 use Rattle.shapes.specs.Views.{declaration_view}
 use Rattle.instances.specs.Lists.{instance_at}
-use Rattle.closing.specs.Described.{AreComponents}
 use Rattle.compose.specs.Types.{AreTypesOf}
+use Rattle.compose.proofs.Composed.{components_are}
 use Rattle.compose.proofs.TypesFound.{types_are}
-use Rattle.compose.proofs.derive.components_within.Goals as goal
+use Rattle.compose.proofs.derive.derived_within.Goals as goal
 
 pub returns-clause-types : goal.returns-clause-types
 returns-clause-types c =
@@ -15,12 +15,7 @@ returns-clause-types c =
     let is = c.args.bounded.reach in
     let all = c.args.bounded.all in
     let components = c.in_ok-components.components in
-    let entries = c.in_ok-components.ensures in
-    let made : AreComponents ss all components = record {
-      held = λ t k. entries.held t (c.requires.shown.components.whole t k);
-      only = λ name f. let o = entries.only name f in (o.0, c.requires.shown.components.are o.0 o.1, o.2);
-      order = entries.order;
-    } in
+    let made = components_are c.entries_are.ensures ss c.args.bounded c.requires components c.in_ok-components.ensures in
     let look : List (List ℕ) → List ℕ → _ = λ known name. option_map (instance_at is) (place_in name known) in
     let found = c.in_ok-types.ensures ∙ ap (filter_map (look c.args.bounded.names)) c.names-2.ensures.names ∙ ap (λ known. filter_map (look known) (entry_names components)) c.requires.names in
     subst (AreTypesOf ss all (entry_names components)) (sym found) (types_are ss all is c.requires.instances c.requires.differ (c.components_are_reachable.ensures ss all) components made)
