@@ -1,5 +1,5 @@
 -- Members of a map: what is put in, what is taken out and put in again, and which names are taken.
-use Rattle.std.proofs.Common.{◌≡◌, ℕ, List, [], ◌∷◌, Bool, Option, Some, None, option_map, unwrap_or, codes, is_some, if◌then◌else◌, BTreeMap, Global, Ordering, Less, Equal, Greater, String, string_bytes, string_cmp, nat_cmp, option_and_then, refl, sym, ap, ◌∙◌}
+use Rattle.std.proofs.Common.{◌≡◌, ℕ, List, Bool, Option, Some, None, option_map, unwrap_or, codes, is_some, Global, Ordering, Less, Equal, Greater, String, string_bytes, string_cmp, nat_cmp, option_and_then, refl, sym, ap, ◌∙◌}
 use Rattle.std.specs.Cmp.Lexicographic.{slice_cmp}
 use Rattle.std.specs.Ordering.{match_ordering}
 use Rattle.std.specs.Map.{lookup}
@@ -7,17 +7,14 @@ use Rattle.std.specs.BTreeMap.{is_at, insert_entry}
 use Rattle.serde_json.specs.Data.{Data, object, Members, no_members, member, put}
 use Rattle.serde_json.specs.Find.{get, get_member, as_object}
 use Rattle.serde_json.specs.View.{view, members_view}
-use Rattle.serde_json.specs.declared.value.Value.{Value, Object}
-use Rattle.serde_json.proofs.Views.{Entry, members_view-insert_entry, view-Object, view-lookup, get_member-put, get_member-put_other}
+use Rattle.serde_json.specs.declared.value.Value.{Value}
+use Rattle.serde_json.proofs.Views.{Entry, members_view-insert_entry, view-lookup, get_member-put, get_member-put_other}
 use Rattle.documents.proofs.Names.{itself, same_names}
 use Rattle.documents.specs.Components.{schemas_in}
-use Rattle.documents.specs.Merge.{own, OpenApi, open_api, taken, with_each, with_schemas, AreOnce, MergesHold}
+use Rattle.documents.specs.Merge.{own, OpenApi, open_api, with_each, with_schemas, AreOnce, MergesHold}
 
 pub put_is : (es : List Entry) (k : String Global) (v : Value) → members_view (insert_entry string_cmp es k v) ≡ put (string_bytes k) (view v) (members_view es)
 put_is es k v = members_view-insert_entry es k v
-
-pub object_is : (m : BTreeMap (String Global) Value) → view (Object m) ≡ object (members_view m.entries)
-object_is m = view-Object m
 
 -- what a map has at a name
 pub found : (name : String Global) (es : List Entry) → option_map view (lookup (is_at (string_cmp name)) es) ≡ get_member (string_bytes name) (members_view es)
@@ -49,18 +46,7 @@ is_some-map f (Some a) = refl
 pub contains : (name : List ℕ) (es : List Entry) → is_some (lookup (at_name name) es) ≡ is_some (get_member name (members_view es))
 contains name es = sym (is_some-map view (lookup (at_name name) es)) ∙ ap is_some (view-lookup name es)
 
--- the first name is taken, or it is not and those behind it remain
-pub first_taken : (schemas : Members) (e : Entry) (es : List Entry) (b : Bool) → b ≡ is_some (get_member (string_bytes e.0) schemas)
-    → taken schemas (members_view (e ∷ es)) ≡ (if b then Some (string_bytes e.0) else taken schemas (members_view es))
-first_taken schemas e es b is = ap (λ c. if c then Some (string_bytes e.0) else taken schemas (members_view es)) (sym is)
-
 -- ---- the OpenAPI document
-
--- the members of a map that may be missing, or of an empty one
-pub or_empty : (o : Option (BTreeMap (String Global) Value)) (m : BTreeMap (String Global) Value) (ms : Option Members) → m.entries ≡ [] → option_map (λ n. members_view n.entries) o ≡ ms
-    → members_view (unwrap_or o m).entries ≡ unwrap_or ms no_members
-or_empty None m ms none is = ap members_view none ∙ ap (λ o. unwrap_or o no_members) is
-or_empty (Some n) m ms none is = ap (λ o. unwrap_or o no_members) is
 
 pub opened : (value : Data) (api components schemas : Members) → value ≡ object api → Some components ≡ own (codes "components") api → Some schemas ≡ own (codes "schemas") components
     → open_api value ≡ Some (record { api = api; components = components; schemas = schemas })

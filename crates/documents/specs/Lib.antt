@@ -1,6 +1,5 @@
 pub mod Components
 pub mod Difference
 pub mod Merge
-pub mod MergeTexts
 pub mod Text
 pub mod Written

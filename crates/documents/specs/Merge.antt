@@ -2,8 +2,8 @@
 use Rattle.std.specs.Prelude.{◌≡◌, ◌≢◌, ⊤, ℕ, List, codes, Option, Some, None, option_map, option_and_then, is_some, if◌then◌else◌}
 use Rattle.serde_json.specs.Data.{Data, object, Members, no_members, member, put}
 use Rattle.serde_json.specs.Find.{get, get_member, as_object}
-use Rattle.serde_json.specs.View.{view}
 use Rattle.documents.specs.Components.{schemas_in}
+use Rattle.documents.specs.Written.{IsWrittenOf}
 use Rattle.documents.specs.declared.merging.Merged.{Merged}
 use Rattle.documents.specs.declared.merging.Merged.TheVariants.{Document, NoOpenApi, Taken}
 
@@ -50,9 +50,9 @@ with_schemas o new = object (put (codes "components") (object (put (codes "schem
 abbrev pub IsOpenApiOf : (OpenApi → Type 0) → Data → Type 0
 IsOpenApiOf Fact value = (o : OpenApi) × (open_api value ≡ Some o) × Fact o
 
--- what merging the new schemas into the value gives
+-- what merging the texts of the new schemas into the value gives
 abbrev pub IsMerged : Data → Members → Merged → Type 0
-IsMerged value new (Document document) = IsOpenApiOf (λ o. (taken o.schemas new ≡ None) × (view document ≡ with_schemas o new)) value
+IsMerged value new (Document written) = IsOpenApiOf (λ o. (taken o.schemas new ≡ None) × IsWrittenOf (with_schemas o new) written) value
 IsMerged value new NoOpenApi = open_api value ≡ None
 IsMerged value new (Taken name) = IsOpenApiOf (λ o. taken o.schemas new ≡ Some name) value
 

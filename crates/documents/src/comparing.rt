@@ -1,14 +1,18 @@
-//! A document compared with another.
+//! A document compared with another that is written already.
 
-ghost use Rattle.std.specs.Prelude.{ℕ, List, IfOk, MatchOption, MatchBool};
+ghost use Rattle.std.specs.Prelude.{ℕ, List, false, IfOk, MatchOption, MatchBool};
+ghost use Rattle.serde_json.specs.Data.{Data, Members};
 ghost use Rattle.serde_json.specs.View.{view, members_view};
 ghost use Rattle.documents.specs.Difference.{AreAlike, AreOthers, AtName, IsSame, DifferFirst, IsDifference};
+ghost use Rattle.documents.specs.Text.{IsJsonOf};
+ghost use Rattle.documents.specs.Written.{AreTextsOf, AreNamedInOrder, IsWrittenOf};
 
 use crate::components::schemas_of;
+use crate::written::Written;
 use serde_json::{Map, Value};
 use std::alloc::{AllocError, Global};
 use std::cmp::Ordering;
-use texts::Text;
+use texts::{List, Text};
 
 /// How an old document and a new one differ: the first component, in byte order of names, that differs.
 #[derive(Debug, Drop)]
@@ -23,63 +27,62 @@ pub enum Difference {
     Elsewhere,
 }
 
-/// Whether one compact text is written for both values.
-fn are_alike(alloc: Global, one: &Value, other: &Value) -> Result<bool, AllocError>
-    ensures { IfOk result (λ alike. MatchBool alike (AreAlike (view one.now) (view other.now))
-        (AreOthers (view one.now) (view other.now))) }
+/// Whether the text is the compact one that is written for the value.
+fn is_text_of(alloc: Global, value: &Value, text: &Text) -> Result<bool, AllocError>
+    ensures { IfOk result (λ alike. (new : Data) → IsJsonOf false new text.now
+        → MatchBool alike (AreAlike (view value.now) new) (AreOthers (view value.now) new)) }
 {
-    let json = one.to_vec(alloc)?;
-    let another = other.to_vec(alloc)?;
-    Ok(json.as_slice() == another.as_slice())
+    let json = value.to_string(alloc)?;
+    Ok(json.as_str() == text.as_str())
 }
 
 /// The first of the schemas that differs, in byte order of names.
 fn first_difference(
     alloc: Global,
     olds: &Map<String, Value>,
-    news: &Map<String, Value>,
+    news: &List<(Text, Text)>,
 ) -> Result<Option<Difference>, AllocError>
-    ensures { IfOk result (λ found. MatchOption found ((name : List ℕ)
-        → AtName IsSame name (members_view olds.now.entries) (members_view news.now.entries))
-        (DifferFirst (members_view olds.now.entries) (members_view news.now.entries))) }
+    ensures { IfOk result (λ found. (values : Members) → AreTextsOf values news.now
+        → AreNamedInOrder news.now
+        → MatchOption found ((name : List ℕ)
+        → AtName IsSame name (members_view olds.now.entries) values)
+        (DifferFirst (members_view olds.now.entries) values)) }
 {
-    let mut others = news.iter();
+    let mut others = news.as_slice().iter();
     for (name, old) in olds.iter() {
         let Some((other, new)) = others.next() else {
             return Ok(Some(Difference::Surplus(Text::new(alloc, name.as_str())?)));
         };
-        match name.cmp(other) {
+        match name.as_str().cmp(other.as_str()) {
             Ordering::Less => {
                 return Ok(Some(Difference::Surplus(Text::new(alloc, name.as_str())?)));
             }
-            Ordering::Greater => {
-                return Ok(Some(Difference::Missing(Text::new(alloc, other.as_str())?)));
-            }
+            Ordering::Greater => return Ok(Some(Difference::Missing(other.copy(alloc)?))),
             Ordering::Equal => {
-                if !are_alike(alloc, old, new)? {
-                    return Ok(Some(Difference::Another(Text::new(alloc, name.as_str())?)));
+                if !is_text_of(alloc, old, new)? {
+                    return Ok(Some(Difference::Another(other.copy(alloc)?)));
                 }
             }
         }
     }
     match others.next() {
-        Some((other, _new)) => Ok(Some(Difference::Missing(Text::new(alloc, other.as_str())?))),
+        Some((other, _new)) => Ok(Some(Difference::Missing(other.copy(alloc)?))),
         None => Ok(None),
     }
 }
 
-/// How the old document and the new one differ, or nothing where one compact text is written for both. A document without
-/// the object `components.schemas` has no components.
-pub fn compare(alloc: Global, old: &Value, new: &Value) -> Result<Option<Difference>, AllocError>
-    ensures { IfOk result (λ found. MatchOption found (AreAlike (view old.now) (view new.now))
-        (IsDifference (view old.now) (view new.now))) }
+/// How the old document and the written one differ, or nothing where one compact text is written for both. A document
+/// without the object `components.schemas` has no components.
+pub fn compare(alloc: Global, old: &Value, new: &Written) -> Result<Option<Difference>, AllocError>
+    ensures { IfOk result (λ found. (value : Data) → IsWrittenOf value new.now
+        → MatchOption found (AreAlike (view old.now) value)
+        (IsDifference (view old.now) value)) }
 {
-    if are_alike(alloc, old, new)? {
+    if is_text_of(alloc, old, &new.json)? {
         return Ok(None);
     }
     let none = Map::new(alloc);
     let olds = schemas_of(old).unwrap_or(&none);
-    let news = schemas_of(new).unwrap_or(&none);
-    let found = first_difference(alloc, olds, news)?;
+    let found = first_difference(alloc, olds, &new.schemas)?;
     Ok(Some(found.unwrap_or(Difference::Elsewhere)))
 }

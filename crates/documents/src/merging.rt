@@ -1,25 +1,29 @@
-//! Schemas merged into an OpenAPI document.
+//! Texts of schemas merged into an OpenAPI document.
 
-ghost use Rattle.std.specs.Prelude.{◌≡◌, option_map, string_bytes, IfOk, OnOk};
-ghost use Rattle.serde_json.specs.Data.{Data, object, put as put_data};
+ghost use Rattle.std.specs.Prelude.{◌≡◌, false, option_map, string_bytes, IfOk, OnOk};
+ghost use Rattle.serde_json.specs.Data.{Data, Members, object, put as put_data};
 ghost use Rattle.serde_json.specs.Find.{get_member};
 ghost use Rattle.serde_json.specs.View.{view, members_view};
-ghost use Rattle.documents.specs.Components.{schemas_in};
 ghost use Rattle.documents.specs.Merge.{own, taken, with_each, IsMerged};
+ghost use Rattle.documents.specs.Text.{IsJsonOf};
+ghost use Rattle.documents.specs.Written.{AreTextsOf, AreNamedInOrder};
 
-use crate::components::{into_members, into_schemas};
+use crate::components::into_members;
+use crate::object_text::{member_texts, object_text};
+use crate::written::Written;
 use serde_json::{Map, Value};
 use std::alloc::{AllocError, Global};
-use texts::Text;
+use std::collections::BTreeMap;
+use texts::{List, Text};
 
 /// What merging gives.
 #[derive(Debug, Drop)]
 pub enum Merged {
     /// The OpenAPI document with the new schemas among its own.
-    Document(Value),
+    Document(Written),
     /// No OpenAPI document: it, its `components` or the `schemas` in them are no object.
     NoOpenApi,
-    /// A new name that the document has a schema under: the first in byte order.
+    /// A new name that the document has a schema under: the first of them.
     Taken(Text),
 }
 
@@ -40,7 +44,7 @@ fn replace(
 
 /// Takes the members of the object under the name, which are none where nothing stands there, and leaves null in its place.
 /// Where something else stands there, there are none to take.
-pub(crate) fn take_members(
+fn take_members(
     alloc: Global,
     members: &mut Map<String, Value>,
     name: &str,
@@ -57,60 +61,71 @@ pub(crate) fn take_members(
     }
 }
 
-/// Puts the value under the name.
-fn put(members: &mut Map<String, Value>, name: String, value: Value) -> Result<(), AllocError>
-    ensures { OnOk result (members_view members.new.entries
-        ≡ put_data (string_bytes name) (view value) (members_view members.old.entries)) }
-{
-    replace(members, name, value)?;
-    Ok(())
-}
-
-/// Puts the members under the name, as an object.
-#[tactic(auto, using(crate::proofs::MergeLaws::object_is))]
-fn put_members(
-    alloc: Global,
-    members: &mut Map<String, Value>,
-    name: &str,
-    own: Map<String, Value>,
-) -> Result<(), AllocError>
-    ensures { OnOk result (members_view members.new.entries
-        ≡ put_data name.now (object (members_view own.entries)) (members_view members.old.entries)) }
-{
-    put(members, String::from_str(alloc, name)?, Value::Object(own))
-}
-
 /// The first of the new names that is taken.
 fn taken_name(
     alloc: Global,
     schemas: &Map<String, Value>,
-    new: &Map<String, Value>,
+    new: &List<(Text, Text)>,
 ) -> Result<Option<Text>, AllocError>
-    ensures { IfOk result (λ name.
-        name ≡ taken (members_view schemas.now.entries) (members_view new.now.entries)) }
+    ensures { IfOk result (λ name. (values : Members) → AreTextsOf values new.now
+        → name ≡ taken (members_view schemas.now.entries) values) }
 {
-    for (name, _schema) in new.iter() {
+    for (name, _text) in new.as_slice() {
         if schemas.contains_key(name.as_str()) {
-            return Ok(Some(Text::new(alloc, name.as_str())?));
+            return Ok(Some(name.copy(alloc)?));
         }
     }
     Ok(None)
 }
 
-/// Puts each of the new schemas under its name.
-fn put_each(schemas: &mut Map<String, Value>, new: Map<String, Value>) -> Result<(), AllocError>
-    ensures { OnOk result (members_view schemas.new.entries
-        ≡ with_each (members_view schemas.old.entries) (members_view new.entries)) }
+/// Puts each of the new texts under its name.
+fn put_each(
+    alloc: Global,
+    texts: &mut BTreeMap<Text, Text>,
+    new: List<(Text, Text)>,
+) -> Result<(), AllocError>
+    ensures { OnOk result ((schemas : Members) → (values : Members)
+        → AreTextsOf schemas texts.old.entries → AreTextsOf values new
+        → AreTextsOf (with_each schemas values) texts.new.entries) }
 {
-    for (name, schema) in new {
-        put(schemas, name, schema)?;
+    for (name, text) in new.as_slice() {
+        texts.insert(name.copy(alloc)?, text.copy(alloc)?)?;
     }
     Ok(())
 }
 
-/// The OpenAPI document with the schemas of the other document among its own. Nothing else of it changes.
-pub fn merge(alloc: Global, api: Value, document: Value) -> Result<Merged, AllocError>
-    ensures { IfOk result (IsMerged (view api) (schemas_in (view document))) }
+/// The text of the object of the members, with the other text under the name.
+fn object_text_with(
+    alloc: Global,
+    members: Map<String, Value>,
+    name: &str,
+    text: Text,
+) -> Result<Text, AllocError>
+    ensures { IfOk result (λ json. (value : Data) → IsJsonOf false value text
+        → IsJsonOf false (object (put_data name.now value (members_view members.entries))) json) }
+{
+    let mut texts = member_texts(alloc, &members)?;
+    texts.insert(Text::new(alloc, name)?, text)?;
+    object_text(alloc, &texts)
+}
+
+/// The texts, in byte order of their names.
+fn listed(alloc: Global, texts: BTreeMap<Text, Text>) -> Result<List<(Text, Text)>, AllocError>
+    ensures items { IfOk result (λ list. list ≡ texts.entries) }
+    ensures order { IfOk result (λ list. AreNamedInOrder list) }
+{
+    let mut list = List::new(alloc);
+    for (name, text) in texts {
+        list.push((name, text))?;
+    }
+    Ok(list)
+}
+
+/// The OpenAPI document with the new schemas, by name, among its own: their texts, and that of the whole. Nothing else of
+/// the document changes.
+pub fn merge(alloc: Global, api: Value, new: List<(Text, Text)>) -> Result<Merged, AllocError>
+    ensures { IfOk result (λ merged. (schemas : Members) → AreTextsOf schemas new
+        → IsMerged (view api) schemas merged) }
 {
     let Value::Object(mut api) = api else {
         return Ok(Merged::NoOpenApi);
@@ -118,15 +133,17 @@ pub fn merge(alloc: Global, api: Value, document: Value) -> Result<Merged, Alloc
     let Some(mut components) = take_members(alloc, &mut api, "components")? else {
         return Ok(Merged::NoOpenApi);
     };
-    let Some(mut schemas) = take_members(alloc, &mut components, "schemas")? else {
+    let Some(schemas) = take_members(alloc, &mut components, "schemas")? else {
         return Ok(Merged::NoOpenApi);
     };
-    let new = into_schemas(document).unwrap_or(Map::new(alloc));
     if let Some(name) = taken_name(alloc, &schemas, &new)? {
         return Ok(Merged::Taken(name));
     }
-    put_each(&mut schemas, new)?;
-    put_members(alloc, &mut components, "schemas", schemas)?;
-    put_members(alloc, &mut api, "components", components)?;
-    Ok(Merged::Document(Value::Object(api)))
+    let mut texts = member_texts(alloc, &schemas)?;
+    put_each(alloc, &mut texts, new)?;
+    let all = object_text(alloc, &texts)?;
+    let inner = object_text_with(alloc, components, "schemas", all)?;
+    let json = object_text_with(alloc, api, "components", inner)?;
+    let schemas = listed(alloc, texts)?;
+    Ok(Merged::Document(Written { json, schemas }))
 }

@@ -5,6 +5,7 @@ mod OptionFiles
 mod Paths
 mod Quiet
 mod Saying
+mod SchemaTexts
 mod Strict
 mod Taken
 mod Told

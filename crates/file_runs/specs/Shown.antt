@@ -34,10 +34,10 @@ IsMade None document value = value ≡ document
 IsMade (Some api) document value =
     IsOpenApiOf (λ o. (taken o.schemas (schemas_in document) ≡ None) × (value ≡ with_schemas o (schemas_in document))) api.1
 
--- the document is written straight from the components, without a value of it
-abbrev pub is_direct : (pretty : Bool) → (openapi check : Option Named) → Bool
-is_direct false None None = true
-is_direct _ _ _ = false
+-- the document is written straight from the components
+abbrev pub is_direct : (openapi check : Option Named) → Bool
+is_direct None None = true
+is_direct _ _ = false
 
 -- its text: compact and straight from the components, or as `serde_json` writes the value
 abbrev pub IsWrittenAs : (pretty : Bool) → Option Named → Json → Data → List ℕ → Type 0

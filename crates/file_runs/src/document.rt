@@ -100,13 +100,13 @@ fn written_of(
     request: &Request,
     openapi: Option<NamedDocument>,
     check: &Option<NamedDocument>,
-    composition: Composition,
+    composition: &Composition,
     warnings: &Warnings,
 ) -> Result<Written, Ending>
     ensures written { IfOk result (λ w. (all : AnyList AnyTold) → AreFirst all warnings.now
-        → IsWritten (wanted request.now openapi check.now) composition all w) }
+        → IsWritten (wanted request.now openapi check.now) composition.now all w) }
     ensures ending { IfErr result (EndsWriting (wanted request.now openapi check.now)
-        composition warnings.now) }
+        composition.now warnings.now) }
 {
     let mut report = first_told(alloc, warnings.told.as_slice(), warnings.count)?;
     if are_refused(request.strict, warnings) {
@@ -145,7 +145,7 @@ pub(crate) fn document_text(
     } = options;
     match derive_gathered(alloc, gathered, &request.selection, config) {
         Ok((composition, warnings)) => {
-            written_of(alloc, request, openapi, &check, composition, &warnings)
+            written_of(alloc, request, openapi, &check, &composition, &warnings)
         }
         Err(Refusal::Told(told)) => Err(Ending::Refused(all_told(alloc, told.as_slice())?)),
         Err(Refusal::Memory) => Err(Ending::Memory),

@@ -20,7 +20,7 @@ pub returns-in_ok-push-in-Err-Line-clause-ending : goal.returns-in_ok-push-in-Er
 returns-in_ok-push-in-Err-Line-clause-ending c = λ all first.
     let w = wanted c.args.request.now c.args.openapi c.args.check.now in
     let warned = c.in_ok-report.ensures ∙ reported all c.as_slice.result.now c.args.warnings.now c.as_slice.ensures first in
-    let line = subst (λ (e : Unshown). IfLine (IsUnshown w.request c.args.composition w.openapi w.check) e) c.in-Err-Line.field-0-is c.in-Err-Line.ensures.line in
+    let line = subst (λ (e : Unshown). IfLine (IsUnshown w.request c.args.composition.now w.openapi w.check) e) c.in-Err-Line.field-0-is c.in-Err-Line.ensures.line in
     inr (
       λ strict. none_counted all c.args.warnings.now.count first.1 (c.if-are_refused.ensures strict),
       c.in-Err-Line.line,

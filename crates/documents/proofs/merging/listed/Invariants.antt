@@ -1,5 +1,5 @@
 use Rattle.std.proofs.Common.{◌≡◌, ◌++◌}
-use Rattle.documents.proofs.merging_texts.listed.Given as goal
+use Rattle.documents.proofs.merging.listed.Given as goal
 
 -- the list and what is left are all of the texts
 abbrev pub invariant-loop-name : goal.invariant-loop-name

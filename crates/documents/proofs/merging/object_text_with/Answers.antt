@@ -6,7 +6,7 @@ use Rattle.serde_json.specs.View.{members_view}
 use Rattle.documents.specs.Text.{IsJsonOf}
 use Rattle.documents.specs.Written.{AreTextsOf}
 use Rattle.documents.proofs.TextsOf.{Texts, texts_put}
-use Rattle.documents.proofs.merging_texts.object_text_with.Goals as goal
+use Rattle.documents.proofs.merging.object_text_with.Goals as goal
 
 if_ok : {A E : Type 0} (r : Result A E) {P Q : A → Type 0} → ((a : A) → P a → Q a) → IfOk r P → IfOk r Q
 if_ok (Ok a) h p = h a p
