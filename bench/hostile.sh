@@ -1,13 +1,15 @@
 #!/usr/bin/env bash
-# Sources of 1 MiB that are one token, one type, one list or one kind of token, sources at the bounds on instances, and sources and
-# configurations with aliases: the time and the peak memory that the program takes for each, and its exit status. By hand; no test
-# rests on it.
+# Sources of 1 MiB that are one token, one type, one list or one kind of token, sources at the bounds on instances, sources and
+# configurations with aliases, schemas of thousands of levels, and files of up to 16 MiB: the time and the peak memory that the
+# programs take for each, in a stack of 1 MiB, and the exit status. By hand; no test rests on it.
 #
 #     bench/hostile.sh
 #
-# ./build makes the program, unless the variable PROGRAM names one. In the table a status below 0 is the signal that ended a run.
+# ./build makes the programs, unless the variables PROGRAM (schema_gen derive) and FILE_PROGRAM (schema_gen_file) name them. In the
+# table a status below 0 is the signal that ended a run, and a row that ends in `beyond` took more than its limits.
 #
-# The exit status is 0 where all was measured, whatever the table has, 2 where there is an argument, and else that of ./build.
+# The exit status is 0 where each run ended with a status of its own and within its limits, 1 where one did not, 2 where there is an
+# argument, and else that of ./build.
 set -eu
 if [ $# -gt 0 ]; then
     case $1 in
@@ -18,11 +20,12 @@ if [ $# -gt 0 ]; then
 fi
 here=$(cd "$(dirname "$0")/.." && pwd)
 program=${PROGRAM:-$here/crates/schema_gen_cli/out/schema_gen_cli}
-[ -x "$program" ] || "$here/build"
-python3 - "$program" <<'PY'
+file_program=${FILE_PROGRAM:-$here/crates/schema_gen_file/out/schema_gen_file}
+{ [ -x "$program" ] && [ -x "$file_program" ]; } || "$here/build"
+python3 - "$program" "$file_program" <<'PY'
 import json, os, resource, subprocess, sys, tempfile, time
 
-program = sys.argv[1]
+program, file_program = sys.argv[1:]
 size = 1 << 20
 
 def filled(unit):
@@ -156,29 +159,87 @@ aliased = [
     ("32 rows used", lambda: fields(100, "A0_0"), lambda: rows(100, 20)),
     ("33 rows", lambda: fields(100, "A"), lambda: {**rows(100, 20), "A": "A0_0"}),
 ]
-# A run ends with an exit status below 0 where it takes a minute of a processor, and it has 8 GiB.
+# A type that nests so many levels, of so many aliases that nest at most 60, which it comes with.
+def levels(name, many, end):
+    steps = [min(60, many - at) for at in range(0, many, 60)]
+    names = [name] + ["%s_%d" % (name, at) for at in range(1, len(steps))] + [end]
+    return {names[at]: "Vec<" * step + names[at + 1] + ">" * step for at, step in enumerate(steps)}
+
+# So many structs of which each inlines the next at the bottom of 240 levels, and the types that they name.
+def inlined(many):
+    types = {name: of for at in range(many) for name, of in levels("X%d" % at, 180, "A%d" % (at + 1)).items()}
+    parts = ["struct A%d { p: (%sX%d%s,) }" % (at, "Vec<" * 60, at, ">" * 60) for at in range(many)]
+    return types, " ".join(parts + ["struct A%d(u8);" % many])
+
+deep = [("7,400 levels", lambda: inlined(30)[1], lambda: inlined(30)[0])]
+
+def inlined_file(many):
+    types, structs = inlined(many)
+    return " ".join(["type %s = %s;" % each for each in types.items()] + [structs])
+
+# Fields of a struct that nothing is said of, 46 bytes each, and functions, up to so many bytes.
+def long_struct(size):
+    return "struct S { " + "".join("a_field_with_a_long_name_%07d: Option<String>,\n" % at for at in range((size - 20) // 49)) + "}"
+
+def functions(size):
+    part = "fn f%d(x: u64) -> u64 { let y = x + 1; if y > 2 { call(y, &[1, 2, 3]) } else { y * 2 } }\n"
+    whole, at, parts = 0, 0, []
+    while whole + 100 < size:
+        parts.append(part % at)
+        whole, at = whole + len(parts[-1]), at + 1
+    return "".join(parts) + "struct S { a: bool }"
+
+# Files, what is asked for beside them, where FILE is a document without schemas, and the limits.
+files = [
+    ("7,400 levels, a file", lambda: inlined_file(30), [], (4, 100)),
+    ("the same, checked", lambda: inlined_file(30), ["--check", "FILE"], (4, 100)),
+    ("the same, merged", lambda: inlined_file(30), ["--openapi", "FILE"], (4, 100)),
+    ("1,900 levels, pretty", lambda: inlined_file(8), ["--pretty"], (4, 400)),
+    ("16 MiB of functions", lambda: functions(16 << 20), [], (8, 150)),
+    ("8 MB of fields", lambda: long_struct(8000000), [], (12, 400)),
+]
+
+# A stack has 1 MiB. A run ends with an exit status below 0 where it takes a minute of a processor, and it has 8 GiB.
 def bounded():
+    resource.setrlimit(resource.RLIMIT_STACK, (1 << 20, 1 << 20))
     resource.setrlimit(resource.RLIMIT_CPU, (60, 60))
     resource.setrlimit(resource.RLIMIT_AS, (8 << 30, 8 << 30))
 
-print("%-20s %9s %9s %7s" % ("source", "seconds", "peak MiB", "status"))
+beyond = []
+
+# One run, with what it is given on standard input, and its limits in seconds and MiB.
+def measured(name, words, given, limits):
+    with tempfile.TemporaryFile() as file, open(os.devnull, "wb") as nothing:
+        file.write(given)
+        file.seek(0)
+        start = time.perf_counter()
+        child = subprocess.Popen(words, stdin=file, stdout=nothing, stderr=nothing, preexec_fn=bounded)
+        _, status, usage = os.wait4(child.pid, 0)
+        took, peak, code = time.perf_counter() - start, usage.ru_maxrss / 1024, os.waitstatus_to_exitcode(status)
+    within = took <= limits[0] and peak <= limits[1] and code >= 0
+    print("%-22s %9.3f %9.1f %7d%s" % (name, took, peak, code, "" if within else "  beyond"), flush=True)
+    if not within:
+        beyond.append(name)
+
+print("%-22s %9s %9s %7s" % ("source", "seconds", "peak MiB", "status"))
 bounds = lambda: {"limit": 4096, "copies": 100000}
 runs = [(name, made, bounds) for name, made in roomy] + [(name, made, None) for name, made in sources]
-runs += [(name, made, lambda stand_for=stand_for: {"aliases": stand_for()}) for name, made, stand_for in aliased]
+runs += [(name, made, lambda stand_for=stand_for: {"aliases": stand_for()}) for name, made, stand_for in aliased + deep]
 for name, made, configured in runs:
     text = made()
-    words = []
+    words = [program, "derive"]
     if configured:
         config = tempfile.NamedTemporaryFile("w")
         config.write(json.dumps(configured(), separators=(",", ":")))
         config.flush()
-        words = ["--config", config.name]
-    with tempfile.TemporaryFile() as file, open(os.devnull, "wb") as nothing:
-        file.write(text.encode())
-        file.seek(0)
-        start = time.perf_counter()
-        child = subprocess.Popen([program, "derive", *words], stdin=file, stdout=nothing, stderr=nothing, preexec_fn=bounded)
-        _, status, usage = os.wait4(child.pid, 0)
-        took = time.perf_counter() - start
-    print("%-20s %9.3f %9.1f %7d" % (name, took, usage.ru_maxrss / 1024, os.waitstatus_to_exitcode(status)))
+        words += ["--config", config.name]
+    measured(name, words, text.encode(), (8, 500))
+for name, made, words, limits in files:
+    with tempfile.NamedTemporaryFile("w", suffix=".rs") as source, tempfile.NamedTemporaryFile("w", suffix=".json") as document:
+        source.write(made())
+        source.flush()
+        document.write('{"openapi":"3.1.0"}')
+        document.flush()
+        measured(name, [file_program, *[document.name if word == "FILE" else word for word in words], source.name], b"", limits)
+sys.exit(1 if beyond else 0)
 PY
