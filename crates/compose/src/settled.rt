@@ -17,7 +17,7 @@ use std::alloc::Global;
 use syntax::{Declarations, parse_declarations};
 use texts::List;
 
-/// What the declarations are resolved to, and their instances, where nothing is beyond its bound. The declarations are let go.
+/// What the declarations are resolved to, and their instances, where nothing is beyond its bound.
 pub(crate) fn bounded_of(
     alloc: Global,
     declarations: Declarations,
@@ -29,6 +29,8 @@ pub(crate) fn bounded_of(
     ensures refused { Refuses result (AreRefused config.now (declarations_view declarations)) }
 {
     let terms = terms(alloc, &declarations, config)?;
+    // The declarations are dropped before instances are found.
+    drop(declarations);
     let TermSet { resolved, idents } = terms;
     let bounded = within_bounds(alloc, idents.as_slice(), resolved.as_slice(), config)?;
     Ok((resolved, bounded))
