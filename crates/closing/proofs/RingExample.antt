@@ -25,14 +25,14 @@ a = named 0 no_types
 abbrev b : Open
 b = named 1 no_types
 
-abbrev flattens : List ℕ → Open → List MemberOf → DeclarationOf
-flattens name t ms = declares name 0 (named_fields (record { denies = false; flattened = record { annotations = unannotated; of = through Box t } ∷ []; map = None }) ms)
+abbrev flattens : (name field : List ℕ) → Open → List MemberOf → DeclarationOf
+flattens name field t ms = declares name 0 (named_fields (record { denies = false; flattened = record { name = field; annotations = unannotated; of = through Box t } ∷ []; map = None }) ms)
 
 abbrev v_member : MemberOf
 v_member = record { name = codes "v"; required = true; annotations = unannotated; of = any_value }
 
 abbrev ring : List DeclarationOf
-ring = flattens (codes "A") b (v_member ∷ []) ∷ flattens (codes "B") a [] ∷ []
+ring = flattens (codes "A") (codes "b") b (v_member ∷ []) ∷ flattens (codes "B") (codes "a") a [] ∷ []
 
 abbrev a_reference : List ℕ → SchemaOf RefLeaf
 a_reference name = leaf (record { name = name; annotations = no_annotations })

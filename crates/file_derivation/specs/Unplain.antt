@@ -2,6 +2,8 @@
 use Rattle.std.specs.Prelude.{◌≡◌, ℕ, List, [], ◌∷◌, ◌++◌, slice_get, codes, Bool, true, false, Some}
 use Rattle.configuration.specs.Configuration.{Configuration}
 use Rattle.syntax.specs.Items.{DeclaredItem}
+use Rattle.plainness.specs.declared.unplain.Misfit.{Misfit}
+use Rattle.plainness.specs.declared.unplain.Misfit.TheVariants.{NoContent, NoTexts, NotAlone, Denied}
 use Rattle.plainness.specs.declared.unplain.Obstacle.{Obstacle}
 use Rattle.plainness.specs.declared.unplain.Obstacle.TheVariants.{Float, MapKey, TaggedNewtype, Flattened, Unit, NoVariant}
 use Rattle.plainness.specs.declared.unplain.Reason.{Reason}
@@ -12,11 +14,18 @@ use Rattle.telling.specs.declared.told.Told.{Told}
 use Rattle.prepare.specs.declared.file_items.FileItem.{FileItem}
 use Rattle.file_derivation.specs.Elsewhere.{told_at_name}
 
+-- what is said of a flattened field, behind its name
+abbrev pub misfit_text : Misfit → List ℕ
+misfit_text NoContent = codes "flattens what is no struct with named fields, or has deny_unknown_fields or a flattened map"
+misfit_text NoTexts = codes "flattens a map whose key is not String, str or char"
+misfit_text NotAlone = codes "flattens a map beside something else that is flattened"
+misfit_text Denied = codes "is flattened beside deny_unknown_fields"
+
 abbrev pub obstacle_text : Obstacle → List ℕ
 obstacle_text Float = codes "f32 or f64 stands in the type of a field"
 obstacle_text MapKey = codes "a map's key is not String, str, char or an externally tagged enum of unit variants"
 obstacle_text TaggedNewtype = codes "beside `tag`, a newtype variant holds no struct with named fields and without deny_unknown_fields"
-obstacle_text Flattened = codes "it flattens a map beside something else, or what is no struct with named fields and without deny_unknown_fields"
+obstacle_text (Flattened name misfit) = codes "`" ++ (name ++ (codes "` " ++ misfit_text misfit))
 obstacle_text Unit = codes "it is a unit struct, or () stands in the type of a field"
 obstacle_text NoVariant = codes "it is untagged and has no variant that is not skipped"
 

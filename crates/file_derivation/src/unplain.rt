@@ -7,7 +7,7 @@ ghost use Rattle.diag.specs.Refusal.{Refuses};
 ghost use Rattle.syntax.specs.Items.{declaration_view, declarations_view};
 ghost use Rattle.syntax.specs.Named.{AreNamed};
 ghost use Rattle.telling.specs.declared.told.Told.{Told as AnyTold};
-ghost use Rattle.file_derivation.specs.Unplain.{obstacle_text, reason_text, unplain_message, told_unplain, AreUnplainTold, IsPlainTold};
+ghost use Rattle.file_derivation.specs.Unplain.{misfit_text, obstacle_text, reason_text, unplain_message, told_unplain, AreUnplainTold, IsPlainTold};
 ghost use Rattle.file_derivation.specs.Warned.{AreFirst, IsToldFirst};
 
 use crate::elsewhere::told_at_name;
@@ -15,7 +15,7 @@ use crate::warned::{MOST_TOLD, Warnings};
 use compose::unplain_of;
 use configuration::Config;
 use diag::DeriveError;
-use plainness::{Obstacle, Reason, Unplain};
+use plainness::{Misfit, Obstacle, Reason, Unplain};
 use prepare::FileItem;
 use selecting::Selection;
 use std::alloc::{AllocError, Global};
@@ -23,21 +23,45 @@ use syntax::{Declaration, Declarations};
 use telling::Told;
 use texts::{List, Text};
 
-fn obstacle_text(obstacle: Obstacle) -> &'static str
-    ensures { result.now ≡ obstacle_text obstacle }
+/// What is said of the flattened field, behind its name.
+fn misfit_text(misfit: Misfit) -> &'static str
+    ensures { result.now ≡ misfit_text misfit }
+{
+    match misfit {
+        Misfit::NoContent => {
+            "flattens what is no struct with named fields, or has deny_unknown_fields or a flattened map"
+        }
+        Misfit::NoTexts => "flattens a map whose key is not String, str or char",
+        Misfit::NotAlone => "flattens a map beside something else that is flattened",
+        Misfit::Denied => "is flattened beside deny_unknown_fields",
+    }
+}
+
+fn obstacle_text(alloc: Global, obstacle: &Obstacle) -> Result<Text, AllocError>
+    ensures { IfOk result (λ text. text ≡ obstacle_text obstacle.now) }
 {
     match obstacle {
-        Obstacle::Float => "f32 or f64 stands in the type of a field",
-        Obstacle::MapKey =>
+        Obstacle::Float => Text::new(alloc, "f32 or f64 stands in the type of a field"),
+        Obstacle::MapKey => Text::new(
+            alloc,
             "a map's key is not String, str, char or an externally tagged enum of unit variants",
-        Obstacle::TaggedNewtype => {
-            "beside `tag`, a newtype variant holds no struct with named fields and without deny_unknown_fields"
+        ),
+        Obstacle::TaggedNewtype => Text::new(
+            alloc,
+            "beside `tag`, a newtype variant holds no struct with named fields and without deny_unknown_fields",
+        ),
+        Obstacle::Flattened(name, misfit) => {
+            let said = misfit_text(*misfit);
+            Ok(Text::from(format!(in alloc; "`{}` {said}", name.as_str())?))
         }
-        Obstacle::Flattened => {
-            "it flattens a map beside something else, or what is no struct with named fields and without deny_unknown_fields"
-        }
-        Obstacle::Unit => "it is a unit struct, or () stands in the type of a field",
-        Obstacle::NoVariant => "it is untagged and has no variant that is not skipped",
+        Obstacle::Unit => Text::new(
+            alloc,
+            "it is a unit struct, or () stands in the type of a field",
+        ),
+        Obstacle::NoVariant => Text::new(
+            alloc,
+            "it is untagged and has no variant that is not skipped",
+        ),
     }
 }
 
@@ -45,7 +69,7 @@ fn reason_text(alloc: Global, reason: &Reason) -> Result<Text, AllocError>
     ensures { IfOk result (λ text. text ≡ reason_text reason.now) }
 {
     match reason {
-        Reason::Body(obstacle) => Text::new(alloc, obstacle_text(*obstacle)),
+        Reason::Body(obstacle) => obstacle_text(alloc, obstacle),
         Reason::Reaches(name) => Ok(Text::from(format!(in alloc; "it uses {}", name.as_str())?)),
     }
 }

@@ -9,10 +9,11 @@ use Rattle.shapes.specs.Declarations.{FlattenedOf, FlattenedMapOf, FormOf, named
 use Rattle.shapes.specs.Plain.{IsNames, IsKey, IsPlainType, ArePlainTypes, AreAllPlain, IsOpen, IsOpenStruct, IsContent, IsText, AreFlattened, IsPlainBeside, IsPlainForm, AreContent, CanBeTagged, IsPlainVariant, ArePlainVariants, KeepsVariant}
 use Rattle.shapes.specs.declared.tagging.Tagging.{Tagging}
 use Rattle.shapes.specs.declared.tagging.Tagging.TheVariants.{External, Internal, Untagged}
+use Rattle.plainness.specs.declared.unplain.Misfit.TheVariants.{NoContent, NoTexts, NotAlone, Denied}
 use Rattle.plainness.specs.declared.unplain.Obstacle.{Obstacle}
 use Rattle.plainness.specs.declared.unplain.Obstacle.TheVariants as obstacles
 use Rattle.plainness.specs.Laws.{ObstaclesAreExact}
-use Rattle.plainness.specs.Obstacles.{is_names, is_text, is_key, leaf_obstacle, key_obstacle, type_obstacle, types_obstacle, all_obstacle, is_any_text, flattened_obstacle, beside_obstacle, form_obstacle, is_open, is_open_struct, is_content, are_content, content_obstacle, variant_obstacle, variants_obstacle, kept_obstacle}
+use Rattle.plainness.specs.Obstacles.{is_names, is_text, is_key, leaf_obstacle, key_obstacle, type_obstacle, types_obstacle, all_obstacle, is_any_text, field_obstacle, flattened_obstacle, beside_obstacle, form_obstacle, is_open, is_open_struct, is_content, are_content, content_obstacle, variant_obstacle, variants_obstacle, kept_obstacle}
 
 -- ---- nothing, something, two and a test
 
@@ -111,22 +112,22 @@ any_text_exact (leaf x) = text_exact (kind_of x)
 any_text_exact (through h t) = any_text_exact t
 any_text_exact _ = no
 
+field_exact : (ss : List DeclarationOf) (f : FlattenedOf) → IsClear (field_obstacle ss f) ↔ (IsContent ss f.of × IsPlainType ss f.of)
+field_exact ss f = both_clear (cond (is_content ss f.of) None _) (type_obstacle ss f.of) (unless (is_content ss f.of) (obstacles.Flattened f.name NoContent) (content_exact ss f.of)) (type_exact ss f.of)
+
 flattened_exact : (ss : List DeclarationOf) (fs : List FlattenedOf) → IsClear (flattened_obstacle ss fs) ↔ AreFlattened ss fs
 flattened_exact ss [] = nothing
-flattened_exact ss (f ∷ fs) =
-    both_clear (option_or (cond (is_content ss f.of) None (Some obstacles.Flattened)) (type_obstacle ss f.of)) (flattened_obstacle ss fs)
-    (both_clear (cond (is_content ss f.of) None (Some obstacles.Flattened)) (type_obstacle ss f.of) (unless (is_content ss f.of) obstacles.Flattened (content_exact ss f.of)) (type_exact ss f.of))
-    (flattened_exact ss fs)
+flattened_exact ss (f ∷ fs) = both_clear (field_obstacle ss f) (flattened_obstacle ss fs) (field_exact ss f) (flattened_exact ss fs)
 
 beside_exact : (ss : List DeclarationOf) (denies : Bool) (fs : List FlattenedOf) (m : Option FlattenedMapOf) → IsClear (beside_obstacle ss denies fs m) ↔ IsPlainBeside ss denies fs m
 beside_exact ss denies [] None = nothing
 beside_exact ss false [] (Some m) =
-    both_clear (cond (is_any_text m.key) None (Some obstacles.Flattened)) (type_obstacle ss m.value) (unless (is_any_text m.key) obstacles.Flattened (any_text_exact m.key)) (type_exact ss m.value)
+    both_clear (cond (is_any_text m.key) None _) (type_obstacle ss m.value) (unless (is_any_text m.key) (obstacles.Flattened m.name NoTexts) (any_text_exact m.key)) (type_exact ss m.value)
 beside_exact ss false (f ∷ fs) None = flattened_exact ss (f ∷ fs)
-beside_exact ss true [] (Some m) = something obstacles.Flattened
-beside_exact ss false (f ∷ fs) (Some m) = something obstacles.Flattened
-beside_exact ss true (f ∷ fs) None = something obstacles.Flattened
-beside_exact ss true (f ∷ fs) (Some m) = something obstacles.Flattened
+beside_exact ss true [] (Some m) = something (obstacles.Flattened m.name Denied)
+beside_exact ss false (f ∷ fs) (Some m) = something (obstacles.Flattened m.name NotAlone)
+beside_exact ss true (f ∷ fs) None = something (obstacles.Flattened f.name Denied)
+beside_exact ss true (f ∷ fs) (Some m) = something (obstacles.Flattened f.name Denied)
 
 form_exact : (ss : List DeclarationOf) (form : FormOf) → IsClear (form_obstacle ss form) ↔ IsPlainForm ss form
 form_exact ss (named_fields b ms) = turned (both_clear (beside_obstacle ss b.denies b.flattened b.map) (all_obstacle ss (member_types ms)) (beside_exact ss b.denies b.flattened b.map) (all_exact ss (member_types ms)))

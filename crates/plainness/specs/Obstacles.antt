@@ -8,6 +8,7 @@ use Rattle.open_types.specs.Open.{Open, Opens, leaf, any_value, free_object, tup
 use Rattle.shapes.specs.Declarations.{FlattenedOf, FlattenedMapOf, FormOf, named_fields, unnamed_fields, no_fields, VariantOf, BodyOf, fields, units, numbers, variants, DeclarationOf, declaration_at, member_types}
 use Rattle.shapes.specs.declared.tagging.Tagging.{Tagging}
 use Rattle.shapes.specs.declared.tagging.Tagging.TheVariants.{External, Internal, Untagged}
+use Rattle.plainness.specs.declared.unplain.Misfit.TheVariants.{NoContent, NoTexts, NotAlone, Denied}
 use Rattle.plainness.specs.declared.unplain.Obstacle.{Obstacle}
 use Rattle.plainness.specs.declared.unplain.Obstacle.TheVariants.{Float, MapKey, TaggedNewtype, Flattened, Unit, NoVariant}
 
@@ -94,22 +95,24 @@ is_any_text (through h t) = is_any_text t
 is_any_text _ = false
 
 -- what is flattened is no such struct, or has something in the way
-abbrev pub field_obstacle : List DeclarationOf → Open → Option Obstacle
-field_obstacle ss t = option_or (cond (is_content ss t) None (Some Flattened)) (type_obstacle ss t)
+abbrev pub field_obstacle : List DeclarationOf → FlattenedOf → Option Obstacle
+field_obstacle ss f = option_or (cond (is_content ss f.of) None (Some (Flattened f.name NoContent))) (type_obstacle ss f.of)
 
 abbrev pub flattened_obstacle : List DeclarationOf → List FlattenedOf → Option Obstacle
-flattened_obstacle ss fs = first_obstacle (λ f. field_obstacle ss f.of) fs
+flattened_obstacle ss fs = first_obstacle (field_obstacle ss) fs
 
 -- the names of the map are no texts, or something is in the way in its values
 abbrev pub map_obstacle : List DeclarationOf → FlattenedMapOf → Option Obstacle
-map_obstacle ss m = option_or (cond (is_any_text m.key) None (Some Flattened)) (type_obstacle ss m.value)
+map_obstacle ss m = option_or (cond (is_any_text m.key) None (Some (Flattened m.name NoTexts))) (type_obstacle ss m.value)
 
--- a map beside something else that is flattened, and denial beside either, are in the way themselves
+-- denial beside what is flattened, and a map beside something else that is, are in the way themselves
 abbrev pub beside_obstacle : List DeclarationOf → Bool → List FlattenedOf → Option FlattenedMapOf → Option Obstacle
 beside_obstacle ss denies [] None = None
 beside_obstacle ss false [] (Some m) = map_obstacle ss m
 beside_obstacle ss false (f ∷ fs) None = flattened_obstacle ss (f ∷ fs)
-beside_obstacle ss _ _ _ = Some Flattened
+beside_obstacle ss false (f ∷ fs) (Some m) = Some (Flattened m.name NotAlone)
+beside_obstacle ss true [] (Some m) = Some (Flattened m.name Denied)
+beside_obstacle ss true (f ∷ fs) m = Some (Flattened f.name Denied)
 
 abbrev pub form_obstacle : List DeclarationOf → FormOf → Option Obstacle
 form_obstacle ss (named_fields b ms) = option_or (beside_obstacle ss b.denies b.flattened b.map) (all_obstacle ss (member_types ms))

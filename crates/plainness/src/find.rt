@@ -105,8 +105,8 @@ fn reason_at(
     ensures { IfOk result
         (IsReasonAt found.now.edges found.now.obstacles names.now number) }
 {
-    match found.obstacles.as_slice()[number] {
-        Some(obstacle) => Ok(Reason::Body(obstacle)),
+    match &found.obstacles.as_slice()[number] {
+        Some(obstacle) => Ok(Reason::Body(obstacle.copy(alloc)?)),
         None => Ok(Reason::Reaches(names[origin].copy(alloc)?)),
     }
 }

@@ -12,4 +12,4 @@ mod unplain;
 
 pub use find::unplain_instances;
 pub use law::obstacles_are_exact;
-pub use unplain::{Obstacle, Reason, Unplain};
+pub use unplain::{Misfit, Obstacle, Reason, Unplain};

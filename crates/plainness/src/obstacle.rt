@@ -1,6 +1,6 @@
 //! What in the body of an instance its schema cannot say whole.
 
-ghost use Rattle.std.specs.Prelude.{◌≡◌, map, Option, Ok, IfOk};
+ghost use Rattle.std.specs.Prelude.{◌≡◌, map, Option, Some, Ok, IfOk};
 ghost use Rattle.std.specs.Fn.{FnReturnsAt};
 ghost use Rattle.leaves.specs.Leaves.{kind_of};
 ghost use Rattle.open_types.specs.Open.{open_view, opens_of, opens_view, substituted};
@@ -10,13 +10,14 @@ ghost use Rattle.shapes.specs.Views.{member_view, flattened_view, flattened_map_
 ghost use Rattle.plainness.specs.declared.unplain.Obstacle.{Obstacle};
 ghost use Rattle.plainness.specs.Obstacles.{first_obstacle, TellsObstacle, is_names, is_text, is_open_struct, is_key, leaf_obstacle, type_obstacle, types_obstacle, all_obstacle, is_any_text, field_obstacle, flattened_obstacle, map_obstacle, beside_obstacle, form_obstacle, is_content, are_content, content_obstacle, variant_obstacle, variants_obstacle, kept_obstacle, body_obstacle};
 
-use crate::unplain::Obstacle;
+use crate::unplain::{Misfit, Obstacle};
 use leaves::{Leaf, LeafKind};
 use open_types::{ClosedType, OpenType, substitute_first};
 use shapes::{
     Beside, Body, Declaration, Flattened, FlattenedMap, Form, Member, Tagging, Variant, has_map,
 };
 use std::alloc::{AllocError, Global};
+use texts::Text;
 
 /// Whether each value is the name of a variant.
 fn is_names(body: &Body) -> bool
@@ -174,21 +175,27 @@ fn places_obstacle(
     first_obstacle(types, |ty| place_obstacle(alloc, declared, arguments, ty))
 }
 
-/// What is in the way in a flattened field of the type, with the arguments in the places of its parameters.
+/// That the flattened field of the name is in the way, for this reason.
+fn named_misfit(alloc: Global, name: &Text, misfit: Misfit) -> Result<Option<Obstacle>, AllocError>
+    ensures { IfOk result (λ obstacle. obstacle ≡ Some (Obstacle.Flattened name.now misfit)) }
+{
+    Ok(Some(Obstacle::Flattened(name.copy(alloc)?, misfit)))
+}
+
+/// What is in the way in a flattened field, with the arguments in the places of its type's parameters.
 fn field_obstacle(
     alloc: Global,
     declared: &[Declaration],
     arguments: &[ClosedType],
-    ty: &OpenType,
+    field: &Flattened,
 ) -> Result<Option<Obstacle>, AllocError>
     ensures { IfOk result (λ obstacle. obstacle ≡ field_obstacle (map declaration_view declared.now)
-        (substituted (opens_view arguments.now) (open_view ty.now))) }
+        (flattened_over (opens_view arguments.now) (flattened_view field.now))) }
 {
-    let put = substitute_first(alloc, ty, arguments)?;
-    if !is_content(declared, &put) {
-        return Ok(Some(Obstacle::Flattened));
+    if !is_content_over(alloc, declared, arguments, &field.ty)? {
+        return named_misfit(alloc, &field.name, Misfit::NoContent);
     }
-    Ok(type_obstacle(declared, &put))
+    place_obstacle(alloc, declared, arguments, &field.ty)
 }
 
 /// What is in the way in the first of the flattened fields in which something is.
@@ -204,7 +211,7 @@ fn flattened_obstacle(
 {
     first_obstacle(
         flattened,
-        |field| field_obstacle(alloc, declared, arguments, &field.ty),
+        |field| field_obstacle(alloc, declared, arguments, field),
     )
 }
 
@@ -230,7 +237,7 @@ fn map_obstacle(
         (flattened_map_over (opens_view arguments.now) (flattened_map_view flattened.now))) }
 {
     if !is_any_text(&substitute_first(alloc, &flattened.key, arguments)?) {
-        return Ok(Some(Obstacle::Flattened));
+        return named_misfit(alloc, &flattened.name, Misfit::NoTexts);
     }
     place_obstacle(alloc, declared, arguments, &flattened.value)
 }
@@ -254,7 +261,9 @@ fn beside_obstacle(
         (_, [], None) => Ok(None),
         (false, [], Some(map)) => map_obstacle(alloc, declared, arguments, map),
         (false, flattened, None) => flattened_obstacle(alloc, declared, arguments, flattened),
-        _ => Ok(Some(Obstacle::Flattened)),
+        (false, _, Some(map)) => named_misfit(alloc, &map.name, Misfit::NotAlone),
+        (true, [], Some(map)) => named_misfit(alloc, &map.name, Misfit::Denied),
+        (true, [first, ..], _) => named_misfit(alloc, &first.name, Misfit::Denied),
     }
 }
 
@@ -323,6 +332,20 @@ fn is_content(declared: &[Declaration], ty: &OpenType) -> bool
     }
 }
 
+/// Whether the type, with the arguments in the places of its parameters, is such a struct.
+fn is_content_over(
+    alloc: Global,
+    declared: &[Declaration],
+    arguments: &[ClosedType],
+    ty: &OpenType,
+) -> Result<bool, AllocError>
+    ensures { IfOk result (λ is. is ≡ is_content (map declaration_view declared.now)
+        (substituted (opens_view arguments.now) (open_view ty.now))) }
+{
+    let put = substitute_first(alloc, ty, arguments)?;
+    Ok(is_content(declared, &put))
+}
+
 /// Whether the types, with the arguments in the places of their parameters, are one such struct.
 fn are_content(
     alloc: Global,
@@ -334,7 +357,7 @@ fn are_content(
         (map (substituted (opens_view arguments.now)) (map open_view types.now))) }
 {
     match types {
-        [one] => Ok(is_content(declared, &substitute_first(alloc, one, arguments)?)),
+        [one] => is_content_over(alloc, declared, arguments, one),
         _ => Ok(false),
     }
 }

@@ -1,7 +1,23 @@
+ghost use Rattle.std.specs.Prelude.{◌≡◌, IfOk};
+
+use std::alloc::{AllocError, Global};
 use texts::Text;
 
-/// What in the body of an instance its schema cannot say whole.
+/// Why a schema cannot say a flattened field whole.
 #[derive(Clone, Copy, Debug, PartialEq, Eq)]
+pub enum Misfit {
+    /// It holds no struct with named fields that lets others stand beside them.
+    NoContent,
+    /// It is a map whose keys are no texts.
+    NoTexts,
+    /// It is a map beside which something else is flattened.
+    NotAlone,
+    /// Others are denied beside it.
+    Denied,
+}
+
+/// What in the body of an instance its schema cannot say whole.
+#[derive(Debug, Drop, PartialEq, Eq)]
 pub enum Obstacle {
     /// A float.
     Float,
@@ -9,13 +25,28 @@ pub enum Obstacle {
     MapKey,
     /// An internally tagged newtype variant that holds no struct with named fields that lets others stand beside them.
     TaggedNewtype,
-    /// A flattened field that holds no struct with named fields that lets others stand beside them, or a flattened map
-    /// whose keys are no texts or beside which something else is flattened or others are denied.
-    Flattened,
+    /// A flattened field of this name, for this reason.
+    Flattened(Text, Misfit),
     /// The unit, or no fields where it is a struct.
     Unit,
     /// An untagged enum that keeps no variant.
     NoVariant,
+}
+
+impl Obstacle {
+    /// Another with an equal name.
+    pub(crate) fn copy(&self, alloc: Global) -> Result<Obstacle, AllocError>
+        ensures { IfOk result (λ copy. copy ≡ self.now) }
+    {
+        Ok(match self {
+            Obstacle::Float => Obstacle::Float,
+            Obstacle::MapKey => Obstacle::MapKey,
+            Obstacle::TaggedNewtype => Obstacle::TaggedNewtype,
+            Obstacle::Flattened(name, misfit) => Obstacle::Flattened(name.copy(alloc)?, *misfit),
+            Obstacle::Unit => Obstacle::Unit,
+            Obstacle::NoVariant => Obstacle::NoVariant,
+        })
+    }
 }
 
 /// Why an instance is not plain.

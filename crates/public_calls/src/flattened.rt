@@ -46,22 +46,24 @@ fn tag(alloc: Global) -> Result<Tagging, AllocError> {
 }
 
 /// A map of numbers.
-fn map() -> FlattenedMap {
-    FlattenedMap {
+fn map(alloc: Global) -> Result<FlattenedMap, AllocError> {
+    Ok(FlattenedMap {
+        name: Text::new(alloc, "rest")?,
         annotations: unannotated(),
         key: OpenType::Leaf(Leaf::String),
         value: OpenType::Leaf(Leaf::U8),
-    }
+    })
 }
 
 /// Any value and a map, flattened.
 fn beside(alloc: Global) -> Result<Box<Beside>, AllocError> {
     let mut flattened = List::new(alloc);
     flattened.push(Flattened {
+        name: Text::new(alloc, "a")?,
         annotations: unannotated(),
         ty: OpenType::AnyValue,
     })?;
-    let map = Some(map());
+    let map = Some(map(alloc)?);
     Ok(Box::new(alloc, Beside { flattened, map })?)
 }
 

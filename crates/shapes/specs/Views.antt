@@ -18,10 +18,10 @@ abbrev pub member_view : Member → MemberOf
 member_view m = record { name = m.name; required = m.required; annotations = m.annotations; of = open_view m.ty }
 
 abbrev pub flattened_view : Flattened → FlattenedOf
-flattened_view f = record { annotations = f.annotations; of = open_view f.ty }
+flattened_view f = record { name = f.name; annotations = f.annotations; of = open_view f.ty }
 
 abbrev pub flattened_map_view : FlattenedMap → FlattenedMapOf
-flattened_map_view m = record { annotations = m.annotations; key = open_view m.key; value = open_view m.value }
+flattened_map_view m = record { name = m.name; annotations = m.annotations; key = open_view m.key; value = open_view m.value }
 
 -- what is flattened stands in a box, where something is
 abbrev pub beside_view : Bool → Option (Box Beside Global) → BesideOf

@@ -26,6 +26,8 @@ pub struct Member {
 /// A flattened field that is no map.
 #[derive(Debug, Drop)]
 pub struct Flattened {
+    /// The field's identifier, for reports: it has no name in JSON.
+    pub name: Text,
     pub annotations: Annotations,
     pub ty: OpenType,
 }
@@ -33,6 +35,8 @@ pub struct Flattened {
 /// A flattened map: the members that have no name of their own are its entries.
 #[derive(Debug, Drop)]
 pub struct FlattenedMap {
+    /// The field's identifier, for reports: it has no name in JSON.
+    pub name: Text,
     pub annotations: Annotations,
     /// The type of its keys.
     pub key: OpenType,

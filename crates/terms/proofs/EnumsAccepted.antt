@@ -348,11 +348,11 @@ module _ (none : SubstitutedNone) where
 
   all-flattened-stay : (fs : List FlattenedOf) → map_over (flattened_over no_types) fs ≡ fs
   all-flattened-stay [] = refl
-  all-flattened-stay (f ∷ fs) = λ i. record { annotations = f.annotations; of = none f.of i } ∷ all-flattened-stay fs i
+  all-flattened-stay (f ∷ fs) = λ i. record f { of = none f.of i } ∷ all-flattened-stay fs i
 
   map-stays : (x : Option FlattenedMapOf) → option_map (flattened_map_over no_types) x ≡ x
   map-stays None = refl
-  map-stays (Some m) = λ i. Some (record { annotations = m.annotations; key = none m.key i; value = none m.value i })
+  map-stays (Some m) = λ i. Some (record m { key = none m.key i; value = none m.value i })
 
   beside-stays : (b : BesideOf) → beside_over no_types b ≡ b
   beside-stays b = λ i. record { denies = b.denies; flattened = all-flattened-stay b.flattened i; map = map-stays b.map i }

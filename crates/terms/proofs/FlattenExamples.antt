@@ -23,7 +23,7 @@ x_member = record { name = codes "x"; required = true; annotations = unannotated
 
 -- A at place 0, flattened
 abbrev flat : FlattenedOf
-flat = record { annotations = unannotated; of = named 0 no_types }
+flat = record { name = codes "a"; annotations = unannotated; of = named 0 no_types }
 
 -- what is said of the map: `/** Rest. */ #[deprecated]`
 abbrev rest : Annotations
@@ -33,7 +33,7 @@ abbrev said : AnnotationKeywords
 said = annotated true (Some (codes "Rest."))
 
 abbrev a_map : Open → FlattenedMapOf
-a_map value = record { annotations = rest; key = leaf StringLeaf; value = value }
+a_map value = record { name = codes "rest"; annotations = rest; key = leaf StringLeaf; value = value }
 
 abbrev beside : Bool → List FlattenedOf → Option FlattenedMapOf → BesideOf
 beside denies fs m = record { denies = denies; flattened = fs; map = m }

@@ -27,6 +27,7 @@ fn flattened_fields(alloc: Global, given: &Value) -> Result<List<Flattened>, All
     let mut flattened = List::new(alloc);
     if is_said(given, "struct") {
         flattened.push(Flattened {
+            name: Text::new(alloc, "a")?,
             annotations: unannotated(),
             ty: OpenType::Named(0, List::new(alloc)),
         })?;
@@ -40,6 +41,7 @@ fn flattened_map(alloc: Global, given: &Value) -> Result<Option<FlattenedMap>, A
         return Ok(None);
     }
     Ok(Some(FlattenedMap {
+        name: Text::new(alloc, "rest")?,
         annotations: Annotations {
             deprecated: false,
             description: Some(Text::new(alloc, "Rest.")?),

@@ -10,4 +10,4 @@ pub returns : goal.returns
 returns c =
     let ss = map declaration_view c.args.declared.now in
     let args = opens_view c.args.arguments.now in
-    first_told _ _ _ _ _ c.first_obstacle.ensures (first_mapped (λ f. field_obstacle ss f.of) (flattened_over args) flattened_view c.args.flattened.now) (λ field found k. search rules)
+    first_told _ _ _ _ _ c.first_obstacle.ensures (first_mapped (field_obstacle ss) (flattened_over args) flattened_view c.args.flattened.now) (λ field found k. search rules)

@@ -1,5 +1,6 @@
-use Rattle.std.proofs.Common.{◌<◌, ◌∙◌, length, map, is_some, sym, subst, arith}
+use Rattle.std.proofs.Common.{◌<◌, ◌∙◌, length, map, is_some, None, ap, sym, subst, arith}
 use Rattle.std.proofs.lemmas.Bool.{false≢true}
+use Rattle.std.proofs.lemmas.List.{get_or_read}
 use Rattle.inlining.specs.Found.{AreFound}
 use Rattle.plainness.proofs.Leading.{found-none, own-none, own-more, own-same, hindered-below}
 use Rattle.plainness.proofs.origins.hindered.Goals as goal
@@ -19,16 +20,17 @@ loop-number-preserved c =
     let obstacles = c.args.obstacles.now in
     let k = c.loop-number.number in
     let walk = c.loop-number.walk in
+    let read = c.is_some.ensures ∙ ap is_some (get_or_read obstacles k c.index-obstacles-number.result (omega arith) c.index-obstacles-number.is None) in
     elim c.if-is_some.branch [
       | then-is_some+in_ok-add w ↦
-          let own = own-more obstacles k walk.origins.items w.add.new.self.origins.items walk.numbers w.add.new.self.numbers (sym c.is_some.ensures ∙ w.if-is_some.true) c.loop-number.invariant.own w.in_ok-add.ensures.given w.in_ok-add.ensures.grown in
+          let own = own-more obstacles k walk.origins.items w.add.new.self.origins.items walk.numbers w.add.new.self.numbers (sym read ∙ w.if-is_some.true) c.loop-number.invariant.own w.in_ok-add.ensures.given w.in_ok-add.ensures.grown in
           rw w.walk-is (record {
             many = w.in_ok-add.ensures.many ∙ c.loop-number.invariant.many;
             found = w.in_ok-add.ensures.found;
             own = own;
           })
       | else-is_some w ↦
-          let own = own-same obstacles k walk.origins.items walk.numbers (λ p. false≢true (sym w.if-is_some.false ∙ c.is_some.ensures ∙ p)) c.loop-number.invariant.own in
+          let own = own-same obstacles k walk.origins.items walk.numbers (λ p. false≢true (sym w.if-is_some.false ∙ read ∙ p)) c.loop-number.invariant.own in
           rw w.walk-is (record {
             many = c.loop-number.invariant.many;
             found = c.loop-number.invariant.found;
