@@ -1,9 +1,10 @@
 //! Serde's items by their names.
 
-ghost use Rattle.std.specs.Prelude.{◌≡◌, ◌||◌, option_map};
+ghost use Rattle.std.specs.Prelude.{◌≡◌, ◌||◌, map, option_map};
+ghost use Rattle.attributes.specs.Attributes.{attribute_view, serde_items};
 ghost use Rattle.serde_rules.specs.Items.{is_named, literal_for, has_item};
 
-use attributes::{SerdeItem, SerdeText};
+use attributes::{Attribute, SerdeItem, SerdeText};
 
 /// Whether the item has the name.
 pub fn is_named(item: &SerdeItem, name: &str) -> bool
@@ -36,6 +37,18 @@ pub fn has_item(items: &[SerdeItem], name: &str) -> bool
 {
     for item in items {
         if is_named(item, name) {
+            return true;
+        }
+    }
+    false
+}
+
+/// Whether an item of the name is among those of the attributes.
+pub fn stands_before(attributes: &[Attribute], name: &str) -> bool
+    ensures { result ≡ has_item name.now (serde_items (map attribute_view attributes.now)) }
+{
+    for attribute in attributes {
+        if has_item(attribute.items.as_slice(), name) {
             return true;
         }
     }

@@ -15,7 +15,7 @@ mod value;
 pub use container::{SerdeContainer, parse_container};
 pub use enum_repr::SerdeEnumRepr;
 pub use equality::{representations_are_equal, rules_are_equal};
-pub use items::has_item;
+pub use items::{has_item, stands_before};
 pub use law::{container_rules_are_one, last_text_counts, lists_are_one, rules_are_found_by_name};
 pub use required::is_required;
 pub use rows::{FieldRename, NoRow, Rename, VariantRename};

@@ -4,7 +4,7 @@ ghost use Rattle.std.specs.Prelude.{◌≡◌, ◌++◌, map, OnOk};
 ghost use Rattle.std.specs.List.{flat_map, list_any};
 ghost use Rattle.attributes.specs.Attributes.{attribute_view};
 ghost use Rattle.warnings.specs.Rules.{warning_view, rule_view, warned_by, harmless, known_on_tuple, is_among, unread, warnings_of_item};
-ghost use Rattle.warnings.specs.Before.{stands_before, warnings_of_attribute, warnings_before};
+ghost use Rattle.warnings.specs.Before.{warnings_of_attribute, warnings_before};
 ghost use Rattle.serde_rules.specs.Items.{is_named};
 
 use crate::paths::push_path;
@@ -14,7 +14,6 @@ use crate::rules::{
 };
 use crate::warning::Warning;
 use attributes::{Attribute, SerdeItem};
-use serde_rules::has_item;
 use std::alloc::AllocError;
 use texts::List;
 
@@ -51,18 +50,6 @@ fn is_known_on_tuple(item: &SerdeItem) -> bool
     ensures { result ≡ is_among known_on_tuple item.now }
 {
     is_among(item, &KNOWN_ON_TUPLE)
-}
-
-/// Whether an item of the name stands before something.
-pub(crate) fn stands_before(attributes: &[Attribute], name: &str) -> bool
-    ensures { result ≡ stands_before (map attribute_view attributes.now) name.now }
-{
-    for attribute in attributes {
-        if has_item(attribute.items.as_slice(), name) {
-            return true;
-        }
-    }
-    false
 }
 
 /// Adds what the rule says of the item at the place.

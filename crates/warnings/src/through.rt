@@ -9,8 +9,8 @@ ghost use Rattle.written_types.specs.Written.{written_view, segment_view, segmen
 ghost use Rattle.syntax.specs.Items.{field_view, body_view, declaration_view};
 ghost use Rattle.warnings.specs.Through.{last_segment, last_of, last_name, argument_in, argument_of, first_argument, pointers, declarations_of, only_field, is_passed_over, content_of, declared, next_of_segment, next, through};
 
-use crate::items::stands_before;
 use scopes::Places;
+use serde_rules::stands_before;
 use syntax::{Body, Declaration, Field, Fields};
 use written_types::{GenericArgument, Ident, PathSegment, WrittenType};
 

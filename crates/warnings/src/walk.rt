@@ -10,14 +10,14 @@ ghost use Rattle.warnings.specs.Rules.{warning_view};
 ghost use Rattle.warnings.specs.Through.{declarations_of};
 ghost use Rattle.warnings.specs.Warned.{field_place, warnings_of_member, warnings_of_field, warnings_of_named, warnings_of_unnamed, warnings_of_fields, have_names, warnings_of_variant, has_named_variant, struct_place, enum_place, warnings_of_body, warnings_of};
 
-use crate::items::{push_attributes, stands_before};
+use crate::items::push_attributes;
 use crate::keys::push_keys;
 use crate::rules::Place;
 use crate::types::{is_option, push_option};
 use crate::warning::Warning;
 use attributes::Attribute;
 use scopes::Places;
-use serde_rules::{SerdeValue, parse_value};
+use serde_rules::{SerdeValue, parse_value, stands_before};
 use std::alloc::{AllocError, Global};
 use syntax::{Body, Declaration, Field, Fields, Variant};
 use texts::List;
