@@ -46,6 +46,10 @@ def chained(levels, often):
 def inlining(which):
     return " ".join("struct A%d { p: (%s) }" % (at, "".join("A%d, " % t for t in which(at)) or "bool, bool") for at in range(4096))
 
+# A struct with so many flattened fields, and more behind them.
+def flattening(many, behind=""):
+    return "struct A { x: bool } struct S { " + "#[serde(flatten)]a:A," * many + behind + " }"
+
 # Doublings of an argument: behind seven of them it has 255 names.
 def doubled(levels):
     parts = ["struct D%d<T> { n: D%d<P<T, T>> }" % (at, at + 1) for at in range(levels)]
@@ -65,6 +69,7 @@ roomy = [
     ("groups of 4,096", lambda: inlining(lambda at: [t for t in range(at + 1, at + 4) if t // 4 == at // 4])),
     ("4,033 instances", lambda: products(62, 64)),
     ("4,161 instances", lambda: products(64, 64)),
+    ("4,096 flatten the next", lambda: " ".join("struct A%d { #[serde(flatten)] n: Box<A%d> }" % (at, (at + 1) % 4096) for at in range(4096))),
 ]
 sources = [
     ("20,000 fields", lambda: "struct S { " + ", ".join("f%d: %s" % (k, ("u64", "Option<String>", "Vec<bool>", "Box<S>")[k % 4]) for k in range(20000)) + " }"),
@@ -79,6 +84,9 @@ sources = [
     ("32 levels of 255", lambda: chained(32, 255)),
     ("33 levels of 255", lambda: chained(33, 255)),
     ("9,000 copies", lambda: " ".join("struct A%d { p: (%s) }" % (at, "A0, " * 9) for at in range(1, 1000)) + " struct A0 { " + ", ".join("f%d: Option<Vec<String>>" % k for k in range(39)) + " }"),
+    ("45,000 flattened", lambda: flattening(45000)),
+    ("two maps among them", lambda: flattening(45000, "#[serde(flatten)]b:Map<A,A>," * 2)),
+    ("33 flatten arguments", lambda: "struct A { x: bool } struct F<T> { #[serde(flatten)] t: T } struct R { #[serde(flatten)] r: %sA%s }" % ("F<" * 33, ">" * 33)),
     ("one comment", lambda: "/*" + "x" * (size - 4) + "*/"),
     ("nested comments", lambda: "/*" * (size // 4) + "*/" * (size // 4)),
     ("open comments", lambda: filled("/*")),

@@ -96,12 +96,12 @@ fn settle(
 
 /// The terms of the declarations.
 ///
-/// A refusal is of kind `Syntax`, at the first attribute of `schema` or `repr` or one of `serde` that flattens: nothing is
-/// derived from these. Else it is of kind `DuplicateName`, `SerdeTag`, `BadValue`, `MissingRow`, `UnknownType`, `Arity`,
-/// `BadArgument`, `TypeSize` or `TaggedTuple`: a name that two declarations have comes first; then, declaration by
-/// declaration, a parameter given twice, what serde's attributes of a struct, an enum or a variant contradict, what is wrong
-/// with the name of a field or a variant, with a field's type or with a variant's tag, before a name that two of them have; a
-/// form of unnamed fields without a field is `Arity`.
+/// A refusal is of kind `Syntax`, at the first attribute of `schema` or `repr`: nothing is derived from these. Else it is of
+/// kind `DuplicateName`, `SerdeTag`, `BadValue`, `MissingRow`, `UnknownType`, `Arity`, `BadArgument`, `TypeSize`,
+/// `FlattenedMaps` or `TaggedTuple`: a name that two declarations have comes first; then, declaration by declaration, a
+/// parameter given twice, what serde's attributes of a struct, an enum or a variant contradict, what is wrong with flattened
+/// fields, with the name of a field or a variant, with a field's type or with a variant's tag, before a name that two of them
+/// have; a form of unnamed fields without a field is `Arity`.
 pub fn terms(
     alloc: Global,
     declarations: &Declarations,

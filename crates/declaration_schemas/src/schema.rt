@@ -72,7 +72,8 @@ impl<'a> Schema<'a> {
         resolve_declaration(alloc, &root, self.body)
     }
 
-    /// The types of the declaration's places, in order. It is refused as `resolve` is.
+    /// The types of the declaration's places, in order; of named fields those that are flattened come first, and of a flattened
+    /// map both of its types. It is refused as `resolve` is.
     pub fn place_types(&self, alloc: Global) -> Result<List<OpenType>, DeriveError>
         requires { IsNamedBody (body_view self.now.body.now) }
         ensures types { IfOk result (λ ts. option_map (λ of. body_types of.body)

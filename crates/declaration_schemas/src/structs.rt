@@ -20,7 +20,8 @@ use syntax::Field;
 /// A struct without fields. Its schema has null as its default, which does not say that it is deprecated.
 pub type UnitStructVariant = BodySchema<NoFields>;
 
-/// A struct with named fields. Its schema is an object with a property for each field that serde does not skip.
+/// A struct with named fields. Its schema is an object with a property for each field that serde neither skips nor flattens;
+/// beside flattened fields that are no maps it is an `allOf` of their schemas and of this object.
 pub type NamedStructSchema = BodySchema<NamedFields>;
 
 /// A struct with unnamed fields. One field is read as its content, several as a list.
@@ -41,13 +42,14 @@ impl BodySchema<NamedFields> {
     ///
     /// A refusal is of kind `SerdeTag` or `BadValue`, for serde's attributes of the struct; or, of the fields that are
     /// kept, `UnknownType`, `Arity`, `BadArgument` or `TypeSize`, for the type of one; `MissingRow`, at an identifier whose
-    /// name is that of a row that there is not; or `DuplicateName`, at the first identifier whose name stands before it.
+    /// name is that of a row that there is not; `DuplicateName`, at the first identifier whose name stands before it; or
+    /// `FlattenedMaps`, at the second flattened field whose type is a map.
     pub fn new(alloc: Global, root: &Root<'_>, fields: &[Field]) -> Result<Self, DeriveError>
         requires { AllByRecursion HasName (map field_view fields.now) }
         ensures made { IfOk result
             (IsMadeOf root.now (struct_of root.now (named (map field_view fields.now)))) }
         ensures refused { Refuses result
-            (AreFaultyNamed (known root.now.container.now) (items_of root.now)
+            (AreFaultyNamed (known root.now.container.now) (items_of root.now) root.now.ident.now
             (map field_view fields.now)) }
     {
         let form = named_form(alloc, root, fields)?;

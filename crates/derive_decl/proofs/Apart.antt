@@ -10,10 +10,10 @@ use Rattle.serde_rules.specs.Container.{rename_rule}
 use Rattle.attributes.specs.declared.serde_item.SerdeItem.{SerdeItem}
 use Rattle.syntax.specs.Items.{FieldItem, named, unnamed, unit, VariantItem, struct_body, enum_body, DeclaredItem}
 use Rattle.resolving.specs.Resolved.{resolved_type}
-use Rattle.shapes.specs.Declarations.{alone, named_fields, unnamed_fields, no_fields, VariantOf, BodyOf, fields, units, variants, DeclarationOf, member_names, form_names, variant_names, telling, IsApartVariant, AreApartVariants, IsApartBody, AreApartBodies}
+use Rattle.shapes.specs.Declarations.{unnamed_fields, no_fields, VariantOf, BodyOf, fields, units, variants, DeclarationOf, member_names, form_names, variant_names, telling, IsApartVariant, AreApartVariants, IsApartBody, AreApartBodies}
 use Rattle.shapes.specs.declared.tagging.Tagging.{Tagging}
 use Rattle.derive_decl.specs.Attributed.{attributes_with, are_derivable}
-use Rattle.serde_names.specs.Kept.{kept, kept_variants}
+use Rattle.serde_names.specs.Kept.{own, kept_variants}
 use Rattle.derive_decl.specs.Fields.{field_rules, are_allowed}
 use Rattle.derive_decl.specs.Lifetimes.{parameters_are_distinct}
 use Rattle.derive_decl.specs.Law.{FormsAreApart, UnitsAreApart, VariantsAreApart, PlainAreApart, MixedAreApart, BodiesAreApart, ItemsAreApart, DeclarationsAreApart}
@@ -21,6 +21,7 @@ use Rattle.derive_decl.specs.Tags.{can_be_tagged, tag_is_taken, tag_stands}
 use Rattle.derive_decl.specs.Variants.{tagging_in, are_units, are_told, variant_name}
 use Rattle.derive_decl.specs.Resolved.{Around, around_of, all_of, passing, member_of, members_are_distinct, named_form, form_of, variant_of, variants_are_told, units_of, mixed_of, enum_of, enum_by, body_of, derived_body, declaration_from, declaration_of}
 use Rattle.derive_decl.specs.Whole.{resolved_among}
+use Rattle.derive_decl.proofs.NamedForms.{named_parts}
 use Rattle.derive_decl.proofs.Parts.{variant_parts}
 use Rattle.derive_decl.proofs.TagLaws.{distinct_beside}
 use Rattle.derive_decl.proofs.Values.{joined, chosen, passed, distinct_from}
@@ -28,8 +29,8 @@ use Rattle.derive_decl.proofs.Values.{joined, chosen, passed, distinct_from}
 pub forms_apart : FormsAreApart
 forms_apart around items (named fs) form is =
     let rules = field_rules items in
-    let found = mapped (named_fields (alone rules.denies)) (passing members_are_distinct (all_of (member_of around rules) (kept fs))) form (chosen (are_allowed items) (named_form around rules fs) form is).1 in
-    subst (λ f. IsDistinct (form_names f)) found.2 (distinct_from (member_names found.0) (passed members_are_distinct (all_of (member_of around rules) (kept fs)) found.0 found.1).1)
+    let parts = named_parts around rules fs form (chosen (are_allowed items) (named_form around rules fs) form is).1 in
+    subst (λ f. IsDistinct (form_names f)) parts.is (distinct_from (member_names parts.members) (passed members_are_distinct (all_of (member_of around rules) (own fs)) parts.members parts.own).1)
 forms_apart around items (unnamed []) form is = absurd (none-some form is)
 forms_apart around items (unnamed (f ∷ fs)) form is =
     subst (λ f. IsDistinct (form_names f)) (mapped unnamed_fields (all_of (λ (g : FieldItem). resolved_type around.known g.ty) (f ∷ fs)) form is).2 tt

@@ -1,14 +1,19 @@
 -- What bodies are resolved to, by the tests that the program makes before.
-use Rattle.std.proofs.Common.{◌≡◌, ◌∙◌, List, Some, None, Result, IfOk, is_none, true, false, cond, ap}
+use Rattle.std.proofs.Common.{◌≡◌, ◌∙◌, List, Option, Some, None, Result, IfOk, is_none, Bool, true, false, cond, ap}
+use Rattle.std.proofs.lemmas.Bool.{false≢true}
 use Rattle.std.proofs.lemmas.Result.{IfOk-weaker}
 use Rattle.diag.specs.declared.error.DeriveError.{DeriveError}
 use Rattle.attributes.specs.Attributes.{AttributeItem, serde_items}
 use Rattle.attributes.specs.declared.serde_item.SerdeItem.{SerdeItem}
 use Rattle.syntax.specs.Items.{VariantItem, BodyItem}
 use Rattle.shapes.specs.Declarations.{BodyOf}
-use Rattle.derive_decl.specs.Attributed.{attributes_with, first_other}
+use Rattle.derive_decl.specs.Attributed.{attributes_with, first_other, are_derivable}
 use Rattle.derive_decl.specs.Variants.{are_units}
 use Rattle.derive_decl.specs.Resolved.{Around, units_of, mixed_of, enum_of, enum_by, plain_body, mixed_body, body_of, derived_body}
+
+taken : {B : Type 0} (b : Bool) (o : Option B) (x : B) → b ≡ true → o ≡ Some x → cond b o None ≡ Some x
+taken true o x holds is = is
+taken false o x holds is = absurd (false≢true holds)
 
 module _ {A : Type 0} (view : A → BodyOf) (r : Result A DeriveError) (around : Around) where
   -- no variant has fields, and one has
@@ -26,4 +31,5 @@ module _ {A : Type 0} (view : A → BodyOf) (r : Result A DeriveError) (around :
   pub derivable_body : (attributes : List AttributeItem) (body : BodyItem) → first_other (attributes_with attributes body) ≡ None → IfOk r (λ b. body_of around (serde_items attributes) body ≡ Some (view b)) →
       IfOk r (λ b. derived_body around attributes body ≡ Some (view b))
   derivable_body attributes body none =
-      IfOk-weaker r _ _ (λ b is. ap (λ derivable. cond derivable (body_of around (serde_items attributes) body) None) (ap is_none none) ∙ is)
+      IfOk-weaker r (λ b. body_of around (serde_items attributes) body ≡ Some (view b)) (λ b. derived_body around attributes body ≡ Some (view b))
+      (λ b is. taken (are_derivable (attributes_with attributes body)) (body_of around (serde_items attributes) body) (view b) (ap is_none none) is)

@@ -25,21 +25,22 @@ use Rattle.resolving.specs.Resolved.{resolved_type, ResolutionIsExact}
 use Rattle.scopes.specs.Names.{texts, are_distinct, IsGivenTwice}
 use Rattle.scopes.specs.Parameters.{parameters_of}
 use Rattle.scopes.specs.declared.parameters.ParameterKind.TheVariants.{TypesAndConstants}
-use Rattle.shapes.specs.Declarations.{MemberOf, FormOf, alone, named_fields, unnamed_fields, VariantOf, BodyOf, fields, units, variants, DeclarationOf, member_names, variant_names, telling}
+use Rattle.shapes.specs.Declarations.{MemberOf, FormOf, unnamed_fields, VariantOf, BodyOf, fields, units, variants, DeclarationOf, member_names, variant_names, telling}
 use Rattle.shapes.specs.declared.tagging.Tagging.{Tagging}
 use Rattle.shapes.specs.declared.tagging.Tagging.TheVariants.{External, Internal, Adjacent, Untagged}
 use Rattle.derive_decl.specs.Attributed.{attributes_with, are_derivable}
-use Rattle.serde_names.specs.Kept.{value_of, kept, kept_variants, value_of_variant}
+use Rattle.serde_names.specs.Kept.{value_of, own, flattened, kept_variants, value_of_variant}
 use Rattle.serde_names.specs.Names.{name_by, IsUnwritten}
 use Rattle.derive_decl.specs.Fields.{FieldRules, field_rules, are_allowed, written_idents}
 use Rattle.derive_decl.specs.Lifetimes.{lifetimes_of, parameters_are_distinct}
 use Rattle.derive_decl.specs.Tags.{can_be_tagged, tag_is_taken, tag_stands, IsMisplacedTag}
 use Rattle.derive_decl.specs.Variants.{tagging_by, tagging_in, are_units, are_told, variant_name, telling_idents}
-use Rattle.derive_decl.specs.Resolved.{Around, around_of, all_of, passing, member_of, members_are_distinct, named_form, form_of, variant_of, variants_are_told, units_of, mixed_of, enum_of, enum_by, plain_body, mixed_body, body_of, derived_body, declaration_from, declaration_of, resolved_of}
-use Rattle.derive_decl.specs.Faults.{IsFaultyType, IsFaultyMember, AreFaultyMembers, AreFaultyFields, IsUnnamed, AreUnnamed, IsFaultyVariant, AreFaultyVariants, IsFaultyBy, IsFaultyPlain, IsFaultyEnum, IsFaultyBody, IsFaultyDeclaration, IsFaultyItem, AreFaultyItems}
+use Rattle.derive_decl.specs.Resolved.{Around, around_of, all_of, passing, member_of, members_are_distinct, members_of, TypedOf, typed_of, maps_among, has_one_map, flattened_fields, named_form, form_of, variant_of, variants_are_told, units_of, mixed_of, enum_of, enum_by, plain_body, mixed_body, body_of, derived_body, declaration_from, declaration_of, resolved_of}
+use Rattle.derive_decl.specs.Faults.{IsFaultyType, IsFaultyMember, AreFaultyMembers, AreSeveralMaps, AreFaultyFlattened, AreFaultyFields, IsUnnamed, AreUnnamed, IsFaultyVariant, AreFaultyVariants, IsFaultyBy, IsFaultyPlain, IsFaultyEnum, IsFaultyBody, IsFaultyDeclaration, IsFaultyItem, AreFaultyItems}
 use Rattle.configuration.specs.Configuration.{Configuration}
 use Rattle.derive_decl.specs.Whole.{resolved_among, resolved_declarations}
 use Rattle.derive_decl.proofs.EnumLaws.{units-unnamed}
+use Rattle.derive_decl.proofs.NamedForms.{named_parts, one_clear}
 use Rattle.derive_decl.proofs.Parts.{member_parts, member_texts, variant_parts, variants_named, telling_texts}
 use Rattle.derive_decl.proofs.TagLaws.{free_tag}
 use Rattle.derive_decl.proofs.Values.{chosen, passed, distinct_from, all_clear}
@@ -101,19 +102,34 @@ module _ (exact : ResolutionIsExact) (once : NamesOnce) (allowed : RulesAllowed)
       let same : x ≡ parts.ident = same_Some x parts.ident (sym at ∙ parts.is) in
       written_clear Field around.rows rules.rule (value_of f) parts.ident m.name parts.named e (subst (λ y. IsUnwritten Field around.rows rules.rule (value_of f) y e) same unwritten)
 
-  members_clear : (around : Around) (rules : FieldRules) (fs : List FieldItem) (form : FormOf) → named_form around rules fs ≡ Some form → RefusesNone (AreFaultyMembers around rules fs)
-  members_clear around rules fs form is =
-      let found = mapped (named_fields (alone rules.denies)) (passing members_are_distinct (all_of (member_of around rules) (kept fs))) form is in
-      let all = passed members_are_distinct (all_of (member_of around rules) (kept fs)) found.0 found.1 in
+  members_clear : (around : Around) (rules : FieldRules) (fs : List FieldItem) (ms : List MemberOf) → members_of around rules fs ≡ Some ms → RefusesNone (AreFaultyMembers around rules fs)
+  members_clear around rules fs ms is =
+      let all = passed members_are_distinct (all_of (member_of around rules) (own fs)) ms is in
       λ e fault. elim fault [
-        | inl somewhere ↦ all_clear (member_of around rules) (IsFaultyMember around rules) (member_clear around rules) (kept fs) found.0 all.0 e somewhere
-        | inr twice ↦ twice_clear (written_idents around.rows rules.rule (kept fs)) (member_names found.0) (member_texts around rules (kept fs) found.0 all.0) all.1 e twice
+        | inl somewhere ↦ all_clear (member_of around rules) (IsFaultyMember around rules) (member_clear around rules) (own fs) ms all.0 e somewhere
+        | inr twice ↦ twice_clear (written_idents around.rows rules.rule (own fs)) (member_names ms) (member_texts around rules (own fs) ms all.0) all.1 e twice
+      ]
+
+  typed_clear : (around : Around) (f : FieldItem) (t : TypedOf) → typed_of around f ≡ Some t → RefusesNone (IsFaultyType around f)
+  typed_clear around f t is = let of = mapped (λ u. record { field = f; of = u }) (resolved_type around.known f.ty) t is in type_clear around f of.0 of.1
+
+  flattened_clear : (around : Around) (x : Ident) (fs : List FieldItem) (ts : List TypedOf) → flattened_fields around fs ≡ Some ts → RefusesNone (AreFaultyFlattened around x fs)
+  flattened_clear around x fs ts is =
+      let all = passed has_one_map (all_of (typed_of around) (flattened fs)) ts is in
+      λ e fault. elim fault [
+        | inl somewhere ↦ all_clear (typed_of around) (IsFaultyType around) (typed_clear around) (flattened fs) ts all.0 e somewhere
+        | inr (us, at, several) ↦ one_clear x ts all.1 e (subst (λ vs. AreSeveralMaps x (maps_among vs) e) (same_Some us ts (sym at ∙ all.0)) several)
       ]
 
   pub form_clear : (around : Around) (items : List SerdeItem) (x : Ident) (fs : FieldItems) (form : FormOf) → form_of around items fs ≡ Some form → RefusesNone (AreFaultyFields around items x fs)
   form_clear around items x (named fs) form is e fault =
       let named_is = chosen (are_allowed items) (named_form around (field_rules items) fs) form is in
-      elim fault [ inl refused ↦ items_clear items named_is.0 e refused | inr faulty ↦ members_clear around (field_rules items) fs form named_is.1 e faulty ]
+      let parts = named_parts around (field_rules items) fs form named_is.1 in
+      elim fault [
+        | inl refused ↦ items_clear items named_is.0 e refused
+        | inr (inl faulty) ↦ members_clear around (field_rules items) fs parts.members parts.own e faulty
+        | inr (inr faulty) ↦ flattened_clear around x fs parts.beside parts.flattened e faulty
+      ]
   form_clear around items x (unnamed []) form is e fault = none-some form is
   form_clear around items x (unnamed (f ∷ fs)) form is e (inl somewhere) =
       let found = mapped unnamed_fields (all_of (λ (g : FieldItem). resolved_type around.known g.ty) (f ∷ fs)) form is in

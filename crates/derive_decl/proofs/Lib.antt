@@ -8,6 +8,7 @@ pub mod EnumLaws
 pub mod Over
 pub mod Owners
 pub mod Values
+pub mod NamedForms
 pub mod Parts
 pub mod Clear
 pub mod Resolved

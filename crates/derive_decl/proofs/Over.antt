@@ -1,5 +1,6 @@
 -- What the resolved declarations of all declarations say: their names, and that their types fit.
-use Rattle.std.proofs.Common.{ℕ, zero, suc, ◌<◌, List, [], ◌∷◌, ◌++◌, Option, Some, option_and_then, Bool, true, false, cond, length, ◌≡◌, refl, ap, sym, subst, ◌∙◌, arith, slice_index}
+use Rattle.std.proofs.Common.{ℕ, zero, suc, ◌<◌, List, [], ◌∷◌, ◌++◌, map, filter, filter_map, Option, Some, None, option_and_then, option_map, Bool, true, false, not, cond, length, ◌≡◌, refl, ap, sym, subst, ◌∙◌, arith, slice_index}
+use Rattle.std.specs.List.{cons_option, last_or}
 use Rattle.std.proofs.lemmas.Option.{none-some, same_Some}
 use Rattle.texts.specs.Names.{place_in}
 use Rattle.texts.proofs.Laws.{mapped, and_then, place-found}
@@ -10,19 +11,21 @@ use Rattle.attributes.specs.declared.serde_item.SerdeItem.{SerdeItem}
 use Rattle.serde_rules.specs.Container.{rename_rule}
 use Rattle.syntax.specs.Items.{FieldItem, FieldItems, named, unnamed, unit, VariantItem, BodyItem, struct_body, enum_body, DeclaredItem}
 use Rattle.open_types.specs.Open.{Open}
+use Rattle.open_types.specs.Open as types
 use Rattle.open_types.specs.Within.{IsOver, AreAllOver}
 use Rattle.resolving.specs.Resolved.{resolved_type, ResolvedAreOver}
 use Rattle.scopes.specs.Names.{declared_names, texts, place_among}
-use Rattle.shapes.specs.Declarations.{MemberOf, FormOf, alone, named_fields, unnamed_fields, no_fields, VariantOf, BodyOf, fields, units, variants, DeclarationOf, member_types, form_types, variant_types, body_types, declaration_names, declaration_at, parameters_in, AreFitting}
+use Rattle.shapes.specs.Declarations.{MemberOf, FormOf, FlattenedMapOf, unnamed_fields, no_fields, VariantOf, BodyOf, fields, units, variants, DeclarationOf, member_types, flattened_types, map_types, form_types, variant_types, body_types, declaration_names, declaration_at, parameters_in, AreFitting}
 use Rattle.shapes.specs.declared.tagging.Tagging.{Tagging}
 use Rattle.derive_decl.specs.Attributed.{attributes_with, are_derivable}
-use Rattle.serde_names.specs.Kept.{kept, kept_variants}
+use Rattle.serde_names.specs.Kept.{own, flattened, kept_variants}
 use Rattle.derive_decl.specs.Fields.{FieldRules, field_rules, are_allowed}
 use Rattle.derive_decl.specs.Lifetimes.{parameters_are_distinct}
 use Rattle.derive_decl.specs.Tags.{tag_stands}
 use Rattle.derive_decl.specs.Variants.{tagging_in, are_units, are_told, variant_name}
-use Rattle.derive_decl.specs.Resolved.{Around, around_of, all_of, passing, member_of, members_are_distinct, named_form, form_of, variant_of, variants_are_told, units_of, mixed_of, enum_of, body_of, derived_body, declaration_from, declaration_of, resolved_of}
+use Rattle.derive_decl.specs.Resolved.{Around, around_of, all_of, passing, member_of, members_are_distinct, TypedOf, typed_of, is_map, has_one_map, field_from, map_parts, map_at, map_from, named_form, form_of, variant_of, variants_are_told, units_of, mixed_of, enum_of, body_of, derived_body, declaration_from, declaration_of, resolved_of}
 use Rattle.derive_decl.specs.Whole.{resolved_declarations, resolved_among}
+use Rattle.derive_decl.proofs.NamedForms.{named_parts}
 use Rattle.derive_decl.proofs.Parts.{member_parts, variant_parts}
 use Rattle.derive_decl.proofs.Values.{joined, chosen, passed}
 use Rattle.scopes.specs.Parameters.{type_parameters, parameter_counts}
@@ -88,19 +91,67 @@ module _ (over : ResolvedAreOver) where
         let j = joined (resolved_type around.known f.ty) (all_of (λ (g : FieldItem). resolved_type around.known g.ty) fs) ts e in
         subst AreTypesOver j.4 (type_over f j.0 j.2, types_over fs j.1 j.3)
 
+    both_over : (ts us : List Open) → AreTypesOver ts → AreTypesOver us → AreTypesOver (ts ++ us)
+    both_over [] us h g = g
+    both_over (t ∷ ts) us h g = (h.0, both_over ts us h.1 g)
+
+    -- ---- what is flattened
+
+    typed_over : (fs : List FieldItem) (ts : List TypedOf) → all_of (typed_of around) fs ≡ Some ts → AreTypesOver (map (λ (t : TypedOf). t.of) ts)
+    typed_over [] ts e = subst (λ us. AreTypesOver (map (λ (t : TypedOf). t.of) us)) (same_Some [] ts e) tt
+    typed_over (f ∷ fs) ts e =
+        let j = joined (typed_of around f) (all_of (typed_of around) fs) ts e in
+        let m = mapped (λ u. record { field = f; of = u }) (resolved_type around.known f.ty) j.0 j.2 in
+        let own : IsOver n around.known.parameters_at around.known.parameters j.0.of = subst (λ (t : TypedOf). IsOver n around.known.parameters_at around.known.parameters t.of) m.2 (type_over f m.0 m.1) in
+        subst (λ us. AreTypesOver (map (λ (t : TypedOf). t.of) us)) j.4 (own, typed_over fs j.1 j.3)
+
+    fields_over : (ts : List TypedOf) → AreTypesOver (map (λ (t : TypedOf). t.of) ts) → AreTypesOver (flattened_types (map field_from (filter (λ f. not (is_map f)) ts)))
+    fields_over [] all = tt
+    fields_over (t ∷ ts) all = by (not (is_map t)) (fields_over ts all.1)
+      where
+        by : (b : Bool) → AreTypesOver (flattened_types (map field_from (filter (λ f. not (is_map f)) ts)))
+            → AreTypesOver (flattened_types (map field_from (cond b (t ∷ filter (λ f. not (is_map f)) ts) (filter (λ f. not (is_map f)) ts))))
+        by true others = (all.0, others)
+        by false others = others
+
+    -- a type that is a map
+    map_from_over : (t : TypedOf) (of : Open) → IsOver n around.known.parameters_at around.known.parameters of → (m : FlattenedMapOf) → option_map (map_at t) (map_parts of) ≡ Some m → AreTypesOver (map_types (Some m))
+    map_from_over t (types.map_of h k u) over m is = subst (λ x. AreTypesOver (map_types (Some x))) (same_Some (map_at t (k, u)) m is) (over.0, (over.1, tt))
+    map_from_over t (types.leaf x) over m is = absurd (none-some m is)
+    map_from_over t types.any_value over m is = absurd (none-some m is)
+    map_from_over t types.free_object over m is = absurd (none-some m is)
+    map_from_over t types.unit over m is = absurd (none-some m is)
+    map_from_over t (types.tuple us) over m is = absurd (none-some m is)
+    map_from_over t (types.items h u) over m is = absurd (none-some m is)
+    map_from_over t (types.set h u) over m is = absurd (none-some m is)
+    map_from_over t (types.option u) over m is = absurd (none-some m is)
+    map_from_over t (types.through h u) over m is = absurd (none-some m is)
+    map_from_over t (types.param i) over m is = absurd (none-some m is)
+    map_from_over t (types.named d us) over m is = absurd (none-some m is)
+
+    next : (o p : Option FlattenedMapOf) (ts : List TypedOf) → ((m : FlattenedMapOf) → p ≡ Some m → AreTypesOver (map_types (Some m))) → AreTypesOver (map_types o)
+        → ((q : Option FlattenedMapOf) → AreTypesOver (map_types q) → AreTypesOver (map_types (last_or q (filter_map map_from ts)))) → AreTypesOver (map_types (last_or o (cons_option p (filter_map map_from ts))))
+    next o None ts own so_far later = later o so_far
+    next o (Some m) ts own so_far later = later (Some m) (own m refl)
+
+    -- the last map, or one before these
+    map_over : (o : Option FlattenedMapOf) (ts : List TypedOf) → AreTypesOver (map_types o) → AreTypesOver (map (λ (t : TypedOf). t.of) ts) → AreTypesOver (map_types (last_or o (filter_map map_from ts)))
+    map_over o [] so_far all = so_far
+    map_over o (t ∷ ts) so_far all = next o (map_from t) ts (map_from_over t t.of all.0) so_far (λ p so. map_over p ts so all.1)
+
     form_over : (items : List SerdeItem) (fs : FieldItems) (form : FormOf) → form_of around items fs ≡ Some form → AreTypesOver (form_types form)
     form_over items (named fs) form e =
         let rules = field_rules items in
-        let m = mapped (named_fields (alone rules.denies)) (passing members_are_distinct (all_of (member_of around rules) (kept fs))) form (chosen (are_allowed items) (named_form around rules fs) form e).1 in
-        subst (λ f. AreTypesOver (form_types f)) m.2 (members_over rules (kept fs) m.0 (passed members_are_distinct (all_of (member_of around rules) (kept fs)) m.0 m.1).0)
+        let parts = named_parts around rules fs form (chosen (are_allowed items) (named_form around rules fs) form e).1 in
+        let ts = parts.beside in
+        let all = typed_over (flattened fs) ts (passed has_one_map (all_of (typed_of around) (flattened fs)) ts parts.flattened).0 in
+        let own = members_over rules (own fs) parts.members (passed members_are_distinct (all_of (member_of around rules) (own fs)) parts.members parts.own).0 in
+        subst (λ f. AreTypesOver (form_types f)) parts.is
+        (both_over (flattened_types (map field_from (filter (λ f. not (is_map f)) ts))) _ (fields_over ts all) (both_over (map_types (last_or None (filter_map map_from ts))) _ (map_over None ts tt all) own))
     form_over items (unnamed []) form e = absurd (none-some form e)
     form_over items (unnamed (f ∷ fs)) form e =
         let m = mapped unnamed_fields (all_of (λ (g : FieldItem). resolved_type around.known g.ty) (f ∷ fs)) form e in subst (λ x. AreTypesOver (form_types x)) m.2 (types_over (f ∷ fs) m.0 m.1)
     form_over items unit form e = subst (λ f. AreTypesOver (form_types f)) (same_Some no_fields form e) tt
-
-    both_over : (ts us : List Open) → AreTypesOver ts → AreTypesOver us → AreTypesOver (ts ++ us)
-    both_over [] us h g = g
-    both_over (t ∷ ts) us h g = (h.0, both_over ts us h.1 g)
 
     -- the form of a variant is that of its fields
     variant_over : (rule : Option RenameRule) (tagging : Tagging) (v : VariantItem) (x : VariantOf) → variant_of around rule tagging v ≡ Some x → AreTypesOver (form_types x.form)

@@ -30,22 +30,23 @@ use Rattle.resolving.specs.Resolved.{resolved_type, Fault, unknown_type, wrong_a
 use Rattle.scopes.specs.Names.{texts, are_distinct, duplicate_message, Repeats, IsGivenTwice}
 use Rattle.scopes.specs.Parameters.{parameters_of}
 use Rattle.scopes.specs.declared.parameters.ParameterKind.TheVariants.{TypesAndConstants}
-use Rattle.shapes.specs.Declarations.{FormOf, alone, named_fields, unnamed_fields, no_fields, BodyOf, fields, units, variants, member_names, variant_names, telling}
+use Rattle.shapes.specs.Declarations.{FormOf, named_fields, unnamed_fields, no_fields, BodyOf, fields, units, variants, member_names, variant_names, telling}
 use Rattle.shapes.specs.declared.tagging.Tagging.{Tagging}
 use Rattle.shapes.specs.declared.tagging.Tagging.TheVariants.{External, Internal, Adjacent, Untagged}
 use Rattle.derive_decl.specs.declared.feature.Other.{Other}
 use Rattle.derive_decl.specs.Attributed.{attributes_with, first_other}
-use Rattle.serde_names.specs.Kept.{value_of, kept, is_kept, is_kept_variant, kept_variants, value_of_variant}
+use Rattle.serde_names.specs.Kept.{value_of, own, is_own, flattened, is_kept_variant, kept_variants, value_of_variant}
 use Rattle.serde_names.specs.Names.{or_as_it_was, name_by, row_message, IsUnwritten}
 use Rattle.derive_decl.specs.Fields.{FieldRules, field_rules, are_allowed, written_idents}
 use Rattle.derive_decl.specs.Lifetimes.{lifetimes_of}
 use Rattle.derive_decl.specs.Tags.{can_be_tagged, tag_is_taken, tag_stands, tag_of, tuple_message, tuple_help, IsMisplacedTag}
 use Rattle.derive_decl.specs.Variants.{tagging_by, tagging_in, are_units, are_told, variant_name, telling_idents}
-use Rattle.derive_decl.specs.Resolved.{Around, around_of, all_of, member_from, member_as, member_of, members_are_distinct, named_form, form_of, variant_from, variant_of, variants_are_told, units_of, mixed_of, enum_of, enum_by, plain_body, mixed_body, body_of, derived_body, declaration_from, declaration_of, resolved_of}
-use Rattle.derive_decl.specs.Faults.{fieldless_message, tagless_message, IsFaultyType, IsFaultyMember, AreFaultyMembers, AreFaultyFields, IsFaultyTagging, IsUnnamed, AreUnnamed, IsFaultyVariant, AreFaultyVariants, IsFaultyBy, IsFaultyPlain, IsFaultyEnum, IsFaultyBody, IsFaultyDeclaration, IsFaultyItem, AreFaultyItems}
+use Rattle.derive_decl.specs.Resolved.{Around, around_of, all_of, member_from, member_as, member_of, members_are_distinct, members_of, typed_of, has_one_map, flattened_fields, beside_from, named_form, form_of, variant_from, variant_of, variants_are_told, units_of, mixed_of, enum_of, enum_by, plain_body, mixed_body, body_of, derived_body, declaration_from, declaration_of, resolved_of}
+use Rattle.derive_decl.specs.Faults.{fieldless_message, tagless_message, IsFaultyType, IsFaultyMember, AreFaultyMembers, AreFaultyFlattened, AreFaultyFields, IsFaultyTagging, IsUnnamed, AreUnnamed, IsFaultyVariant, AreFaultyVariants, IsFaultyBy, IsFaultyPlain, IsFaultyEnum, IsFaultyBody, IsFaultyDeclaration, IsFaultyItem, AreFaultyItems}
 use Rattle.configuration.specs.Configuration.{Configuration}
 use Rattle.derive_decl.specs.Whole.{resolved_among, resolved_declarations}
 use Rattle.derive_decl.proofs.EnumLaws.{unnamed-faulty}
+use Rattle.derive_decl.proofs.NamedForms.{one_given}
 use Rattle.derive_decl.proofs.Parts.{member_texts, variants_named, telling_texts}
 use Rattle.derive_decl.proofs.Values.{some_is, passes, are_distinct_from, all_given, all_kept, all_any}
 
@@ -140,15 +141,30 @@ module _ (exact : ResolutionIsExact) (decided : NamesDecided) (rules_decided : R
         ap (member_as around rules f) x.1 ∙ (λ i. option_and_then (λ n. option_map (member_from rules f n) (of.1 i)) (name.1 i)),
       )
 
-  named_given : (around : Around) (rules : FieldRules) (fs : List FieldItem) → AllByRecursion HasName fs → RefusesNone (AreFaultyMembers around rules fs) → Given (named_form around rules fs)
-  named_given around rules fs have none =
-      let all = all_given (member_of around rules) (IsFaultyMember around rules) HasName (member_given around rules) (kept fs) (all_kept HasName is_kept fs have) (λ e h. none e (inl h)) in
-      let apart = differ (written_idents around.rows rules.rule (kept fs)) (member_names all.0) (member_texts around rules (kept fs) all.0 all.1) (λ e twice. none e (inr twice)) in
-      (named_fields (alone rules.denies) all.0, ap (option_map (named_fields (alone rules.denies))) (passes members_are_distinct (all_of (member_of around rules) (kept fs)) all.0 all.1 apart))
+  members_given : (around : Around) (rules : FieldRules) (fs : List FieldItem) → AllByRecursion HasName fs → RefusesNone (AreFaultyMembers around rules fs) → Given (members_of around rules fs)
+  members_given around rules fs have none =
+      let all = all_given (member_of around rules) (IsFaultyMember around rules) HasName (member_given around rules) (own fs) (all_kept HasName is_own fs have) (λ e h. none e (inl h)) in
+      let apart = differ (written_idents around.rows rules.rule (own fs)) (member_names all.0) (member_texts around rules (own fs) all.0 all.1) (λ e twice. none e (inr twice)) in
+      (all.0, passes members_are_distinct (all_of (member_of around rules) (own fs)) all.0 all.1 apart)
+
+  typed_given : (around : Around) (f : FieldItem) → RefusesNone (IsFaultyType around f) → Given (typed_of around f)
+  typed_given around f none = let of = type_given around f none in (record { field = f; of = of.0 }, ap (option_map (λ t. record { field = f; of = t })) of.1)
+
+  flattened_given : (around : Around) (x : Ident) (fs : List FieldItem) → RefusesNone (AreFaultyFlattened around x fs) → Given (flattened_fields around fs)
+  flattened_given around x fs none =
+      let all = all_given (typed_of around) (IsFaultyType around) (λ f. Unit {0}) (λ f any. typed_given around f) (flattened fs) (all_any (flattened fs)) (λ e h. none e (inl h)) in
+      (all.0, passes has_one_map (all_of (typed_of around) (flattened fs)) all.0 all.1 (one_given x all.0 (λ e several. none e (inr (all.0, all.1, several)))))
+
+  named_given : (around : Around) (rules : FieldRules) (x : Ident) (fs : List FieldItem) → AllByRecursion HasName fs → RefusesNone (AreFaultyMembers around rules fs) → RefusesNone (AreFaultyFlattened around x fs)
+      → Given (named_form around rules fs)
+  named_given around rules x fs have none clear =
+      let beside = flattened_given around x fs clear in
+      let ms = members_given around rules fs have none in
+      (named_fields (beside_from rules.denies beside.0) ms.0, λ i. option_and_then (λ ts. option_map (named_fields (beside_from rules.denies ts)) (ms.1 i)) (beside.1 i))
 
   pub form_given : (around : Around) (items : List SerdeItem) (x : Ident) (fs : FieldItems) → HaveNames fs → RefusesNone (AreFaultyFields around items x fs) → Given (form_of around items fs)
   form_given around items x (named fs) have none =
-      let form = named_given around (field_rules items) fs have (λ e fault. none e (inr fault)) in
+      let form = named_given around (field_rules items) x fs have (λ e fault. none e (inr (inl fault))) (λ e fault. none e (inr (inr fault))) in
       (form.0, ap (λ b. cond b (named_form around (field_rules items) fs) None) (items_say items (λ e refused. none e (inl refused))) ∙ form.1)
   form_given around items x (unnamed []) have none = absurd (none (refusal Arity x.span fieldless_message) (inr (refl, refl)))
   form_given around items x (unnamed (f ∷ fs)) have none =

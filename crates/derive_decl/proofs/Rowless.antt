@@ -6,7 +6,7 @@ use Rattle.diag.specs.declared.diagnostics.DiangosticsInner.{DiangosticsInner}
 use Rattle.diag.specs.declared.error.DeriveError.{DeriveError}
 use Rattle.diag.specs.declared.error.DeriveError.TheVariants.{Refused, Memory}
 use Rattle.diag.specs.declared.kind.Kind.{Kind}
-use Rattle.diag.specs.declared.kind.Kind.TheVariants.{Syntax, MissingRow, SerdeTag, BadValue, UnknownType, Arity, TypeSize, DuplicateName, TaggedTuple, BadArgument}
+use Rattle.diag.specs.declared.kind.Kind.TheVariants.{Syntax, MissingRow, SerdeTag, BadValue, UnknownType, Arity, TypeSize, DuplicateName, TaggedTuple, BadArgument, FlattenedMaps}
 use Rattle.diag.specs.declared.rename_rule.RenameRule.{RenameRule}
 use Rattle.diag.specs.declared.rename_row.RenamePlace.{RenamePlace}
 use Rattle.diag.specs.declared.rename_row.RenamePlace.TheVariants.{Field, Variant}
@@ -30,13 +30,13 @@ use Rattle.shapes.specs.declared.tagging.Tagging.{Tagging}
 use Rattle.shapes.specs.declared.tagging.Tagging.TheVariants.{External, Internal, Adjacent, Untagged}
 use Rattle.serde_names.specs.declared.asked.Asked.{Asked}
 use Rattle.serde_names.specs.Asked.{is_given, asked_for, asked_as, asked_of_field, asked_of_fields, asked_of_variant, asked_of_variants, asked_told, asked_of_body, asked_of_item, IsRowless}
-use Rattle.serde_names.specs.Kept.{value_of, kept, value_of_variant, kept_variants}
+use Rattle.serde_names.specs.Kept.{value_of, own, flattened, value_of_variant, kept_variants}
 use Rattle.serde_names.specs.Names.{or_as_it_was, row_message, IsUnwritten}
 use Rattle.derive_decl.specs.Fields.{FieldRules, field_rules}
 use Rattle.derive_decl.specs.Variants.{tagging_by}
-use Rattle.derive_decl.specs.Resolved.{Around, around_of}
+use Rattle.derive_decl.specs.Resolved.{Around, around_of, TypedOf, maps_among}
 use Rattle.derive_decl.specs.Tags.{IsMisplacedTag}
-use Rattle.derive_decl.specs.Faults.{IsFaultyType, IsFaultyName, IsFaultyMember, AreFaultyFields, IsFaultyTagging, IsUnnamed, IsFaultyTag, IsFaultyVariant, AreFaultyVariants, IsFaultyEnum, IsFaultyBody, IsFaultyItem}
+use Rattle.derive_decl.specs.Faults.{IsFaultyType, IsFaultyName, IsFaultyMember, IsSecondMap, AreSeveralMaps, AreFaultyFields, IsFaultyTagging, IsUnnamed, IsFaultyTag, IsFaultyVariant, AreFaultyVariants, IsFaultyEnum, IsFaultyBody, IsFaultyItem}
 use Rattle.derive_decl.specs.Law.{IsMissingRow, IsRowlessDerived, ItemsLookUpRows, DeclarationsLookUpRows}
 
 -- ---- lists of which some item has a fact
@@ -115,8 +115,8 @@ module _ (around : Around) (e : DeriveError) where
 
   fields_faulty : (items : List SerdeItem) (x : Ident) (fs : FieldItems) → Rowless (asked_of_fields items fs) → AreFaultyFields around items x fs e
   fields_faulty items x (named fs) rowless =
-      inr (inl (scattered (λ a. IsRowless around.rows a e) (λ f. IsFaultyMember around (field_rules items) f e) (asked_of_field (rename_rule items)) (kept fs)
-      (λ f own. inr (field_faulty (rename_rule items) f f.ident refl own)) rowless))
+      inr (inl (inl (scattered (λ a. IsRowless around.rows a e) (λ f. IsFaultyMember around (field_rules items) f e) (asked_of_field (rename_rule items)) (own fs)
+      (λ f own. inr (field_faulty (rename_rule items) f f.ident refl own)) rowless)))
   fields_faulty items x (unnamed fs) rowless = absurd rowless
   fields_faulty items x unit rowless = absurd rowless
 
@@ -176,6 +176,11 @@ unfolding kind_in
 help_clash k l s t m n h (Refused d) one other = ap kind_in (sym one ∙ other)
 help_clash k l s t m n h Memory one other = absurd one
 
+map_clash : (x : Ident) (first second : FieldItem) (t : Span) (n : List ℕ) (e : DeriveError) → IsSecondMap x first second e → IsRefusal MissingRow t n e → FlattenedMaps ≡ MissingRow
+unfolding kind_in
+map_clash x first second t n (Refused d) one other = ap kind_in (sym one ∙ other)
+map_clash x first second t n Memory one other = absurd one
+
 module _ (span : Span) (message : List ℕ) (e : DeriveError) (missing : IsRefusal MissingRow span message e) where
   other_kind : (k : Kind) (s : Span) (m : List ℕ) → (k ≡ MissingRow → ⊥) → IsRefusal k s m e → ⊥
   other_kind k s m apart refusal = apart (clash k MissingRow s span m message e refusal missing)
@@ -183,6 +188,11 @@ module _ (span : Span) (message : List ℕ) (e : DeriveError) (missing : IsRefus
   no_tag_fault : (r : Result SerdeEnumRepr TagFault) → IsTagRefusal r e → ⊥
   no_tag_fault (Ok repr) refusal = refusal
   no_tag_fault (Err why) refusal = other_kind SerdeTag why.span why.message (λ same. cc) refusal
+
+  no_second_map : (x : Ident) (ts : List TypedOf) → AreSeveralMaps x ts e → ⊥
+  no_second_map x [] fault = fault
+  no_second_map x (t ∷ []) fault = fault
+  no_second_map x (t ∷ u ∷ ts) fault = let same = map_clash x t.field u.field span message e fault missing in cc
 
   no_rule_fault : (o : Option SerdeText) → IsSomeAnd o (λ literal. (rule_named literal.text ≡ None) × IsRefusal BadValue literal.span unknown_rule e) → ⊥
   no_rule_fault None refusal = refusal
@@ -234,9 +244,11 @@ module _ (span : Span) (message : List ℕ) (e : DeriveError) (missing : IsRefus
 
     fields_rowless : (items : List SerdeItem) (x : Ident) (fs : FieldItems) → AreFaultyFields around items x fs e → Rowless around e (asked_of_fields items fs)
     fields_rowless items x (named fs) (inl fault) = absurd (no_container_fault items fault)
-    fields_rowless items x (named fs) (inr (inl fault)) =
-        gathered (λ a. IsRowless around.rows a e) (λ f. IsFaultyMember around (field_rules items) f e) (asked_of_field (rename_rule items)) (kept fs) (member_rowless (field_rules items)) fault
-    fields_rowless items x (named fs) (inr (inr fault)) = absurd (no_name_twice _ fault)
+    fields_rowless items x (named fs) (inr (inl (inl fault))) =
+        gathered (λ a. IsRowless around.rows a e) (λ f. IsFaultyMember around (field_rules items) f e) (asked_of_field (rename_rule items)) (own fs) (member_rowless (field_rules items)) fault
+    fields_rowless items x (named fs) (inr (inl (inr fault))) = absurd (no_name_twice _ fault)
+    fields_rowless items x (named fs) (inr (inr (inl fault))) = absurd (somewhere_gives (λ f. IsFaultyType around f e) ⊥ (flattened fs) no_type_fault fault)
+    fields_rowless items x (named fs) (inr (inr (inr (ts, is, fault)))) = absurd (no_second_map x (maps_among ts) fault)
     fields_rowless items x (unnamed fs) (inl fault) = somewhere_gives (λ f. IsFaultyType around f e) ⊥ fs no_type_fault fault
     fields_rowless items x (unnamed fs) (inr (none, refusal)) = other_kind Arity _ _ (λ same. cc) refusal
     fields_rowless items x unit fault = fault

@@ -2,10 +2,9 @@
 use Rattle.std.specs.Prelude.{ℕ, List, [], ◌∷◌, ◌++◌, ◌||◌, Bool, cond, Option, Some, None, is_none, option_map, codes}
 use Rattle.std.specs.List.{flat_map}
 use Rattle.attributes.specs.Attributes.{AttributeItem, is_word}
-use Rattle.serde_rules.specs.Items.{has_item}
 use Rattle.syntax.specs.Items.{FieldItem, FieldItems, named, unnamed, unit, BodyItem, struct_body, enum_body, DeclaredItem}
 use Rattle.derive_decl.specs.declared.feature.Feature.{Feature}
-use Rattle.derive_decl.specs.declared.feature.Feature.TheVariants.{Schema, Repr, Flatten}
+use Rattle.derive_decl.specs.declared.feature.Feature.TheVariants.{Schema, Repr}
 use Rattle.derive_decl.specs.declared.feature.Other.{Other}
 
 abbrev pub fields_in : FieldItems → List FieldItem
@@ -31,13 +30,13 @@ attributes_in d = attributes_with d.attrs d.body
 abbrev pub attributes_among : List DeclaredItem → List AttributeItem
 attributes_among ds = flat_map attributes_in ds
 
--- an attribute of `schema` or `repr`, or a serde list that flattens: nothing is derived from these
+-- an attribute of `schema` or `repr`: nothing is derived from these
 abbrev pub is_other : AttributeItem → Bool
-is_other a = is_word (codes "schema") a.path || is_word (codes "repr") a.path || has_item (codes "flatten") a.items
+is_other a = is_word (codes "schema") a.path || is_word (codes "repr") a.path
 
 -- what such an attribute asks for, and where it stands
 abbrev pub other_of : AttributeItem → Other
-other_of a = record { span = a.span; feature = cond (is_word (codes "schema") a.path) Schema (cond (is_word (codes "repr") a.path) Repr Flatten) }
+other_of a = record { span = a.span; feature = cond (is_word (codes "schema") a.path) Schema Repr }
 
 -- the first of these
 abbrev pub first_other : List AttributeItem → Option Other
@@ -52,7 +51,6 @@ are_derivable attrs = is_none (first_other attrs)
 abbrev pub feature_name : Feature → List ℕ
 feature_name Schema = codes "schema"
 feature_name Repr = codes "repr"
-feature_name Flatten = codes "flatten"
 
 -- the feature that the first attribute of a declaration asks for from which nothing is derived
 abbrev pub first_feature : DeclaredItem → Option Feature

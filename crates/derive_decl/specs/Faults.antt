@@ -1,8 +1,11 @@
--- Why a declaration has no schema: an attribute that nothing is derived from, a generic parameter given twice, serde's items that contradict each other, name a content and no tag, or name a rename rule that there is not, a tag that cannot stand where it should, a name that has no row or that two fields or variants have, a type that stands for nothing or is too large, a form of unnamed fields without a field.
-use Rattle.std.specs.Prelude.{◌≡◌, ◌≢◌, ◌⊎◌, ℕ, List, [], Option, Some, None, Ok, codes, slice_get}
+-- Why a declaration has no schema: an attribute that nothing is derived from, a generic parameter given twice, serde's items that contradict each other, name a content and no tag, or name a rename rule that there is not, a tag that cannot stand where it should, a name that has no row or that two fields or variants have, a type that stands for nothing or is too large, a second flattened map, a form of unnamed fields without a field.
+use Rattle.std.specs.Prelude.{◌≡◌, ◌≢◌, ◌⊎◌, ℕ, List, [], ◌∷◌, ◌++◌, Option, Some, None, Ok, codes, slice_get}
+use Rattle.diag.specs.Diagnostics.{diagnostic, with_suggestion}
 use Rattle.diag.specs.Refusal.{IsRefusal, IsSyntaxRefusal, RefusesNone}
 use Rattle.diag.specs.declared.error.DeriveError.{DeriveError}
-use Rattle.diag.specs.declared.kind.Kind.TheVariants.{Arity, DuplicateName, SerdeTag}
+use Rattle.diag.specs.declared.error.DeriveError.TheVariants.{Refused, Memory}
+use Rattle.diag.specs.declared.suggestion.Suggestion.TheVariants.{Note}
+use Rattle.diag.specs.declared.kind.Kind.TheVariants.{Arity, DuplicateName, FlattenedMaps, SerdeTag}
 use Rattle.diag.specs.declared.rename_rule.RenameRule.{RenameRule}
 use Rattle.diag.specs.declared.rename_row.RenameRow.{RenameRow}
 use Rattle.diag.specs.declared.rename_row.RenamePlace.TheVariants.{Field, Variant}
@@ -22,11 +25,11 @@ use Rattle.shapes.specs.declared.tagging.Tagging.TheVariants.{External, Internal
 use Rattle.derive_decl.specs.declared.feature.Other.{Other}
 use Rattle.derive_decl.specs.Attributed.{attributes_with, attributes_among, first_other}
 use Rattle.derive_decl.specs.Lifetimes.{lifetimes_of}
-use Rattle.serde_names.specs.Kept.{value_of, kept, value_of_variant, kept_variants}
+use Rattle.serde_names.specs.Kept.{value_of, own, flattened, value_of_variant, kept_variants}
 use Rattle.serde_names.specs.Names.{IsUnwritten}
 use Rattle.derive_decl.specs.Variants.{tagging_in, telling_idents}
 use Rattle.derive_decl.specs.Fields.{FieldRules, field_rules, written_idents}
-use Rattle.derive_decl.specs.Resolved.{Around, around_of, form_of}
+use Rattle.derive_decl.specs.Resolved.{Around, around_of, all_of, text_of, TypedOf, typed_of, maps_among, form_of}
 use Rattle.derive_decl.specs.Tags.{IsMisplacedTag}
 use Rattle.scopes.specs.Parameters.{parameters_of}
 use Rattle.scopes.specs.declared.parameters.ParameterKind.TheVariants.{TypesAndConstants}
@@ -63,12 +66,39 @@ IsFaultyMember around rules f e = IsFaultyType around f e ⊎ IsFaultyName aroun
 -- the error refuses the named fields: one of them, or a name that two have
 abbrev pub AreFaultyMembers : Around → FieldRules → List FieldItem → DeriveError → Type 0
 AreFaultyMembers around rules fs e =
-    Somewhere (λ f. IsFaultyMember around rules f e) (kept fs)
-    ⊎ IsGivenTwice (written_idents around.rows rules.rule (kept fs)) e
+    Somewhere (λ f. IsFaultyMember around rules f e) (own fs)
+    ⊎ IsGivenTwice (written_idents around.rows rules.rule (own fs)) e
 
--- the error refuses named fields, or serde's items before the struct or the variant that has them
-abbrev pub AreFaultyNamed : Around → List SerdeItem → List FieldItem → DeriveError → Type 0
-AreFaultyNamed around items fs e = IsContainerRefusal items e ⊎ AreFaultyMembers around (field_rules items) fs e
+abbrev pub maps_message : List ℕ → List ℕ
+maps_message name = codes "The structure `" ++ (name ++ codes "` contains multiple flattened map fields.")
+
+abbrev pub first_map_note : List ℕ → List ℕ
+first_map_note name = codes "first flattened map field was declared here as `" ++ (name ++ codes "`")
+
+abbrev pub second_map_note : List ℕ → List ℕ
+second_map_note name = codes "second flattened map field was declared here as `" ++ (name ++ codes "`")
+
+-- the error refuses the second of two flattened maps of the struct or the variant of the name, and notes both
+abbrev pub IsSecondMap : Ident → (first second : FieldItem) → DeriveError → Type 0
+IsSecondMap x first second (Refused d) =
+    d ≡ with_suggestion (Note (second_map_note (text_of second.ident))) (with_suggestion (Note (first_map_note (text_of first.ident))) (diagnostic FlattenedMaps second.span (maps_message x.text) ∷ []))
+IsSecondMap x first second Memory = ⊥
+
+-- of several maps it refuses the second
+abbrev pub AreSeveralMaps : Ident → List TypedOf → DeriveError → Type 0
+AreSeveralMaps x (first ∷ second ∷ others) e = IsSecondMap x first.field second.field e
+AreSeveralMaps x _ e = ⊥
+
+-- the error refuses what is flattened: the type of a field, or where each stands for something the second map
+abbrev pub AreFaultyFlattened : Around → Ident → List FieldItem → DeriveError → Type 0
+AreFaultyFlattened around x fs e =
+    Somewhere (λ f. IsFaultyType around f e) (flattened fs)
+    ⊎ ((ts : List TypedOf) × (all_of (typed_of around) (flattened fs) ≡ Some ts) × AreSeveralMaps x (maps_among ts) e)
+
+-- the error refuses named fields of the struct or the variant of the name, or serde's items before it
+abbrev pub AreFaultyNamed : Around → List SerdeItem → Ident → List FieldItem → DeriveError → Type 0
+AreFaultyNamed around items x fs e =
+    IsContainerRefusal items e ⊎ (AreFaultyMembers around (field_rules items) fs e ⊎ AreFaultyFlattened around x fs e)
 
 -- the error refuses the unnamed fields: the type of one, or since there is none
 abbrev pub AreFaultyTypes : Around → Ident → List FieldItem → DeriveError → Type 0
@@ -76,7 +106,7 @@ AreFaultyTypes around x fs e =
     Somewhere (λ f. IsFaultyType around f e) fs ⊎ ((fs ≡ []) × IsRefusal Arity x.span fieldless_message e)
 
 abbrev pub AreFaultyFields : Around → List SerdeItem → Ident → FieldItems → DeriveError → Type 0
-AreFaultyFields around items x (named fs) e = AreFaultyNamed around items fs e
+AreFaultyFields around items x (named fs) e = AreFaultyNamed around items x fs e
 AreFaultyFields around items x (unnamed fs) e = AreFaultyTypes around x fs e
 AreFaultyFields around items x unit e = ⊥
 

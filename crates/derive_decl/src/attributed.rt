@@ -10,17 +10,14 @@ ghost use Rattle.derive_decl.specs.Faults.{IsUnderivable, AreUnderivable, AreDer
 
 use crate::feature::{Feature, Other};
 use diag::DeriveError;
-use serde_rules::has_item;
 use std::alloc::Global;
 use syntax::{Attribute, Body, Declaration, Declarations, Field, Fields, Variant};
 
-/// Whether the attribute is one of `schema` or `repr`, or a serde list that flattens.
+/// Whether the attribute is one of `schema` or `repr`.
 fn is_other(attribute: &Attribute) -> bool
     ensures { result ≡ is_other (attribute_view attribute.now) }
 {
-    attribute.is("schema")
-        || attribute.is("repr")
-        || has_item(attribute.items.as_slice(), "flatten")
+    attribute.is("schema") || attribute.is("repr")
 }
 
 /// What the attribute asks for, and where it stands.
@@ -29,10 +26,8 @@ fn other_of(attribute: &Attribute) -> Other
 {
     let feature = if attribute.is("schema") {
         Feature::Schema
-    } else if attribute.is("repr") {
-        Feature::Repr
     } else {
-        Feature::Flatten
+        Feature::Repr
     };
     Other {
         span: attribute.span,
@@ -170,8 +165,8 @@ pub(crate) fn derivable(
     }
 }
 
-/// Refuses declarations that have an attribute from which nothing is derived: one of `schema` or `repr`, or a serde list
-/// with an item `flatten`. The kind is `Syntax`, at the first of these.
+/// Refuses declarations that have an attribute from which nothing is derived: one of `schema` or `repr`. The kind is
+/// `Syntax`, at the first of these.
 pub fn only_derivable(alloc: Global, declarations: &Declarations) -> Result<(), DeriveError>
     ensures derivable { IfOk result (λ _. AreDerivable (declarations_view declarations.now)) }
     ensures refused { Refuses result (AreUnderivable (declarations_view declarations.now)) }

@@ -12,8 +12,6 @@ pub enum Feature {
     Schema,
     /// An attribute `repr`.
     Repr,
-    /// An item `flatten` of serde's.
-    Flatten,
 }
 
 impl Feature {
@@ -24,7 +22,6 @@ impl Feature {
         match self {
             Feature::Schema => "schema",
             Feature::Repr => "repr",
-            Feature::Flatten => "flatten",
         }
     }
 }

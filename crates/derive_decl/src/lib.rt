@@ -7,6 +7,7 @@ mod bodies;
 mod enums;
 mod feature;
 mod fields;
+mod flattened;
 mod judged;
 mod law;
 mod mixed;

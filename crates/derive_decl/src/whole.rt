@@ -45,10 +45,11 @@ fn with_body(alloc: Global, root: &Root<'_>, body: Body) -> Result<Resolved, All
 /// derived. Else it is `UnknownType`, `Arity`, `BadArgument` or `TypeSize`, for the type of a field; or `Arity`, at the name
 /// of a declaration or variant whose form is unnamed fields without a field. Of an enum, and of a struct or a variant with
 /// named fields, it may be `SerdeTag` or `BadValue`, for serde's attributes of it; or, of the fields or variants that are
-/// kept, `MissingRow`, at an identifier whose name is that of a row that there is not; or `DuplicateName`, at the first
-/// identifier whose name stands before it. Of a variant that a tag tells it may be `TaggedTuple`, at the variant, where a
-/// tag alone should stand among several unnamed fields, in a tuple or in the unit; or `DuplicateName`, at its identifier,
-/// where the tag has the name of what stands beside it.
+/// kept, `MissingRow`, at an identifier whose name is that of a row that there is not; `DuplicateName`, at the first
+/// identifier whose name stands before it; or `FlattenedMaps`, at the second flattened field whose type is a map. Of a
+/// variant that a tag tells it may be `TaggedTuple`, at the variant, where a tag alone should stand among several unnamed
+/// fields, in a tuple or in the unit; or `DuplicateName`, at its identifier, where the tag has the name of what stands
+/// beside it.
 pub fn resolve_declaration(
     alloc: Global,
     root: &Root<'_>,

@@ -8,7 +8,7 @@ ghost use Rattle.texts.specs.Lists.{Somewhere};
 ghost use Rattle.syntax.specs.Items.{field_view};
 ghost use Rattle.syntax.specs.Named.{HasName};
 ghost use Rattle.shapes.specs.Views.{member_view};
-ghost use Rattle.serde_names.specs.Kept.{kept, value_of};
+ghost use Rattle.serde_names.specs.Kept.{own, value_of};
 ghost use Rattle.derive_decl.specs.Fields.{rules_view, written_ident, written_idents};
 ghost use Rattle.derive_decl.specs.Resolved.{all_of, is_option, member_of, member_from};
 ghost use Rattle.derive_decl.specs.Faults.{IsFaultyMember};
@@ -137,7 +137,7 @@ fn kept_member(
     Ok(member_with(alloc, rules, value, field, name, ty)?)
 }
 
-/// The member of the field, where it has one: a skipped field has none.
+/// The member of the field, where it has one by a name of its own: a field that is skipped or flattened has none.
 pub(crate) fn resolve_member(
     alloc: Global,
     container: &Container<'_>,
@@ -147,16 +147,16 @@ pub(crate) fn resolve_member(
     requires { HasName (field_view field.now) }
     ensures member { IfOk result
         (λ m. all_of (member_of (known container.now) (rules_view rules.now))
-        (kept (field_view field.now ∷ [])) ≡ Some (map written_member_view (cons_option m []))) }
+        (own (field_view field.now ∷ [])) ≡ Some (map written_member_view (cons_option m []))) }
     ensures ident { IfOk result
         (λ m. written_idents container.now.config.now.renames rules.now.rename_all
-        (kept (field_view field.now ∷ [])) ≡ map (λ n. n.ident) (cons_option m [])) }
+        (own (field_view field.now ∷ [])) ≡ map (λ n. n.ident) (cons_option m [])) }
     ensures refused { Refuses result
         (λ e. Somewhere (λ f. IsFaultyMember (known container.now) (rules_view rules.now) f e)
-        (kept (field_view field.now ∷ []))) }
+        (own (field_view field.now ∷ []))) }
 {
     let value = parse_value(alloc, field.attrs.as_slice())?;
-    if value.skip {
+    if value.skip || value.flatten {
         return Ok(None);
     }
     Ok(Some(kept_member(alloc, container, rules, &value, field)?))

@@ -3,7 +3,7 @@ use Rattle.std.specs.Prelude.{◌==◌, ℕ, List, [], ◌∷◌, ◌++◌, map,
 use Rattle.std.specs.Option.{option_or}
 use Rattle.diag.specs.declared.diagnostics.DiangosticsInner.{DiangosticsInner}
 use Rattle.diag.specs.declared.kind.Kind.{Kind}
-use Rattle.diag.specs.declared.kind.Kind.TheVariants.{Syntax, DuplicateName, UnknownType, Arity}
+use Rattle.diag.specs.declared.kind.Kind.TheVariants.{Syntax, DuplicateName, UnknownType, Arity, FlattenedMaps}
 use Rattle.texts.specs.Names.{is_in}
 use Rattle.syntax.specs.Items.{DeclaredItem, declarations_view}
 use Rattle.scopes.specs.Names.{place_among}
@@ -56,6 +56,7 @@ around_help o ds at d DuplicateName message = option_and_then (second_help o ds 
 around_help o ds at d Syntax message = option_map feature_help (first_feature d)
 around_help o ds at d UnknownType message = option_and_then (excluded_help o) (unknown_type message)
 around_help o ds at d Arity message = Some (arity_help message)
+around_help o ds at d FlattenedMaps message = Some (codes "flatten one map; give the other field a name")
 around_help o ds at d _ message = None
 
 -- what is told of the fault of the declaration at the place, which is read from the item

@@ -153,6 +153,9 @@ fn around_help(
         Kind::Syntax => built_help(alloc, declaration),
         Kind::UnknownType => unknown_help(alloc, around, refusal.message()),
         Kind::Arity => Ok(Some(Text::new(alloc, arity_help(refusal.message()))?)),
+        Kind::FlattenedMaps => {
+            Ok(Some(Text::new(alloc, "flatten one map; give the other field a name")?))
+        }
         _ => Ok(None),
     }
 }

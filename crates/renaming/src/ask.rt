@@ -6,7 +6,7 @@ ghost use Rattle.diag.specs.Refusal.{Refuses, RefusesNone};
 ghost use Rattle.attributes.specs.Attributes.{attribute_view, serde_items};
 ghost use Rattle.syntax.specs.Items.{field_view, fields_view, variant_view, body_view, declaration_view, declarations_view};
 ghost use Rattle.serde_names.specs.Asked.{is_given, asked_for, asked_of_field, asked_of_fields, asked_of_variants, asked_told_by, asked_of_body, asked_of_item, asked_of};
-ghost use Rattle.serde_names.specs.Kept.{kept};
+ghost use Rattle.serde_names.specs.Kept.{own};
 ghost use Rattle.renaming.specs.Refusals.{AreRefusedFields, AreRefusedVariants, IsRefusedToldBy, IsRefusedBody, IsRefusedItem, AreRefusedItems};
 
 use attributes::Attribute;
@@ -48,7 +48,7 @@ fn push_name(
     names.push(Asked { rule, place, ident })
 }
 
-/// Adds the name of the field, where serde keeps it.
+/// Adds the name of the field, where serde keeps it and does not flatten it.
 fn push_field(
     alloc: Global,
     names: &mut List<Asked>,
@@ -56,10 +56,10 @@ fn push_field(
     field: &Field,
 ) -> Result<(), AllocError>
     ensures { OnOk result (names.new
-        ≡ names.old ++ flat_map (asked_of_field rule) (kept (field_view field.now ∷ []))) }
+        ≡ names.old ++ flat_map (asked_of_field rule) (own (field_view field.now ∷ []))) }
 {
     let value = parse_value(alloc, field.attrs.as_slice())?;
-    if value.skip {
+    if value.skip || value.flatten {
         return Ok(());
     }
     match &field.ident {
@@ -68,7 +68,7 @@ fn push_field(
     }
 }
 
-/// Adds the names of the fields that serde keeps.
+/// Adds the names of the fields that serde keeps and does not flatten.
 fn push_named(
     alloc: Global,
     names: &mut List<Asked>,
@@ -76,7 +76,7 @@ fn push_named(
     fields: &[Field],
 ) -> Result<(), AllocError>
     ensures { OnOk result (names.new
-        ≡ names.old ++ flat_map (asked_of_field rule) (kept (map field_view fields.now))) }
+        ≡ names.old ++ flat_map (asked_of_field rule) (own (map field_view fields.now))) }
 {
     for field in fields {
         push_field(alloc, names, rule, field)?;

@@ -6,7 +6,7 @@ use Rattle.diag.specs.Refusal.{IsRefusal, IsHelpRefusal}
 use Rattle.diag.specs.declared.diagnostics.DiangosticsInner.{DiangosticsInner}
 use Rattle.diag.specs.declared.error.DeriveError.TheVariants.{Refused}
 use Rattle.diag.specs.declared.kind.Kind.{Kind}
-use Rattle.diag.specs.declared.kind.Kind.TheVariants.{TooLong, TooDeep, Syntax, DuplicateName, UnknownType, Arity, BadArgument, TypeSize, TooManyInstances, NameClash, InlineDepth, TooManyCopies, MissingRow, SerdeTag, TaggedTuple, BadValue}
+use Rattle.diag.specs.declared.kind.Kind.TheVariants.{TooLong, TooDeep, Syntax, DuplicateName, UnknownType, Arity, BadArgument, TypeSize, TooManyInstances, NameClash, InlineDepth, TooManyCopies, MissingRow, SerdeTag, TaggedTuple, BadValue, FlattenedMaps}
 use Rattle.texts.specs.declared.span.Span.{Span}
 use Rattle.diag.specs.declared.rename_rule.RenameRule.{RenameRule}
 use Rattle.diag.specs.declared.rename_row.RenameRow.{RenameRow}
@@ -28,11 +28,11 @@ use Rattle.configuration.specs.Configuration.{Configuration}
 use Rattle.shapes.specs.Declarations.{DeclarationOf}
 use Rattle.shapes.specs.declared.tagging.Tagging.{Tagging}
 use Rattle.shapes.specs.declared.tagging.Tagging.TheVariants.{External, Internal, Adjacent, Untagged}
-use Rattle.serde_names.specs.Kept.{value_of, kept, value_of_variant, kept_variants}
+use Rattle.serde_names.specs.Kept.{value_of, own as own_fields, flattened, value_of_variant, kept_variants}
 use Rattle.serde_names.specs.Names.{IsUnwritten}
 use Rattle.derive_decl.specs.Fields.{FieldRules, field_rules}
-use Rattle.derive_decl.specs.Resolved.{Around, around_of}
-use Rattle.derive_decl.specs.Faults.{AreFaultyFields, IsFaultyType, IsFaultyMember, IsUnnamed, IsFaultyVariant, IsFaultyBody, IsFaultyItem}
+use Rattle.derive_decl.specs.Resolved.{Around, around_of, TypedOf, maps_among}
+use Rattle.derive_decl.specs.Faults.{AreFaultyFields, AreSeveralMaps, IsFaultyType, IsFaultyMember, IsUnnamed, IsFaultyVariant, IsFaultyBody, IsFaultyItem}
 use Rattle.compose.specs.Bounds.{IsRefusalOf, IsUnbounded}
 use Rattle.compose.specs.Faults.{AreFaultyDeclarations, AreAtFault, IsBeyond, IsRefused}
 use Rattle.configuration_json.specs.Said.{is_of_configuration}
@@ -102,10 +102,17 @@ module _ (own : Kind) (of_configuration : IsTrue (is_of_configuration own)) (ds 
   twice : (xs : List Ident) → IsGivenTwice xs (Refused ds) → ⊥
   twice xs (x, repeats, is) = other DuplicateName _ _ refl is
 
+  several : (x : Ident) (ts : List TypedOf) → AreSeveralMaps x ts (Refused ds) → ⊥
+  several x [] h = h
+  several x (t ∷ []) h = h
+  several x (t ∷ u ∷ ts) is = apart FlattenedMaps refl (subst (λ es. HasFirst es (λ d. d.kind ≡ own)) is first)
+
   form : (around : Around) (items : List SerdeItem) (x : Ident) (fs : FieldItems) → AreFaultyFields around items x fs (Refused ds) → ⊥
   form around items x (named fs) (inl h) = disallowed items h
-  form around items x (named fs) (inr (inl h)) = nowhere _ (kept fs) (member around (field_rules items)) h
-  form around items x (named fs) (inr (inr h)) = twice _ h
+  form around items x (named fs) (inr (inl (inl h))) = nowhere _ (own_fields fs) (member around (field_rules items)) h
+  form around items x (named fs) (inr (inl (inr h))) = twice _ h
+  form around items x (named fs) (inr (inr (inl h))) = nowhere _ (flattened fs) (typed around) h
+  form around items x (named fs) (inr (inr (inr (ts, is, h)))) = several x (maps_among ts) h
   form around items x (unnamed fs) (inl h) = nowhere _ fs (typed around) h
   form around items x (unnamed fs) (inr (none, is)) = other Arity _ _ refl is
   form around items x unit h = h

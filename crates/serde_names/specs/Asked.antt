@@ -19,7 +19,7 @@ use Rattle.serde_rules.specs.declared.enum_repr.SerdeEnumRepr.TheVariants.{Exter
 use Rattle.serde_rules.specs.Container.{TagFault, representation, rename_rule}
 use Rattle.syntax.specs.Items.{FieldItem, FieldItems, named, unnamed, unit, VariantItem, BodyItem, struct_body, enum_body, DeclaredItem}
 use Rattle.serde_names.specs.declared.asked.Asked.{Asked}
-use Rattle.serde_names.specs.Kept.{value_of, kept, value_of_variant, kept_variants}
+use Rattle.serde_names.specs.Kept.{value_of, own, value_of_variant, kept_variants}
 use Rattle.serde_names.specs.Names.{row_message}
 
 -- ---- the names
@@ -42,9 +42,9 @@ asked_as rule value (Some x) = asked_for Field rule value x
 abbrev pub asked_of_field : Option RenameRule → FieldItem → List Asked
 asked_of_field rule f = asked_as rule (value_of f) f.ident
 
--- the fields that are kept, where they have names; serde's items before the struct or the variant say their rule
+-- the fields that are kept and not flattened, where they have names; serde's items before the struct or the variant say their rule
 abbrev pub asked_of_fields : List SerdeItem → FieldItems → List Asked
-asked_of_fields items (named fs) = flat_map (asked_of_field (rename_rule items)) (kept fs)
+asked_of_fields items (named fs) = flat_map (asked_of_field (rename_rule items)) (own fs)
 asked_of_fields items (unnamed fs) = []
 asked_of_fields items unit = []
 

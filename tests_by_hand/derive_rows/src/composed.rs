@@ -1,6 +1,6 @@
 //! From sources to the documents of their components.
 
-use crate::refusals::refused;
+use crate::refusals::{refused, with_notes};
 use crate::texts::source_of;
 use crate::whole::json_of;
 use acceptance_checker::component_accepts;
@@ -21,6 +21,7 @@ const DEPTH: usize = 9;
 pub(crate) fn told(alloc: Global, call: &str, given: &Value) -> anyhow::Result<String> {
     match call {
         "refusal" => refusal(alloc, given),
+        "report" => report(alloc, given),
         "components" => components(alloc, given),
         "accepted" => accepted(alloc, given),
         "types" => types(alloc, given),
@@ -47,6 +48,15 @@ fn config_of(alloc: Global, given: &Value) -> Result<Config, DeriveError> {
     match given.get("configuration") {
         Some(value) => Config::from_value(alloc, value),
         None => Ok(Config::new(alloc)),
+    }
+}
+
+/// The refusal of the source with its notes, or that there is none.
+fn report(alloc: Global, given: &Value) -> anyhow::Result<String> {
+    let config = config_of(alloc, given)?;
+    match derive(alloc, text_at(given, "source")?, &config) {
+        Ok(_derived) => Ok(String::from_str(alloc, "no refusal")?),
+        Err(error) => Ok(with_notes(alloc, &error)?),
     }
 }
 

@@ -32,3 +32,14 @@ pub(crate) fn refused(alloc: Global, error: &DeriveError) -> Result<String, Allo
         DeriveError::Memory => Err(AllocError),
     }
 }
+
+/// What the refusal reports, with its notes and what may be done.
+pub(crate) fn with_notes(alloc: Global, error: &DeriveError) -> Result<String, AllocError> {
+    match error {
+        DeriveError::Refused(diagnostics) => {
+            let located = diagnostics.located(alloc)?;
+            String::from_str(alloc, located.as_str())
+        }
+        DeriveError::Memory => Err(AllocError),
+    }
+}

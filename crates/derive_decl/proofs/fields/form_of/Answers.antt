@@ -12,7 +12,7 @@ pub returns-in-Named-clause-refused : goal.returns-in-Named-clause-refused
 returns-in-Named-clause-refused c =
     let root = c.args.root.now in
     subst (λ fs. Refuses c.named_form.result (AreFaultyFields (known root.container.now) (items_of root) root.ident.now (fields_view fs))) (sym c.in-Named.is)
-    (subst (λ (fs : List Field). Refuses c.named_form.result (AreFaultyNamed (known root.container.now) (items_of root) (map field_view fs))) c.as_slice.ensures c.named_form.ensures.refused)
+    (subst (λ (fs : List Field). Refuses c.named_form.result (AreFaultyNamed (known root.container.now) (items_of root) root.ident.now (map field_view fs))) c.as_slice.ensures c.named_form.ensures.refused)
 
 pub returns-in-Unnamed-clause-form : goal.returns-in-Unnamed-clause-form
 returns-in-Unnamed-clause-form c =

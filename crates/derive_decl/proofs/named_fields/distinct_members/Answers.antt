@@ -5,7 +5,7 @@ use Rattle.syntax.specs.Items.{field_view}
 use Rattle.shapes.specs.Declarations.{member_names}
 use Rattle.scopes.specs.Names.{texts, IsGivenTwice}
 use Rattle.derive_decl.specs.declared.written_member.WrittenMember.{WrittenMember}
-use Rattle.serde_names.specs.Kept.{kept}
+use Rattle.serde_names.specs.Kept.{own}
 use Rattle.derive_decl.specs.Fields.{written_idents}
 use Rattle.derive_decl.specs.Resolved.{members_are_distinct}
 use Rattle.derive_decl.specs.Views.{written_member_view}
@@ -17,7 +17,7 @@ pub returns-in_err-places_of-clause-refused : goal.returns-in_err-places_of-clau
 returns-in_err-places_of-clause-refused c =
     let p = err_from_is_err_and c.from_residual-in_err-places_of.result c.from_residual-in_err-places_of.ensures.1 in
     let e = c.in_err-places_of.field-0.0 in
-    let idents : map (λ (m : WrittenMember). m.ident) c.as_slice.result.now ≡ written_idents c.args.container.now.config.now.renames c.args.rules.now.rename_all (kept (map field_view c.args.fields.now)) =
+    let idents : map (λ (m : WrittenMember). m.ident) c.as_slice.result.now ≡ written_idents c.args.container.now.config.now.renames c.args.rules.now.rename_all (own (map field_view c.args.fields.now)) =
     ap (map (λ (m : WrittenMember). m.ident)) c.as_slice.ensures.value ∙ sym c.in_ok-members.ensures.idents in
     rw (p.1, p.2)
     (elim c.in_err-places_of.ensures.refused [

@@ -6,7 +6,7 @@ use Rattle.std.specs.List.{cons_option}
 use Rattle.syntax.specs.Items.{field_view}
 use Rattle.syntax.specs.Named.{HasName}
 use Rattle.derive_decl.specs.declared.written_member.WrittenMember.{WrittenMember}
-use Rattle.serde_names.specs.Kept.{is_kept, kept}
+use Rattle.serde_names.specs.Kept.{is_own, own}
 use Rattle.derive_decl.specs.Fields.{rules_view, written_ident, written_idents}
 use Rattle.derive_decl.specs.Resolved.{all_of, member_of}
 use Rattle.derive_decl.specs.Faults.{IsFaultyMember}
@@ -26,7 +26,7 @@ returns-in_err-member-clause-refused c =
     rw (p.1, p.2)
     (elim c.in_err-member.ensures.refused [
       | inl memory ↦ inl memory
-      | inr fault ↦ inr (somewhere_kept field_view is_kept (λ f. IsFaultyMember (known c.args.container.now) (rules_view c.args.rules.now) f c.in_err-member.field-0.0) c.args.fields.now c.loop-field.field-index c.field-item.result lt c.field-item.is fault)
+      | inr fault ↦ inr (somewhere_kept field_view is_own (λ f. IsFaultyMember (known c.args.container.now) (rules_view c.args.rules.now) f c.in_err-member.field-0.0) c.args.fields.now c.loop-field.field-index c.field-item.result lt c.field-item.is fault)
     ])
 
 pub loop-field-preserved : goal.loop-field-preserved
@@ -40,16 +40,16 @@ loop-field-preserved c =
     let around = known c.args.container.now in
     let rules = rules_view c.args.rules.now in
     rw c.in_ok-push_some.ensures (
-      all_kept_more field_view is_kept (member_of around rules) fields at field (map written_member_view members) (map written_member_view more) lt c.field-item.is c.loop-field.invariant.0 c.in_ok-member.ensures.member ∙ ap Some (sym (map-append written_member_view members more)),
-      some_kept_more field_view is_kept (written_ident around.rows rules.rule) fields at field (map (λ m. m.ident) members) (map (λ m. m.ident) more) lt c.field-item.is c.loop-field.invariant.1 c.in_ok-member.ensures.ident ∙ sym (map-append (λ (m : WrittenMember). m.ident) members more),
+      all_kept_more field_view is_own (member_of around rules) fields at field (map written_member_view members) (map written_member_view more) lt c.field-item.is c.loop-field.invariant.0 c.in_ok-member.ensures.member ∙ ap Some (sym (map-append written_member_view members more)),
+      some_kept_more field_view is_own (written_ident around.rows rules.rule) fields at field (map (λ m. m.ident) members) (map (λ m. m.ident) more) lt c.field-item.is c.loop-field.invariant.1 c.in_ok-member.ensures.ident ∙ sym (map-append (λ (m : WrittenMember). m.ident) members more),
     )
 
 pub returns-clause-members : goal.returns-clause-members
 returns-clause-members c =
     let whole : take c.loop-field.field-index c.args.fields.now ≡ c.args.fields.now = grind (arith, common_steps) in
-    subst (λ fs. all_of (member_of (known c.args.container.now) (rules_view c.args.rules.now)) (kept (map field_view fs)) ≡ Some (map written_member_view c.loop-field.members.items)) whole c.loop-field.invariant.0
+    subst (λ fs. all_of (member_of (known c.args.container.now) (rules_view c.args.rules.now)) (own (map field_view fs)) ≡ Some (map written_member_view c.loop-field.members.items)) whole c.loop-field.invariant.0
 
 pub returns-clause-idents : goal.returns-clause-idents
 returns-clause-idents c =
     let whole : take c.loop-field.field-index c.args.fields.now ≡ c.args.fields.now = grind (arith, common_steps) in
-    subst (λ fs. written_idents c.args.container.now.config.now.renames c.args.rules.now.rename_all (kept (map field_view fs)) ≡ map (λ m. m.ident) c.loop-field.members.items) whole c.loop-field.invariant.1
+    subst (λ fs. written_idents c.args.container.now.config.now.renames c.args.rules.now.rename_all (own (map field_view fs)) ≡ map (λ m. m.ident) c.loop-field.members.items) whole c.loop-field.invariant.1
