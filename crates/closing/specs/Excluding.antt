@@ -5,8 +5,7 @@ use Rattle.acceptance.specs.Acceptance.{Accepts}
 use Rattle.schema_core.specs.declared.alternatives.Alternatives.{Alternatives}
 use Rattle.schema_core.specs.Form.{alternatives_word}
 use Rattle.shapes.specs.Declarations.{BodyOf, units, numbers, variants}
-use Rattle.shapes.specs.declared.tagging.Tagging.{Tagging}
-use Rattle.shapes.specs.declared.tagging.Tagging.TheVariants.{Internal, Adjacent}
+use Rattle.shapes.specs.Plain.{IsTagged}
 use Rattle.terms.specs.Telling.{TellsOne}
 
 abbrev pub items_of : Option Json → Items
@@ -25,12 +24,6 @@ IsAcceptedByOne doc (item s ss) v = Accepts doc s v ⊎ IsAcceptedByOne doc ss v
 abbrev pub AtMostOneAccepts : Json → Items → Json → Type 0
 AtMostOneAccepts doc no_items v = Unit {0}
 AtMostOneAccepts doc (item s ss) v = (Accepts doc s v → IsAcceptedByOne doc ss v → ⊥) × AtMostOneAccepts doc ss v
-
--- the variants have a tag
-abbrev pub IsTagged : Tagging → Type 0
-IsTagged (Internal tag) = Unit {0}
-IsTagged (Adjacent tag content) = Unit {0}
-IsTagged _ = ⊥
 
 -- the value tells at most one variant of the enum, whose schema has alternatives
 abbrev pub TellsOneOf : BodyOf → Json → Type 0

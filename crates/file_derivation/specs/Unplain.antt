@@ -3,7 +3,7 @@ use Rattle.std.specs.Prelude.{◌≡◌, ℕ, List, [], ◌∷◌, ◌++◌, sli
 use Rattle.configuration.specs.Configuration.{Configuration}
 use Rattle.syntax.specs.Items.{DeclaredItem}
 use Rattle.plainness.specs.declared.unplain.Misfit.{Misfit}
-use Rattle.plainness.specs.declared.unplain.Misfit.TheVariants.{NoContent, NoTexts, NotAlone, Denied}
+use Rattle.plainness.specs.declared.unplain.Misfit.TheVariants.{NoOpenMap, NoTexts, NotAlone, Denied}
 use Rattle.plainness.specs.declared.unplain.Obstacle.{Obstacle}
 use Rattle.plainness.specs.declared.unplain.Obstacle.TheVariants.{Float, MapKey, TaggedNewtype, Flattened, Unit, NoVariant}
 use Rattle.plainness.specs.declared.unplain.Reason.{Reason}
@@ -16,7 +16,7 @@ use Rattle.file_derivation.specs.Elsewhere.{told_at_name}
 
 -- what is said of a flattened field, behind its name
 abbrev pub misfit_text : Misfit → List ℕ
-misfit_text NoContent = codes "flattens what is no struct with named fields, or has deny_unknown_fields or a flattened map"
+misfit_text NoOpenMap = codes "flattens neither a struct with named fields nor an enum with a tag, or one that has deny_unknown_fields or a flattened map"
 misfit_text NoTexts = codes "flattens a map whose key is not String, str or char"
 misfit_text NotAlone = codes "flattens a map beside something else that is flattened"
 misfit_text Denied = codes "is flattened beside deny_unknown_fields"

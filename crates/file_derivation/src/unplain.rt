@@ -28,8 +28,8 @@ fn misfit_text(misfit: Misfit) -> &'static str
     ensures { result.now ≡ misfit_text misfit }
 {
     match misfit {
-        Misfit::NoContent => {
-            "flattens what is no struct with named fields, or has deny_unknown_fields or a flattened map"
+        Misfit::NoOpenMap => {
+            "flattens neither a struct with named fields nor an enum with a tag, or one that has deny_unknown_fields or a flattened map"
         }
         Misfit::NoTexts => "flattens a map whose key is not String, str or char",
         Misfit::NotAlone => "flattens a map beside something else that is flattened",

@@ -1,19 +1,19 @@
 -- A body is plain exactly if nothing is in the way.
-use Rattle.std.proofs.Common.{◌≡◌, ◌≢◌, ◌↔◌, List, [], ◌∷◌, Bool, true, false, cond, Option, Some, None, IsTrue, refl}
+use Rattle.std.proofs.Common.{◌≡◌, ◌≢◌, ◌↔◌, ◌&&◌, List, [], ◌∷◌, Bool, true, false, cond, Option, Some, None, IsTrue, refl}
 use Rattle.std.specs.Option.{option_or}
 use Rattle.leaves.specs.Leaves.{kind_of}
 use Rattle.leaves.specs.declared.leaf.LeafKind.{LeafKind}
 use Rattle.leaves.specs.declared.leaf.LeafKind.TheVariants as kinds
 use Rattle.open_types.specs.Open.{Open, Opens, leaf, any_value, free_object, tuple, items, set, map_of, option, through, named, no_types, more_types}
 use Rattle.shapes.specs.Declarations.{FlattenedOf, FlattenedMapOf, FormOf, named_fields, unnamed_fields, no_fields, VariantOf, BodyOf, fields, units, numbers, variants, DeclarationOf, declaration_at, member_types}
-use Rattle.shapes.specs.Plain.{IsNames, IsKey, IsPlainType, ArePlainTypes, AreAllPlain, IsOpen, IsOpenStruct, IsContent, IsText, AreFlattened, IsPlainBeside, IsPlainForm, AreContent, CanBeTagged, IsPlainVariant, ArePlainVariants, KeepsVariant}
+use Rattle.shapes.specs.Plain.{IsNames, IsKey, IsPlainType, ArePlainTypes, AreAllPlain, IsOpen, IsOpenStruct, IsContent, IsTagged, IsOpenVariant, AreOpenVariants, IsOpenMap, CanBeFlattened, IsText, AreFlattened, IsPlainBeside, IsPlainForm, AreContent, CanBeTagged, IsPlainVariant, ArePlainVariants, KeepsVariant}
 use Rattle.shapes.specs.declared.tagging.Tagging.{Tagging}
-use Rattle.shapes.specs.declared.tagging.Tagging.TheVariants.{External, Internal, Untagged}
-use Rattle.plainness.specs.declared.unplain.Misfit.TheVariants.{NoContent, NoTexts, NotAlone, Denied}
+use Rattle.shapes.specs.declared.tagging.Tagging.TheVariants.{External, Internal, Adjacent, Untagged}
+use Rattle.plainness.specs.declared.unplain.Misfit.TheVariants.{NoOpenMap, NoTexts, NotAlone, Denied}
 use Rattle.plainness.specs.declared.unplain.Obstacle.{Obstacle}
 use Rattle.plainness.specs.declared.unplain.Obstacle.TheVariants as obstacles
 use Rattle.plainness.specs.Laws.{ObstaclesAreExact}
-use Rattle.plainness.specs.Obstacles.{is_names, is_text, is_key, leaf_obstacle, key_obstacle, type_obstacle, types_obstacle, all_obstacle, is_any_text, field_obstacle, flattened_obstacle, beside_obstacle, form_obstacle, is_open, is_open_struct, is_content, are_content, content_obstacle, variant_obstacle, variants_obstacle, kept_obstacle}
+use Rattle.plainness.specs.Obstacles.{is_names, is_text, is_key, leaf_obstacle, key_obstacle, type_obstacle, types_obstacle, all_obstacle, is_any_text, field_obstacle, flattened_obstacle, beside_obstacle, form_obstacle, is_open, is_open_struct, is_content, is_tagged, is_open_variant, are_open_variants, is_open_map, can_be_flattened, are_content, content_obstacle, variant_obstacle, variants_obstacle, kept_obstacle}
 
 -- ---- nothing, something, two and a test
 
@@ -107,13 +107,43 @@ content_exact ss (through h t) = content_exact ss t
 content_exact ss (named d ts) = open_exact (declaration_at ss d).body
 content_exact ss _ = no
 
+both_true : {P Q : Type 0} (a b : Bool) → IsTrue a ↔ P → IsTrue b ↔ Q → IsTrue (a && b) ↔ (P × Q)
+both_true true b f g = (λ h. (f.0 refl, g.0 h), λ h. g.1 h.1)
+both_true false b f g = (λ h. cc, λ h. f.1 h.0)
+
+tagged_exact : (tagging : Tagging) → IsTrue (is_tagged tagging) ↔ IsTagged tagging
+tagged_exact (Internal tag) = yes
+tagged_exact (Adjacent tag content) = yes
+tagged_exact External = no
+tagged_exact Untagged = no
+
+open_variant_exact : (tagging : Tagging) (form : FormOf) → IsTrue (is_open_variant tagging form) ↔ IsOpenVariant tagging form
+open_variant_exact (Internal tag) (named_fields b ms) = opens_exact b.denies b.map
+open_variant_exact _ _ = yes
+
+open_variants_exact : (tagging : Tagging) (xs : List VariantOf) → IsTrue (are_open_variants tagging xs) ↔ AreOpenVariants tagging xs
+open_variants_exact tagging [] = yes
+open_variants_exact tagging (x ∷ xs) = both_true (is_open_variant tagging x.form) (are_open_variants tagging xs) (open_variant_exact tagging x.form) (open_variants_exact tagging xs)
+
+open_map_exact : (body : BodyOf) → IsTrue (is_open_map body) ↔ IsOpenMap body
+open_map_exact (fields form) = open_exact (fields form)
+open_map_exact (units tagging names) = tagged_exact tagging
+open_map_exact (numbers tagging ns) = tagged_exact tagging
+open_map_exact (variants tagging xs) = both_true (is_tagged tagging) (are_open_variants tagging xs) (tagged_exact tagging) (open_variants_exact tagging xs)
+
+can_be_flattened_exact : (ss : List DeclarationOf) (t : Open) → IsTrue (can_be_flattened ss t) ↔ CanBeFlattened ss t
+can_be_flattened_exact ss (through h t) = can_be_flattened_exact ss t
+can_be_flattened_exact ss (named d ts) = open_map_exact (declaration_at ss d).body
+can_be_flattened_exact ss _ = no
+
 any_text_exact : (t : Open) → IsTrue (is_any_text t) ↔ IsText t
 any_text_exact (leaf x) = text_exact (kind_of x)
 any_text_exact (through h t) = any_text_exact t
 any_text_exact _ = no
 
-field_exact : (ss : List DeclarationOf) (f : FlattenedOf) → IsClear (field_obstacle ss f) ↔ (IsContent ss f.of × IsPlainType ss f.of)
-field_exact ss f = both_clear (cond (is_content ss f.of) None _) (type_obstacle ss f.of) (unless (is_content ss f.of) (obstacles.Flattened f.name NoContent) (content_exact ss f.of)) (type_exact ss f.of)
+field_exact : (ss : List DeclarationOf) (f : FlattenedOf) → IsClear (field_obstacle ss f) ↔ (CanBeFlattened ss f.of × IsPlainType ss f.of)
+field_exact ss f =
+    both_clear (cond (can_be_flattened ss f.of) None _) (type_obstacle ss f.of) (unless (can_be_flattened ss f.of) (obstacles.Flattened f.name NoOpenMap) (can_be_flattened_exact ss f.of)) (type_exact ss f.of)
 
 flattened_exact : (ss : List DeclarationOf) (fs : List FlattenedOf) → IsClear (flattened_obstacle ss fs) ↔ AreFlattened ss fs
 flattened_exact ss [] = nothing

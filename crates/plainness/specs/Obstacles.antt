@@ -1,5 +1,6 @@
 -- What in the body of an instance its schema cannot say whole, where something does: the first of it.
-use Rattle.std.specs.Prelude.{◌≡◌, List, [], ◌∷◌, Bool, true, false, cond, Option, Some, None}
+use Rattle.std.specs.Prelude.{◌≡◌, ◌&&◌, List, [], ◌∷◌, Bool, true, false, cond, Option, Some, None}
+use Rattle.std.specs.List.{list_all}
 use Rattle.std.specs.Option.{option_or}
 use Rattle.leaves.specs.Leaves.{kind_of}
 use Rattle.leaves.specs.declared.leaf.LeafKind.{LeafKind}
@@ -7,8 +8,8 @@ use Rattle.leaves.specs.declared.leaf.LeafKind.TheVariants as kinds
 use Rattle.open_types.specs.Open.{Open, Opens, leaf, any_value, free_object, tuple, items, set, map_of, option, through, named, no_types, more_types}
 use Rattle.shapes.specs.Declarations.{FlattenedOf, FlattenedMapOf, FormOf, named_fields, unnamed_fields, no_fields, VariantOf, BodyOf, fields, units, numbers, variants, DeclarationOf, declaration_at, member_types}
 use Rattle.shapes.specs.declared.tagging.Tagging.{Tagging}
-use Rattle.shapes.specs.declared.tagging.Tagging.TheVariants.{External, Internal, Untagged}
-use Rattle.plainness.specs.declared.unplain.Misfit.TheVariants.{NoContent, NoTexts, NotAlone, Denied}
+use Rattle.shapes.specs.declared.tagging.Tagging.TheVariants.{External, Internal, Adjacent, Untagged}
+use Rattle.plainness.specs.declared.unplain.Misfit.TheVariants.{NoOpenMap, NoTexts, NotAlone, Denied}
 use Rattle.plainness.specs.declared.unplain.Obstacle.{Obstacle}
 use Rattle.plainness.specs.declared.unplain.Obstacle.TheVariants.{Float, MapKey, TaggedNewtype, Flattened, Unit, NoVariant}
 
@@ -82,11 +83,38 @@ abbrev pub is_open_struct : BodyOf → Bool
 is_open_struct (fields (named_fields b ms)) = is_open b.denies b.map
 is_open_struct _ = false
 
--- such a struct, passed through perhaps: a tag or others' members may stand among its own
+-- such a struct, passed through perhaps: a tag may stand among its members
 abbrev pub is_content : List DeclarationOf → Open → Bool
 is_content ss (named d ts) = is_open_struct (declaration_at ss d).body
 is_content ss (through h t) = is_content ss t
 is_content ss _ = false
+
+-- the variants have a tag
+abbrev pub is_tagged : Tagging → Bool
+is_tagged (Internal tag) = true
+is_tagged (Adjacent tag content) = true
+is_tagged _ = false
+
+-- others may stand beside the tag and the members of the variant
+abbrev pub is_open_variant : Tagging → FormOf → Bool
+is_open_variant (Internal tag) (named_fields b ms) = is_open b.denies b.map
+is_open_variant _ _ = true
+
+abbrev pub are_open_variants : Tagging → List VariantOf → Bool
+are_open_variants tagging xs = list_all (λ x. is_open_variant tagging x.form) xs
+
+-- such a struct, or an enum with a tag whose variants are open
+abbrev pub is_open_map : BodyOf → Bool
+is_open_map (fields form) = is_open_struct (fields form)
+is_open_map (units tagging names) = is_tagged tagging
+is_open_map (numbers tagging ns) = is_tagged tagging
+is_open_map (variants tagging xs) = is_tagged tagging && are_open_variants tagging xs
+
+-- what is declared as such a map, passed through perhaps
+abbrev pub can_be_flattened : List DeclarationOf → Open → Bool
+can_be_flattened ss (named d ts) = is_open_map (declaration_at ss d).body
+can_be_flattened ss (through h t) = can_be_flattened ss t
+can_be_flattened ss _ = false
 
 -- any texts, passed through perhaps
 abbrev pub is_any_text : Open → Bool
@@ -94,9 +122,9 @@ is_any_text (leaf x) = is_text (kind_of x)
 is_any_text (through h t) = is_any_text t
 is_any_text _ = false
 
--- what is flattened is no such struct, or has something in the way
+-- what is flattened is no such map, or has something in the way
 abbrev pub field_obstacle : List DeclarationOf → FlattenedOf → Option Obstacle
-field_obstacle ss f = option_or (cond (is_content ss f.of) None (Some (Flattened f.name NoContent))) (type_obstacle ss f.of)
+field_obstacle ss f = option_or (cond (can_be_flattened ss f.of) None (Some (Flattened f.name NoOpenMap))) (type_obstacle ss f.of)
 
 abbrev pub flattened_obstacle : List DeclarationOf → List FlattenedOf → Option Obstacle
 flattened_obstacle ss fs = first_obstacle (field_obstacle ss) fs

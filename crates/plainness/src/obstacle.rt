@@ -8,7 +8,7 @@ ghost use Rattle.shapes.specs.Declarations.{declaration_at, member_types};
 ghost use Rattle.shapes.specs.Instances.{member_over, flattened_over, flattened_map_over, beside_over, form_over, variant_over, body_over};
 ghost use Rattle.shapes.specs.Views.{member_view, flattened_view, flattened_map_view, beside_view, form_view, variant_view, body_view, declaration_view};
 ghost use Rattle.plainness.specs.declared.unplain.Obstacle.{Obstacle};
-ghost use Rattle.plainness.specs.Obstacles.{first_obstacle, TellsObstacle, is_names, is_text, is_open_struct, is_key, leaf_obstacle, type_obstacle, types_obstacle, all_obstacle, is_any_text, field_obstacle, flattened_obstacle, map_obstacle, beside_obstacle, form_obstacle, is_content, are_content, content_obstacle, variant_obstacle, variants_obstacle, kept_obstacle, body_obstacle};
+ghost use Rattle.plainness.specs.Obstacles.{first_obstacle, TellsObstacle, is_names, is_text, is_open, is_open_struct, is_tagged, is_open_variant, are_open_variants, is_open_map, is_key, leaf_obstacle, type_obstacle, types_obstacle, all_obstacle, is_any_text, field_obstacle, flattened_obstacle, map_obstacle, beside_obstacle, form_obstacle, is_content, can_be_flattened, are_content, content_obstacle, variant_obstacle, variants_obstacle, kept_obstacle, body_obstacle};
 
 use crate::unplain::{Misfit, Obstacle};
 use leaves::{Leaf, LeafKind};
@@ -182,6 +182,117 @@ fn named_misfit(alloc: Global, name: &Text, misfit: Misfit) -> Result<Option<Obs
     Ok(Some(Obstacle::Flattened(name.copy(alloc)?, misfit)))
 }
 
+/// Whether others may stand beside the members of a struct or a variant.
+fn is_open(denies: bool, beside: &Option<Box<Beside>>) -> bool
+    ensures { let b = beside_view denies beside.now in result ≡ is_open b.denies b.map }
+{
+    !denies && !has_map(beside)
+}
+
+/// Whether it is a struct with named fields beside which others may stand.
+fn is_open_struct(body: &Body) -> bool
+    ensures { result ≡ is_open_struct (body_view body.now) }
+{
+    match body {
+        Body::Fields(
+            Form::Named {
+                denies_others,
+                beside,
+                ..
+            },
+        ) => is_open(*denies_others, beside),
+        _ => false,
+    }
+}
+
+/// Whether the variants have a tag.
+fn is_tagged(tagging: &Tagging) -> bool
+    ensures { result ≡ is_tagged tagging.now }
+{
+    match tagging {
+        Tagging::Internal { .. } | Tagging::Adjacent { .. } => true,
+        Tagging::External | Tagging::Untagged => false,
+    }
+}
+
+/// Whether others may stand beside the tag and the members of a variant.
+fn is_open_variant(tagging: &Tagging, form: &Form) -> bool
+    ensures { result ≡ is_open_variant tagging.now (form_view form.now) }
+{
+    match (tagging, form) {
+        (
+            Tagging::Internal { .. },
+            Form::Named {
+                denies_others: denies,
+                beside,
+                ..
+            },
+        ) => is_open(*denies, beside),
+        _ => true,
+    }
+}
+
+/// Whether others may stand beside the tag and the members of each variant.
+fn are_open_variants(tagging: &Tagging, variants: &[Variant]) -> bool
+    ensures { result ≡ are_open_variants tagging.now (map variant_view variants.now) }
+{
+    for variant in variants {
+        if !is_open_variant(tagging, &variant.form) {
+            return false;
+        }
+    }
+    true
+}
+
+/// Whether it is such a struct, or an enum with a tag and such variants.
+fn is_open_map(body: &Body) -> bool
+    ensures { result ≡ is_open_map (body_view body.now) }
+{
+    match body {
+        Body::Fields(_) => is_open_struct(body),
+        Body::Units { tagging, .. } => is_tagged(tagging),
+        Body::Numbers { tagging, .. } => is_tagged(tagging),
+        Body::Variants { tagging, variants } => {
+            is_tagged(tagging) && are_open_variants(tagging, variants.as_slice())
+        }
+    }
+}
+
+/// Whether the declaration at the place is such a struct or enum.
+fn declares_open_map(declared: &[Declaration], place: usize) -> bool
+    ensures { result ≡ is_open_map (declaration_at (map declaration_view declared.now) place).body }
+{
+    match declared.get(place) {
+        Some(declaration) => is_open_map(&declaration.body),
+        None => false,
+    }
+}
+
+/// Whether the type is such a struct or enum, passed through perhaps.
+fn can_be_flattened(declared: &[Declaration], ty: &OpenType) -> bool
+    ensures { result ≡ can_be_flattened (map declaration_view declared.now) (open_view ty.now) }
+{
+    match ty {
+        OpenType::Through(_, of) => can_be_flattened(declared, of),
+        OpenType::Named(place, _) => declares_open_map(declared, *place),
+        _ => false,
+    }
+}
+
+/// Whether the type, with the arguments in the places of its parameters, is such a struct or enum.
+fn can_be_flattened_over(
+    alloc: Global,
+    declared: &[Declaration],
+    arguments: &[ClosedType],
+    ty: &OpenType,
+) -> Result<bool, AllocError>
+    ensures { IfOk result (λ can. can ≡ can_be_flattened (map declaration_view declared.now)
+        (substituted (opens_view arguments.now) (open_view ty.now))) }
+{
+    let put = substitute_first(alloc, ty, arguments)?;
+    Ok(can_be_flattened(declared, &put))
+}
+
 /// What is in the way in a flattened field, with the arguments in the places of its type's parameters.
 fn field_obstacle(
     alloc: Global,
@@ -192,8 +303,8 @@ fn field_obstacle(
     ensures { IfOk result (λ obstacle. obstacle ≡ field_obstacle (map declaration_view declared.now)
         (flattened_over (opens_view arguments.now) (flattened_view field.now))) }
 {
-    if !is_content_over(alloc, declared, arguments, &field.ty)? {
-        return named_misfit(alloc, &field.name, Misfit::NoContent);
+    if !can_be_flattened_over(alloc, declared, arguments, &field.ty)? {
+        return named_misfit(alloc, &field.name, Misfit::NoOpenMap);
     }
     place_obstacle(alloc, declared, arguments, &field.ty)
 }
@@ -291,22 +402,6 @@ fn form_obstacle(
         }
         Form::Unnamed(types) => places_obstacle(alloc, declared, arguments, types.as_slice()),
         Form::Unit => Ok(Some(Obstacle::Unit)),
-    }
-}
-
-/// Whether it is a struct with named fields beside which others may stand.
-fn is_open_struct(body: &Body) -> bool
-    ensures { result ≡ is_open_struct (body_view body.now) }
-{
-    match body {
-        Body::Fields(
-            Form::Named {
-                denies_others: false,
-                beside,
-                ..
-            },
-        ) => !has_map(beside),
-        _ => false,
     }
 }
 

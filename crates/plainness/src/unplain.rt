@@ -6,8 +6,8 @@ use texts::Text;
 /// Why a schema cannot say a flattened field whole.
 #[derive(Clone, Copy, Debug, PartialEq, Eq)]
 pub enum Misfit {
-    /// It holds no struct with named fields that lets others stand beside them.
-    NoContent,
+    /// It holds neither a struct with named fields nor an enum with a tag that lets others stand beside its members.
+    NoOpenMap,
     /// It is a map whose keys are no texts.
     NoTexts,
     /// It is a map beside which something else is flattened.

@@ -5,7 +5,7 @@ use Rattle.leaves.specs.declared.leaf.LeafKind.TheVariants as kinds
 use Rattle.open_types.specs.Open.{Open, Opens, leaf, any_value, free_object, tuple, items, set, map_of, option, through, named, no_types, more_types}
 use Rattle.shapes.specs.Declarations.{FlattenedOf, FlattenedMapOf, FormOf, named_fields, unnamed_fields, no_fields, VariantOf, BodyOf, fields, units, numbers, variants, DeclarationOf, declaration_at, member_types}
 use Rattle.shapes.specs.declared.tagging.Tagging.{Tagging}
-use Rattle.shapes.specs.declared.tagging.Tagging.TheVariants.{External, Internal, Untagged}
+use Rattle.shapes.specs.declared.tagging.Tagging.TheVariants.{External, Internal, Adjacent, Untagged}
 
 -- an enum of which each value is the name of a variant
 abbrev pub IsNames : BodyOf → Type 0
@@ -52,11 +52,39 @@ abbrev pub IsOpenStruct : BodyOf → Type 0
 IsOpenStruct (fields (named_fields b ms)) = IsOpen b.denies b.map
 IsOpenStruct _ = ⊥
 
--- a map that lets a tag or others' members stand among its own: such a struct, passed through perhaps
+-- a map that lets a tag stand among its own members: such a struct, passed through perhaps
 abbrev pub IsContent : List DeclarationOf → Open → Type 0
 IsContent ss (named d ts) = IsOpenStruct (declaration_at ss d).body
 IsContent ss (through h t) = IsContent ss t
 IsContent ss _ = ⊥
+
+-- the variants have a tag
+abbrev pub IsTagged : Tagging → Type 0
+IsTagged (Internal tag) = Unit {0}
+IsTagged (Adjacent tag content) = Unit {0}
+IsTagged _ = ⊥
+
+-- other members may stand beside the tag and those of the variant: what an adjacent content denies or flattens stands in a map of its own
+abbrev pub IsOpenVariant : Tagging → FormOf → Type 0
+IsOpenVariant (Internal tag) (named_fields b ms) = IsOpen b.denies b.map
+IsOpenVariant _ _ = Unit {0}
+
+abbrev pub AreOpenVariants : Tagging → List VariantOf → Type 0
+AreOpenVariants tagging [] = Unit {0}
+AreOpenVariants tagging (x ∷ xs) = IsOpenVariant tagging x.form × AreOpenVariants tagging xs
+
+-- a map beside whose own members others may stand: such a struct, or an enum with a tag whose variants are open
+abbrev pub IsOpenMap : BodyOf → Type 0
+IsOpenMap (fields form) = IsOpenStruct (fields form)
+IsOpenMap (units tagging names) = IsTagged tagging
+IsOpenMap (numbers tagging ns) = IsTagged tagging
+IsOpenMap (variants tagging xs) = IsTagged tagging × AreOpenVariants tagging xs
+
+-- what is declared as such a map, passed through perhaps
+abbrev pub CanBeFlattened : List DeclarationOf → Open → Type 0
+CanBeFlattened ss (named d ts) = IsOpenMap (declaration_at ss d).body
+CanBeFlattened ss (through h t) = CanBeFlattened ss t
+CanBeFlattened ss _ = ⊥
 
 -- any texts, passed through perhaps: the names of a flattened map
 abbrev pub IsText : Open → Type 0
@@ -66,9 +94,9 @@ IsText _ = ⊥
 
 abbrev pub AreFlattened : List DeclarationOf → List FlattenedOf → Type 0
 AreFlattened ss [] = Unit {0}
-AreFlattened ss (f ∷ fs) = (IsContent ss f.of × IsPlainType ss f.of) × AreFlattened ss fs
+AreFlattened ss (f ∷ fs) = (CanBeFlattened ss f.of × IsPlainType ss f.of) × AreFlattened ss fs
 
--- what is flattened is a map alone or structs alone, and nothing is denied beside it
+-- what is flattened is a map alone, or structs and enums alone, and nothing is denied beside it
 abbrev pub IsPlainBeside : List DeclarationOf → Bool → List FlattenedOf → Option FlattenedMapOf → Type 0
 IsPlainBeside ss denies [] None = Unit {0}
 IsPlainBeside ss false [] (Some m) = IsText m.key × IsPlainType ss m.value

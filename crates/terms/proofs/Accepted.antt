@@ -29,7 +29,7 @@ use Rattle.shapes.specs.declared.annotations.Annotations.{Annotations}
 use Rattle.shapes.specs.Declarations.{MemberOf, FlattenedOf, FlattenedMapOf, Others, any, none, each, others_beside, FormOf, named_fields, unnamed_fields, no_fields, DeclarationOf, member_types, member_names, unannotated}
 use Rattle.shapes.specs.Instances.{member_over, flattened_over, flattened_map_over, form_over}
 use Rattle.shapes.specs.Shape.{is_null, is_text, is_boolean, is_number, is_list, is_map, reads, type_shape, items_fit, member_fits, others_fit, flattened_fits, elements_fit, unnamed_shape, form_shape}
-use Rattle.shapes.specs.Plain.{IsPlainType, ArePlainTypes, AreAllPlain, IsContent, AreFlattened, IsPlainBeside, IsPlainForm}
+use Rattle.shapes.specs.Plain.{IsPlainType, ArePlainTypes, AreAllPlain, CanBeFlattened, AreFlattened, IsPlainBeside, IsPlainForm}
 use Rattle.terms.specs.Terms.{field_place, properties_of, required_names, value_place, values_term, others_part, own_term, own_beside, flattened_terms, named_term, are_all, alike_term, field_terms, mixed_term, unnamed_term, form_term, keywords_of}
 use Rattle.terms.specs.Meaning.{leaf_shape, HoldMaps}
 
@@ -386,25 +386,25 @@ module _ (ss : List DeclarationOf) (instance : Open → Json → Bool) (args : O
       ≡ (list_all (flattened_fits instance v) (all_flattened_over (f ∷ fs)) && is_map v (λ es. list_all (member_fits instance es) (members_over ms) && true))
   beside-own-accepts maps f fs hf [] h v =
       implied (list_all (flattened_fits instance v) (all_flattened_over (f ∷ fs))) (is_map v (λ es. true))
-      (λ g. content-map maps (substituted args f.of) hf.0.0 v (and_parts (has f.of v) (list_all (flattened_fits instance v) (all_flattened_over fs)) g).0)
+      (λ g. flattened-map maps (substituted args f.of) hf.0.0 v (and_parts (has f.of v) (list_all (flattened_fits instance v) (all_flattened_over fs)) g).0)
     where
       implied : (a b : Bool) → (IsTrue a → IsTrue b) → (a && true) ≡ (a && b)
       implied true b g = sym (g refl)
       implied false b g = refl
 
-      content-map : HoldMaps ss instance → (t : Open) → IsContent ss t → (w : Json) → IsTrue (type_shape instance t w) → IsTrue (is_map w (λ es. true))
-      content-map maps (named d ts) c w g = maps d ts c w g
-      content-map maps (through k t) c w g = content-map maps t c w g
-      content-map maps (leaf l) c w g = absurd c
-      content-map maps any_value c w g = absurd c
-      content-map maps free_object c w g = absurd c
-      content-map maps unit c w g = absurd c
-      content-map maps (tuple ts) c w g = absurd c
-      content-map maps (items k t) c w g = absurd c
-      content-map maps (set k t) c w g = absurd c
-      content-map maps (map_of k s t) c w g = absurd c
-      content-map maps (option t) c w g = absurd c
-      content-map maps (param i) c w g = absurd c
+      flattened-map : HoldMaps ss instance → (t : Open) → CanBeFlattened ss t → (w : Json) → IsTrue (type_shape instance t w) → IsTrue (is_map w (λ es. true))
+      flattened-map maps (named d ts) c w g = maps d ts c w g
+      flattened-map maps (through k t) c w g = flattened-map maps t c w g
+      flattened-map maps (leaf l) c w g = absurd c
+      flattened-map maps any_value c w g = absurd c
+      flattened-map maps free_object c w g = absurd c
+      flattened-map maps unit c w g = absurd c
+      flattened-map maps (tuple ts) c w g = absurd c
+      flattened-map maps (items k t) c w g = absurd c
+      flattened-map maps (set k t) c w g = absurd c
+      flattened-map maps (map_of k s t) c w g = absurd c
+      flattened-map maps (option t) c w g = absurd c
+      flattened-map maps (param i) c w g = absurd c
   beside-own-accepts maps f fs hf (m ∷ ms) h v =
       λ i. list_all (flattened_fits instance v) (all_flattened_over (f ∷ fs)) && (and-true (tree_accepts says (own_term no_annotations any (m ∷ ms)) v) ∙ own-accepts any tt no_annotations (m ∷ ms) h v) i
 

@@ -11,16 +11,16 @@ use Rattle.terms.specs.Terms.{term}
 use Rattle.shapes.specs.Instances.{body_over}
 use Rattle.terms.specs.InstanceTerms.{term_over}
 use Rattle.shapes.specs.Shape.{is_null, is_map, type_shape, body_shape}
-use Rattle.shapes.specs.Plain.{IsPlainType, IsOpenStruct, IsPlainBody}
+use Rattle.shapes.specs.Plain.{IsPlainType, IsOpenMap, IsPlainBody}
 
 -- what a leaf accepts: at a name what has the shape of the instance, inline or not; at a parameter nothing
 abbrev pub leaf_shape : (Open → Json → Bool) → LeafOf → Json → Bool
 leaf_shape instance (param i) v = false
 leaf_shape instance (named t inline keywords) v = instance t v
 
--- what has the shape of a struct with named fields, beside which others may stand, is a map
+-- what has the shape of an open struct, or of an open enum with a tag, is a map
 abbrev pub HoldMaps : List DeclarationOf → (Open → Json → Bool) → Type 0
-HoldMaps ss instance = (d : ℕ) (ts : Opens) → IsOpenStruct (declaration_at ss d).body → (v : Json) → IsTrue (instance (types.named d ts) v) → IsTrue (is_map v (λ es. true))
+HoldMaps ss instance = (d : ℕ) (ts : Opens) → IsOpenMap (declaration_at ss d).body → (v : Json) → IsTrue (instance (types.named d ts) v) → IsTrue (is_map v (λ es. true))
 
 -- The law: the term of a declaration with a plain body accepts what has the body's shape, where each leaf accepts what has the shape of its instance.
 abbrev pub TermsAccept : Type 0
