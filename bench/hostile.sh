@@ -197,6 +197,11 @@ def functions(size):
         whole, at = whole + len(parts[-1]), at + 1
     return "".join(parts) + "struct S { a: bool }"
 
+# A struct of so many fields that may be missing and one that may not, and a struct with so many flattened fields that may be it.
+def optional(many, flattened):
+    parts = ["a%d: Option<u8>,\n" % at for at in range(many)] + ["last: u8 } struct S { "]
+    return "struct T { " + "".join(parts + ["#[serde(flatten)] f%d: Option<T>,\n" % at for at in range(flattened)]) + "}"
+
 # Files, what is asked for beside them, where FILE is a document without schemas, and the limits.
 files = [
     ("7,400 levels, a file", lambda: inlined_file(30), [], (4, 100)),
@@ -205,6 +210,8 @@ files = [
     ("1,900 levels, pretty", lambda: inlined_file(8), ["--pretty"], (4, 400)),
     ("16 MiB of functions", lambda: functions(16 << 20), [], (8, 150)),
     ("8 MB of fields", lambda: long_struct(8000000), [], (12, 400)),
+    ("50,000 flattened", lambda: optional(0, 50000), [], (4, 200)),
+    ("20,000 of 20,000", lambda: optional(20000, 20000), [], (4, 200)),
 ]
 
 # A stack has 1 MiB. A run ends with an exit status below 0 where it takes a minute of a processor, and it has 8 GiB.

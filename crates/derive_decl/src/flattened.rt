@@ -7,7 +7,7 @@ ghost use Rattle.texts.specs.Lists.{Somewhere};
 ghost use Rattle.syntax.specs.Items.{field_view};
 ghost use Rattle.open_types.specs.Open.{open_view};
 ghost use Rattle.shapes.specs.Views.{beside_view, flattened_view, flattened_map_view};
-ghost use Rattle.serde_names.specs.Kept.{is_flattened, flattened};
+ghost use Rattle.serde_names.specs.Kept.{flattened};
 ghost use Rattle.derive_decl.specs.Resolved.{all_of, text_of, typed_of, is_map, maps_among, has_one_map, flattened_fields, map_parts, map_from, beside_from};
 ghost use Rattle.derive_decl.specs.Faults.{maps_message, first_map_note, second_map_note, IsFaultyType, IsSecondMap, AreSeveralMaps, AreFaultyFlattened};
 ghost use Rattle.derive_decl.specs.Views.{known, typed_view, IsPartOf, IsBesideOf};
@@ -18,7 +18,7 @@ use crate::root::Root;
 use diag::{DeriveError, Diagnostics, Kind};
 use open_types::OpenType;
 use scopes::{Container, resolve};
-use serde_rules::{parse_value, stands_before};
+use serde_names::is_flattened;
 use shapes::{Beside, Flattened, FlattenedMap};
 use std::alloc::{AllocError, Global};
 use syntax::{Field, Ident};
@@ -29,17 +29,6 @@ use texts::{List, Text};
 pub(crate) struct TypedField<'a> {
     field: &'a Field,
     ty: OpenType,
-}
-
-/// Whether the field is flattened: one that serde skips is not.
-fn is_flattened(alloc: Global, field: &Field) -> Result<bool, AllocError>
-    ensures { IfOk result (λ flattened. flattened ≡ is_flattened (field_view field.now)) }
-{
-    if !stands_before(field.attrs.as_slice(), "flatten") {
-        return Ok(false);
-    }
-    let value = parse_value(alloc, field.attrs.as_slice())?;
-    Ok(!value.skip && value.flatten)
 }
 
 /// The field with its type resolved, where it is flattened.

@@ -23,14 +23,14 @@ abbrev pub told_warning : (name : List ℕ) → FileItem → WarningItem → Tol
 told_warning name i w = told_at name i.place i.text w.span (codes "warning") w.message
 
 -- what is told of the warnings of a declaration among these that is read from the item
-abbrev pub told_warnings : (names : List (List ℕ)) → List DeclaredItem → FileItem → DeclaredItem → List Told
-told_warnings names ds i d = map (told_warning (file_name names i.file) i) (warnings_of ds d)
+abbrev pub told_warnings : Configuration → (names : List (List ℕ)) → List DeclaredItem → FileItem → DeclaredItem → List Told
+told_warnings c names ds i d = map (told_warning (file_name names i.file) i) (warnings_of c ds d)
 
 -- Of the first so many declarations, each read from the item at the same place, this is warned of, in order.
-pub data AreWarned (names : List (List ℕ)) (ds : List DeclaredItem) (from : List FileItem) : ℕ → List Told → Type 0 where
-  none_yet : AreWarned names ds from 0 []
-  one_more : {at : ℕ} {told : List Told} {d : DeclaredItem} {i : FileItem} → AreWarned names ds from at told → slice_get ds at ≡ Some d → slice_get from at ≡ Some i
-      → AreWarned names ds from (suc at) (told ++ told_warnings names ds i d)
+pub data AreWarned (c : Configuration) (names : List (List ℕ)) (ds : List DeclaredItem) (from : List FileItem) : ℕ → List Told → Type 0 where
+  none_yet : AreWarned c names ds from 0 []
+  one_more : {at : ℕ} {told : List Told} {d : DeclaredItem} {i : FileItem} → AreWarned c names ds from at told → slice_get ds at ≡ Some d → slice_get from at ≡ Some i
+      → AreWarned c names ds from (suc at) (told ++ told_warnings c names ds i d)
 
 -- ---- impls by hand
 
@@ -76,7 +76,7 @@ told_nothing is_declared false = warning (nothing_message is_declared) ∷ []
 -- all that is warned of: what is left out, declarations, the impls by hand that are for them, what another file has in place of theirs, what is not plain, where that is asked for, and their document
 pub record AreAllWarned (plain : Bool) (c : Configuration) (names : List (List ℕ)) (elsewhere : FileItem → Option (List ℕ)) (ds : List DeclaredItem) (from : List FileItem) (impls : List FileImpl) (components : List Entry) (left_out warnings : List Told) : Type 0 where
   pub own : List Told
-  pub warned : AreWarned names ds from (length ds) own
+  pub warned : AreWarned c names ds from (length ds) own
   pub unplain : List Told
   pub not_plain : IsPlainTold plain c names ds from unplain
   pub whole : warnings ≡ ((((left_out ++ own) ++ told_impls names ds impls) ++ told_all_elsewhere names elsewhere ds from) ++ unplain) ++ told_nothing (has_some ds) (has_some components)

@@ -188,7 +188,8 @@ fn derive_read(
         ..
     } = reading;
     let (names, from) = (files.names, from.as_slice());
-    let own = warned_of(alloc, names, from, &declarations, files.impls, warnings)?;
+    let impls = files.impls;
+    let own = warned_of(alloc, names, from, &declarations, impls, config, warnings)?;
     let named = with_elsewhere(alloc, names, from, &declarations, files.elsewhere, own)?;
     let warnings = with_unplain(alloc, names, from, &declarations, plain, config, named)?;
     let is_declared = !declarations.items.is_empty();

@@ -4,8 +4,10 @@ ghost use Rattle.std.specs.Prelude.{◌≡◌, ◌<◌, ◌≤◌, ◌-◌, ◌+
 ghost use Rattle.syntax.specs.Items.{declarations_view};
 ghost use Rattle.telling.specs.declared.told.Told.{Told as AnyTold};
 ghost use Rattle.warnings.specs.Rules.{warning_view};
+ghost use Rattle.warnings.specs.Warned.{IsKnown};
 ghost use Rattle.file_derivation.specs.Warned.{warning, told_warning, AreWarned, trait_name, impl_message, told_impl, told_impls, nothing_message, told_nothing, IsToldFirst, AreFirst};
 
+use configuration::Config;
 use gathering::{FileImpl, SerdeTrait, file_name, told_plainly};
 use prepare::FileItem;
 use scopes::Places;
@@ -13,7 +15,7 @@ use std::alloc::{AllocError, Global};
 use syntax::Declarations;
 use telling::{Told, told_in};
 use texts::{List, Span, Text};
-use warnings::{Warning, warnings_of};
+use warnings::{Lookup, Warning, warnings_of};
 
 /// How many warnings are told, at most.
 pub(crate) const MOST_TOLD: usize = 100;
@@ -264,20 +266,21 @@ fn warnings_from(
     alloc: Global,
     names: &[Text],
     from: &[&FileItem],
-    places: &Places<'_>,
+    lookup: &Lookup<'_>,
     mut warnings: Warnings,
 ) -> Result<Warnings, AllocError>
-    requires many { length from.now ≡ length (declarations_view places.now.declarations.now) }
+    requires known { IsKnown lookup.now }
+    requires many { length from.now
+        ≡ length (declarations_view lookup.now.places.now.declarations.now) }
     ensures { IfOk result (λ more. (front : AnyList AnyTold) → AreFirst front warnings
-        → (all : AnyList AnyTold) × AreWarned names.now
-        (declarations_view places.now.declarations.now) (map (λ i. i.now) from.now)
-        (length (declarations_view places.now.declarations.now)) all
+        → (all : AnyList AnyTold) × AreWarned lookup.now.config.now names.now
+        (declarations_view lookup.now.places.now.declarations.now) (map (λ i. i.now) from.now)
+        (length (declarations_view lookup.now.places.now.declarations.now)) all
         × AreFirst (front ++ all) more) }
 {
-    let declared = places.declarations.items.as_slice();
     for at in 0..from.len() {
         let item = from[at];
-        let own = warnings_of(alloc, places, &declared[at])?;
+        let own = warnings_of(alloc, lookup, at)?;
         let name = file_name(names, item.file);
         warnings.add_all(alloc, name, item, own.as_slice())?;
     }
@@ -285,24 +288,27 @@ fn warnings_from(
 }
 
 /// Adds what the declarations, each read from the text of the item at the same place, and the impls by hand that are for them
-/// are warned of.
+/// are warned of, where names may stand for aliases of the configuration.
 pub(crate) fn warned_of(
     alloc: Global,
     names: &[Text],
     from: &[&FileItem],
     declarations: &Declarations,
     impls: &[FileImpl],
+    config: &Config,
     warnings: Warnings,
 ) -> Result<Warnings, AllocError>
     requires many { length from.now ≡ length (declarations_view declarations.now) }
     ensures { IfOk result (λ more. (front : AnyList AnyTold) → AreFirst front warnings
-        → (own : AnyList AnyTold) × AreWarned names.now (declarations_view declarations.now)
-        (map (λ i. i.now) from.now) (length (declarations_view declarations.now)) own
+        → (own : AnyList AnyTold) × AreWarned config.now names.now
+        (declarations_view declarations.now) (map (λ i. i.now) from.now)
+        (length (declarations_view declarations.now)) own
         × AreFirst ((front ++ own)
         ++ told_impls names.now (declarations_view declarations.now) impls.now) more) }
 {
     let places = Places::new(alloc, declarations)?;
-    let mut warnings = warnings_from(alloc, names, from, &places, warnings)?;
+    let lookup = Lookup::new(alloc, &places, config)?;
+    let mut warnings = warnings_from(alloc, names, from, &lookup, warnings)?;
     warnings.add_impls(alloc, names, &places, impls)?;
     Ok(warnings)
 }

@@ -1,3 +1,4 @@
+pub mod Declared
 pub mod TypeLaws
-pub mod FieldLaws
 pub mod ThroughLaws
+pub mod Views

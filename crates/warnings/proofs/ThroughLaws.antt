@@ -1,28 +1,25 @@
--- What types stand for, a step further.
-use Rattle.std.proofs.Common.{◌≡◌, ◌<◌, ◌≤◌, ◌-◌, ◌+◌, ℕ, zero, suc, List, Some, None, refl, ap, ◌∙◌, arith}
+-- What stands behind what is passed over, a step further.
+use Rattle.std.proofs.Common.{◌≡◌, ◌<◌, ◌≤◌, ◌-◌, ◌+◌, ℕ, zero, suc, Option, Some, None, refl, ap, ◌∙◌, arith}
 use Rattle.std.specs.Option.{option_map_or}
-use Rattle.written_types.specs.Written.{Written}
-use Rattle.syntax.specs.Items.{DeclaredItem}
-use Rattle.warnings.specs.declared.through.Role.{Role}
-use Rattle.warnings.specs.Through.{next, through}
+use Rattle.warnings.specs.Through.{behind_some}
 
-module _ (role : Role) (ds : List DeclaredItem) (t : Written) where
-  -- where serde passes over the type
-  pub through_next : (u : Written) (depth at : ℕ) → next role ds t ≡ Some u → at < depth → through role ds (depth - at) t ≡ through role ds (depth - (at + 1)) u
-  unfolding through
-  through_next u depth at is less =
+module _ {A : Type 0} (next : A → Option A) (x : A) where
+  -- where it is passed over
+  pub behind_next : (y : A) (depth at : ℕ) → next x ≡ Some y → at < depth → behind_some next (depth - at) x ≡ behind_some next (depth - (at + 1)) y
+  unfolding behind_some
+  behind_next y depth at is less =
       let left : depth - at ≡ suc (depth - (at + 1)) = omega arith in
-      ap (λ n. through role ds n t) left ∙ ap (λ o. option_map_or (through role ds (depth - (at + 1))) o t) is
+      ap (λ n. behind_some next n x) left ∙ ap (λ o. option_map_or (behind_some next (depth - (at + 1))) o x) is
 
-  -- where it does not
-  pub through_last : next role ds t ≡ None → (left : ℕ) → through role ds left t ≡ t
-  unfolding through
-  through_last is zero = refl
-  through_last is (suc left) = ap (λ o. option_map_or (through role ds left) o t) is
+  -- where it is not
+  pub behind_last : next x ≡ None → (left : ℕ) → behind_some next left x ≡ x
+  unfolding behind_some
+  behind_last is zero = refl
+  behind_last is (suc left) = ap (λ o. option_map_or (behind_some next left) o x) is
 
   -- where as many are passed over as may be
-  pub through_all : (depth at : ℕ) → depth ≤ at → through role ds (depth - at) t ≡ t
-  unfolding through
-  through_all depth at all =
+  pub behind_all : (depth at : ℕ) → depth ≤ at → behind_some next (depth - at) x ≡ x
+  unfolding behind_some
+  behind_all depth at all =
       let left : depth - at ≡ 0 = omega arith in
-      ap (λ n. through role ds n t) left
+      ap (λ n. behind_some next n x) left

@@ -49,6 +49,7 @@ path_span (path_of leading ss s) = s
 
 abbrev pub is_of_field : Place → Bool
 is_of_field (places.Field denied option default) = true
+is_of_field (places.Flattened denied asked) = true
 is_of_field places.Unnamed = true
 is_of_field _ = false
 

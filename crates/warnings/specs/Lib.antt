@@ -4,4 +4,6 @@ pub mod Through
 pub mod Types
 pub mod Applications
 pub mod Keys
+pub mod Flat
+pub mod Flattened
 pub mod Warned

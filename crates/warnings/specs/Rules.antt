@@ -46,12 +46,13 @@ is_of_form forms.NoDoubleOption (Some literal) = not (is_double_option literal.t
 
 -- the place is one of the site
 abbrev pub stands_at : Site → Place → Bool
-stands_at sites.Declaration places.Struct = true
+stands_at sites.Declaration (places.Struct flattens) = true
 stands_at sites.Declaration (places.Tuple several) = true
 stands_at sites.Declaration (places.Enum content named) = true
-stands_at sites.Struct places.Struct = true
+stands_at sites.Struct (places.Struct flattens) = true
+stands_at sites.FlatteningStruct (places.Struct flattens) = flattens
 stands_at sites.SeveralUnnamed (places.Tuple several) = several
-stands_at sites.Naming places.Struct = true
+stands_at sites.Naming (places.Struct flattens) = true
 stands_at sites.Naming (places.Enum content named) = true
 stands_at sites.Naming (places.Variant named) = named
 stands_at sites.NamedEnum (places.Enum content named) = named
@@ -59,9 +60,13 @@ stands_at sites.ContentEnum (places.Enum content named) = content
 stands_at sites.OtherNamedEnum (places.Enum content named) = not content && named
 stands_at sites.Variant (places.Variant named) = true
 stands_at sites.Field (places.Field denied option default) = true
+stands_at sites.AnyField (places.Field denied option default) = true
+stands_at sites.AnyField (places.Flattened denied asked) = true
 stands_at sites.DeniedField (places.Field denied option default) = denied
+stands_at sites.DeniedField (places.Flattened denied asked) = denied
 stands_at sites.NeededField (places.Field denied option default) = not option && not default
 stands_at sites.NeededOption (places.Field denied option default) = option && not default
+stands_at sites.AskedFlattened (places.Flattened denied asked) = asked
 stands_at _ _ = false
 
 -- ---- what is said

@@ -84,7 +84,11 @@ abbrev pub next : Role → List DeclaredItem → Written → Option Written
 next Key ds (reference t) = Some t
 next role ds t = option_and_then (next_of_segment role ds) (last_of t)
 
+-- what stands behind at most so many that are passed over
+unfoldable pub behind_some : {A : Type 0} → (A → Option A) → ℕ → A → A
+behind_some next zero x = x
+behind_some next (suc left) x = option_map_or (behind_some next left) (next x) x
+
 -- what a type stands for behind at most so many that serde passes over
-unfoldable pub through : Role → List DeclaredItem → ℕ → Written → Written
-through role ds zero t = t
-through role ds (suc left) t = option_map_or (through role ds left) (next role ds t) t
+abbrev pub through : Role → List DeclaredItem → ℕ → Written → Written
+through role ds = behind_some (next role ds)

@@ -72,7 +72,7 @@ fn push_in_segment<'a>(
 }
 
 #[cycle(types)]
-fn push_in_arguments<'a>(
+pub(crate) fn push_in_arguments<'a>(
     found: &mut List<&'a PathSegment>,
     arguments: &'a [GenericArgument],
 ) -> Result<(), AllocError>

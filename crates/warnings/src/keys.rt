@@ -198,6 +198,23 @@ fn push_application(
     }
 }
 
+/// Adds what is said of the arguments of the applications that stand as keys.
+pub(crate) fn push_applications(
+    alloc: Global,
+    warnings: &mut List<Warning>,
+    places: &Places<'_>,
+    applications: &[&PathSegment],
+) -> Result<(), AllocError>
+    ensures { OnOk result (map warning_view warnings.new ≡ map warning_view warnings.old
+        ++ flat_map (application_warnings (declarations_of places.now))
+        (applications_view applications.now)) }
+{
+    for application in applications {
+        push_application(alloc, warnings, places, application)?;
+    }
+    Ok(())
+}
+
 /// Adds what is said of the types that stand as keys in the type, at any depth.
 pub(crate) fn push_keys(
     alloc: Global,
@@ -210,8 +227,5 @@ pub(crate) fn push_keys(
 {
     let mut applications = List::new(alloc);
     push_in_type(&mut applications, ty)?;
-    for application in applications.as_slice() {
-        push_application(alloc, warnings, places, application)?;
-    }
-    Ok(())
+    push_applications(alloc, warnings, places, applications.as_slice())
 }

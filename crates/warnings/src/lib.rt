@@ -4,8 +4,11 @@
 #![tactic(auto)]
 
 mod applications;
+mod flat;
+mod flattened;
 mod items;
 mod keys;
+mod lookup;
 mod paths;
 mod rules;
 mod through;
@@ -13,7 +16,10 @@ mod types;
 mod walk;
 mod warning;
 
+pub use flat::{BINDING, DENYING, Flat, NO_OBJECT, NO_OBJECT_UNTAGGED, NO_UNIT};
+pub use flattened::{NOTHING_FOR_NONE, UNREAD_KEYS, VALUES_BIND};
 pub use keys::NO_TEXTS_AS_KEYS;
+pub use lookup::Lookup;
 pub use paths::{BY_ANOTHER_TOOL, INSIDE_CFG_ATTR};
 pub use rules::{
     Form, HARMLESS, KNOWN_ON_TUPLE, Place, RULES, Rule, Site, UNREAD_ON_TUPLE, UNREAD_ON_UNNAMED,

@@ -77,7 +77,10 @@ fn holds_serde(meta: &Meta) -> bool
 fn is_of_field(place: Place) -> bool
     ensures { result ≡ is_of_field place }
 {
-    matches!(place, Place::Field { .. } | Place::Unnamed)
+    matches!(
+        place,
+        Place::Field { .. } | Place::Flattened { .. } | Place::Unnamed
+    )
 }
 
 /// Adds what is said of the attribute by its path.

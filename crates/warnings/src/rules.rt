@@ -24,8 +24,10 @@ pub enum Form {
 /// Where an item stands.
 #[derive(Clone, Copy, Debug, PartialEq, Eq)]
 pub enum Place {
-    /// Before a struct with named fields.
-    Struct,
+    /// Before a struct with named fields: whether one that is no map is flattened.
+    Struct {
+        flattens: bool,
+    },
     /// Before a struct with unnamed fields, or without fields: whether it has several.
     Tuple {
         several: bool,
@@ -46,6 +48,11 @@ pub enum Place {
         option: bool,
         default: bool,
     },
+    /// Before a flattened field: whether others are denied beside it, and whether the schema asks for what its type holds.
+    Flattened {
+        denied: bool,
+        asked: bool,
+    },
     /// Before an unnamed field.
     Unnamed,
 }
@@ -57,6 +64,8 @@ pub enum Site {
     Declaration,
     /// Structs with named fields.
     Struct,
+    /// Structs with a flattened field that is no map.
+    FlatteningStruct,
     /// Structs with several unnamed fields.
     SeveralUnnamed,
     /// Enums, and structs and variants with named fields.
@@ -69,21 +78,25 @@ pub enum Site {
     OtherNamedEnum,
     /// Variants.
     Variant,
-    /// Named fields.
+    /// Named fields that are not flattened.
     Field,
+    /// Named fields.
+    AnyField,
     /// Named fields beside which others are denied.
     DeniedField,
-    /// Named fields whose type is no `Option`, without `default`.
+    /// Named fields that are not flattened, whose type is no `Option`, without `default`.
     NeededField,
-    /// Named fields whose type is an `Option`, without `default`.
+    /// Named fields that are not flattened, whose type is an `Option`, without `default`.
     NeededOption,
+    /// Flattened fields of which the schema asks for what their type holds.
+    AskedFlattened,
 }
 
 /// The name of an item, its form, its places, and what is said of it there.
 pub type Rule = (&'static str, Form, Site, &'static str);
 
 /// What is said of serde's items.
-pub const RULES: [Rule; 31] = [
+pub const RULES: [Rule; 33] = [
     (
         "rename",
         Form::NoText,
@@ -157,6 +170,12 @@ pub const RULES: [Rule; 31] = [
         "serde refuses other members in variants; the schema accepts them",
     ),
     (
+        "deny_unknown_fields",
+        Form::Any,
+        Site::FlatteningStruct,
+        "serde refuses members that no field takes; the schema lets them stand",
+    ),
+    (
         "transparent",
         Form::Any,
         Site::Struct,
@@ -195,19 +214,19 @@ pub const RULES: [Rule; 31] = [
     (
         "with",
         Form::NoDoubleOption,
-        Site::Field,
+        Site::AnyField,
         "serde reads and writes by other functions; the schema is that of the field's type",
     ),
     (
         "serialize_with",
         Form::Any,
-        Site::Field,
+        Site::AnyField,
         "serde writes by another function; the schema is that of the field's type",
     ),
     (
         "deserialize_with",
         Form::Any,
-        Site::Field,
+        Site::AnyField,
         "serde reads by another function; the schema is that of the field's type",
     ),
     (
@@ -270,6 +289,12 @@ pub const RULES: [Rule; 31] = [
         Site::NeededOption,
         "serde asks for this member when it reads; the schema does not",
     ),
+    (
+        "skip_serializing_if",
+        Form::Any,
+        Site::AskedFlattened,
+        "serde may leave out the members of the type; the schema asks for them",
+    ),
 ];
 
 /// The items that change no JSON where no item is read.
@@ -312,17 +337,21 @@ pub(crate) fn stands_at(site: Site, place: Place) -> bool
     ensures { result ≡ stands_at site place }
 {
     match (site, place) {
-        (Site::Declaration, Place::Struct | Place::Tuple { .. } | Place::Enum { .. }) => true,
-        (Site::Struct, Place::Struct) => true,
+        (Site::Declaration, Place::Struct { .. } | Place::Tuple { .. } | Place::Enum { .. }) =>
+            true,
+        (Site::Struct, Place::Struct { .. }) => true,
+        (Site::FlatteningStruct, Place::Struct { flattens }) => flattens,
         (Site::SeveralUnnamed, Place::Tuple { several }) => several,
-        (Site::Naming, Place::Struct | Place::Enum { .. }) => true,
+        (Site::Naming, Place::Struct { .. } | Place::Enum { .. }) => true,
         (Site::Naming, Place::Variant { named }) => named,
         (Site::NamedEnum, Place::Enum { named, .. }) => named,
         (Site::ContentEnum, Place::Enum { content, .. }) => content,
         (Site::OtherNamedEnum, Place::Enum { content, named }) => !content && named,
         (Site::Variant, Place::Variant { .. }) => true,
         (Site::Field, Place::Field { .. }) => true,
-        (Site::DeniedField, Place::Field { denied, .. }) => denied,
+        (Site::AnyField, Place::Field { .. } | Place::Flattened { .. }) => true,
+        (Site::DeniedField, Place::Field { denied, .. } | Place::Flattened { denied, .. }) =>
+            denied,
         (
             Site::NeededField,
             Place::Field {
@@ -339,6 +368,7 @@ pub(crate) fn stands_at(site: Site, place: Place) -> bool
                 ..
             },
         ) => option && !default,
+        (Site::AskedFlattened, Place::Flattened { asked, .. }) => asked,
         _ => false,
     }
 }

@@ -16,7 +16,7 @@ use written_types::{GenericArgument, Ident, PathSegment, WrittenType};
 
 /// How many references, pointers and structs are passed over, at most. Written types nest no deeper. A ring of structs ends
 /// there, and so does a longer chain of structs.
-const DEPTH: usize = 64;
+pub(crate) const DEPTH: usize = 64;
 
 /// What a type is that of.
 #[derive(Clone, Copy)]
@@ -59,7 +59,7 @@ pub(crate) fn argument_of(segment: &PathSegment) -> Option<&WrittenType>
 }
 
 /// The segment that a type goes by, where it is a path.
-fn last_of(ty: &WrittenType) -> Option<&PathSegment>
+pub(crate) fn last_of(ty: &WrittenType) -> Option<&PathSegment>
     ensures { option_map (λ s. segment_view s.now) result ≡ last_of (written_view ty.now) }
 {
     match ty {
@@ -90,7 +90,7 @@ fn is_pointer(name: &str) -> bool
 }
 
 /// The only unnamed field of a struct.
-fn only_field(body: &Body) -> Option<&Field>
+pub(crate) fn only_field(body: &Body) -> Option<&Field>
     ensures { option_map (λ f. field_view f.now) result ≡ only_field (body_view body.now) }
 {
     let Body::Struct(Fields::Unnamed(fields)) = body else {

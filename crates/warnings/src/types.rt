@@ -3,6 +3,7 @@
 ghost use Rattle.std.specs.Prelude.{◌≡◌, ◌++◌, map, OnOk};
 ghost use Rattle.texts.specs.Names.{is_in};
 ghost use Rattle.written_types.specs.Written.{written_view};
+ghost use Rattle.serde_rules.specs.Value.{is_required};
 ghost use Rattle.warnings.specs.Rules.{warning_view};
 ghost use Rattle.warnings.specs.Through.{declarations_of};
 ghost use Rattle.warnings.specs.Types.{maps, span_of, is_number, is_number_type, is_number_key, is_option, holds_option, is_option_of_option, option_warnings};
@@ -11,6 +12,7 @@ use crate::through::{Role, first_argument, last_name, through};
 use crate::warning::Warning;
 use leaves::{Leaf, LeafKind};
 use scopes::Places;
+use serde_rules::SerdeValue;
 use std::alloc::AllocError;
 use texts::{List, Span};
 use written_types::WrittenType;
@@ -95,6 +97,13 @@ pub(crate) fn is_option_of_option(ty: &WrittenType) -> bool
         Some(of) => is_option(ty) && is_option(of),
         None => false,
     }
+}
+
+/// Whether the member of a field must be there, in what has a `default` or not.
+pub(crate) fn is_required(value: &SerdeValue, default: bool) -> bool
+    ensures { result ≡ is_required value.now default }
+{
+    !(value.skip_serializing_if || value.double_option || value.default || default)
 }
 
 /// Adds what is said of the type of a member that is asked for, and tells an absent member from null, or not.

@@ -7,4 +7,4 @@ use Rattle.file_derivation.proofs.warned.warnings_from.Given as goal
 -- the warnings of the declarations so far
 abbrev pub invariant-loop-at : goal.invariant-loop-at
 invariant-loop-at l =
-    (front : List Told) → AreFirst front l.fn.warnings → (all : List Told) × AreWarned l.names (declarations_view l.places.declarations.now) (map (λ i. i.now) l.from) l.at all × AreFirst (front ++ all) l.warnings
+    (front : List Told) → AreFirst front l.fn.warnings → (all : List Told) × AreWarned l.lookup.config.now l.names (declarations_view l.lookup.places.now.declarations.now) (map (λ i. i.now) l.from) l.at all × AreFirst (front ++ all) l.warnings
